@@ -1,0 +1,98 @@
+//! A record, seen as the list of its values.
+ghost use Rattle.std.specs.Prelude.{◌≡◌, IfOk};
+ghost use Rattle.std.proofs.Common.{rules};
+ghost use Rattle.std.specs.Cmp.{partial_equiv_from_equiv, partial_order_from_total, eq_by_cmp_equiv};
+ghost use Rattle.std.specs.Cmp.Rules.{comparing};
+ghost use Rattle.std.specs.Ordering.{as_partial_cmp, eq_by_cmp};
+ghost use Rattle.blz_value.specs.Record.{record_cmp};
+ghost use Rattle.blz_value.specs.RecordOrder.{record_cmp_total};
+
+use crate::value::Value;
+
+use std::alloc::AllocError;
+use std::cmp::Ordering;
+use std::marker::Model;
+
+/// Values in order.
+#[derive(Debug, Drop)]
+pub struct Record {
+    values: Vec<Value>,
+}
+
+impl Model for Record {
+    ghost use Rattle.std.specs.Prelude.{List};
+    ghost use Rattle.blz_value.specs.declared.value.Value.{Value as RecordValue};
+
+    ghost Value = { List RecordValue };
+
+    ghost view = { λ r. r.values.items };
+}
+
+impl Record {
+    pub fn from_values(values: Vec<Value>) -> Record
+        ensures { result ≡ values.items }
+    {
+        Record { values }
+    }
+
+    pub fn values(&self) -> &[Value]
+        ensures { result.now ≡ self.now }
+    {
+        self.values.as_slice()
+    }
+
+    pub fn copy(&self) -> Result<Record, AllocError>
+        ensures { IfOk result (λ r. r ≡ self.now) }
+    {
+        let mut values = Vec::new(*self.values.allocator());
+        for value in self.values() {
+            values.push(value.copy()?)?;
+        }
+        Ok(Record { values })
+    }
+}
+
+impl PartialEq for Record {
+    ghost eq = { eq_by_cmp record_cmp };
+
+    ghost laws = { partial_equiv_from_equiv (eq_by_cmp_equiv record_cmp_total) };
+
+    fn eq(&self, other: &Record) -> bool {
+        compare(self, other).is_eq()
+    }
+}
+
+impl Eq for Record {
+    ghost laws = { eq_by_cmp_equiv record_cmp_total };
+}
+
+impl Ord for Record {
+    ghost cmp = { record_cmp };
+
+    ghost total = { record_cmp_total };
+
+    ghost matches_partial_cmp = { Prim.search (comparing, rules) };
+
+    ghost matches_eq = { Prim.search (comparing, rules) };
+
+    fn cmp(&self, other: &Record) -> Ordering {
+        compare(self, other)
+    }
+}
+
+impl PartialOrd for Record {
+    ghost partial_cmp = { as_partial_cmp record_cmp };
+
+    ghost laws = { partial_order_from_total record_cmp_total };
+
+    fn partial_cmp(&self, other: &Record) -> Option<Ordering> {
+        Some(compare(self, other))
+    }
+}
+
+/// The first unequal value decides, and a prefix comes first.
+pub fn compare(a: &Record, b: &Record) -> Ordering
+    ensures { result ≡ record_cmp a.now b.now }
+{
+    a.values().cmp(b.values())
+}

@@ -1,0 +1,81 @@
+//! A value of a record.
+ghost use Rattle.std.specs.Prelude.{◌≡◌, IfOk};
+ghost use Rattle.std.proofs.Common.{rules};
+ghost use Rattle.std.specs.Cmp.{partial_equiv_from_equiv, partial_order_from_total, eq_by_cmp_equiv};
+ghost use Rattle.std.specs.Cmp.Rules.{comparing};
+ghost use Rattle.std.specs.Ordering.{as_partial_cmp, eq_by_cmp};
+ghost use Rattle.blz_value.specs.Value.{value_cmp};
+ghost use Rattle.blz_value.specs.ValueOrder.{value_cmp_total};
+
+use crate::text::Str;
+
+use std::alloc::AllocError;
+use std::cmp::Ordering;
+
+/// A number or a text.
+#[derive(Debug, Drop)]
+pub enum Value {
+    Int(i64),
+    Text(Str),
+}
+
+impl Value {
+    pub fn copy(&self) -> Result<Value, AllocError>
+        ensures { IfOk result (λ v. v ≡ self.now) }
+    {
+        match self {
+            Value::Int(n) => Ok(Value::Int(*n)),
+            Value::Text(s) => Ok(Value::Text(s.copy()?)),
+        }
+    }
+}
+
+impl PartialEq for Value {
+    ghost eq = { eq_by_cmp value_cmp };
+
+    ghost laws = { partial_equiv_from_equiv (eq_by_cmp_equiv value_cmp_total) };
+
+    fn eq(&self, other: &Value) -> bool {
+        compare_values(self, other).is_eq()
+    }
+}
+
+impl Eq for Value {
+    ghost laws = { eq_by_cmp_equiv value_cmp_total };
+}
+
+impl Ord for Value {
+    ghost cmp = { value_cmp };
+
+    ghost total = { value_cmp_total };
+
+    ghost matches_partial_cmp = { Prim.search (comparing, rules) };
+
+    ghost matches_eq = { Prim.search (comparing, rules) };
+
+    fn cmp(&self, other: &Value) -> Ordering {
+        compare_values(self, other)
+    }
+}
+
+impl PartialOrd for Value {
+    ghost partial_cmp = { as_partial_cmp value_cmp };
+
+    ghost laws = { partial_order_from_total value_cmp_total };
+
+    fn partial_cmp(&self, other: &Value) -> Option<Ordering> {
+        Some(compare_values(self, other))
+    }
+}
+
+/// Each number comes before each text.
+pub fn compare_values(a: &Value, b: &Value) -> Ordering
+    ensures { result ≡ value_cmp a.now b.now }
+{
+    match (a, b) {
+        (Value::Int(m), Value::Int(n)) => m.cmp(n),
+        (Value::Int(_), Value::Text(_)) => Ordering::Less,
+        (Value::Text(_), Value::Int(_)) => Ordering::Greater,
+        (Value::Text(s), Value::Text(t)) => s.cmp(t),
+    }
+}

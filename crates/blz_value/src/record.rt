@@ -8,7 +8,6 @@ ghost use Rattle.blz_value.specs.Record.{record_cmp};
 ghost use Rattle.blz_value.specs.RecordOrder.{record_cmp_total};
 
 use crate::value::Value;
-
 use std::alloc::AllocError;
 use std::cmp::Ordering;
 use std::marker::Model;

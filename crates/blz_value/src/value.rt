@@ -8,7 +8,6 @@ ghost use Rattle.blz_value.specs.Value.{value_cmp};
 ghost use Rattle.blz_value.specs.ValueOrder.{value_cmp_total};
 
 use crate::text::Str;
-
 use std::alloc::AllocError;
 use std::cmp::Ordering;
 

@@ -2,7 +2,7 @@
 use Rattle.std.specs.Prelude.{ℕ, ◌==◌, ◌<◌, Bool, not, List, ◌++◌, map, filter}
 use Rattle.std.specs.List.{All, list_all, list_any, flat_map, enumerate_from}
 use Rattle.std.specs.Ordering.{eq_by_cmp}
-use Rattle.blz_value.specs.Record.{Row, record_cmp}
+use Rattle.blz_value.specs.Record.{Row}
 use Rattle.blz_value.specs.Value.{value_cmp}
 use Rattle.blz_value.specs.Test.{cell}
 

@@ -12,7 +12,7 @@ use std::alloc::AllocError;
 use std::cmp::Ordering;
 use std::marker::Model;
 
-/// Values in order.
+/// A record: a list of values, one a column.
 #[derive(Debug, Drop)]
 pub struct Record {
     values: Vec<Value>,
@@ -28,18 +28,21 @@ impl Model for Record {
 }
 
 impl Record {
+    /// The record of these values, in their order.
     pub fn from_values(values: Vec<Value>) -> Record
         ensures { result ≡ values.items }
     {
         Record { values }
     }
 
+    /// The values, column by column.
     pub fn values(&self) -> &[Value]
         ensures { result.now ≡ self.now }
     {
         self.values.as_slice()
     }
 
+    /// An equal record of its own.
     pub fn copy(&self) -> Result<Record, AllocError>
         ensures { IfOk result (λ r. r ≡ self.now) }
     {
@@ -89,7 +92,7 @@ impl PartialOrd for Record {
     }
 }
 
-/// The first unequal value decides, and a prefix comes first.
+/// The record order: the first unequal value decides, and a prefix comes first.
 pub fn compare(a: &Record, b: &Record) -> Ordering
     ensures { result ≡ record_cmp a.now b.now }
 {

@@ -1,5 +1,5 @@
-//! Text, seen as its bytes.
-ghost use Rattle.std.specs.Prelude.{◌≡◌, ℕ, List, IfOk, nat_eq};
+//! A text of its own, seen as its bytes.
+ghost use Rattle.std.specs.Prelude.{◌≡◌, ◌↔◌, ℕ, List, IfOk, IsTrue, nat_eq};
 ghost use Rattle.std.specs.Str.{bytes_eq};
 ghost use Rattle.std.proofs.Common.{rules};
 ghost use Rattle.std.specs.Cmp.{partial_order_from_own_ties};
@@ -12,7 +12,7 @@ use std::alloc::{AllocError, Global};
 use std::cmp::Ordering;
 use std::marker::Model;
 
-/// A text, seen as its bytes.
+/// A text in UTF-8, seen as the list of its bytes.
 #[derive(Debug, Drop)]
 pub struct Str {
     text: String,
@@ -28,6 +28,7 @@ impl Model for Str {
 }
 
 impl Str {
+    /// A text of its own with these bytes.
     pub fn from_text(alloc: Global, text: &str) -> Result<Str, AllocError>
         ensures { IfOk result (λ s. s ≡ text.now) }
     {
@@ -36,12 +37,14 @@ impl Str {
         })
     }
 
+    /// The text, lent.
     pub fn as_str(&self) -> &str
         ensures { result.now ≡ self.now }
     {
         self.text.as_str()
     }
 
+    /// An equal text of its own.
     pub fn copy(&self) -> Result<Str, AllocError>
         ensures { IfOk result (λ s. s ≡ self.now) }
     {
@@ -50,8 +53,10 @@ impl Str {
         })
     }
 
+    /// Whether the two texts have the same bytes.
     pub fn equals(&self, other: &Str) -> bool
-        ensures { result ≡ bytes_eq self.now other.now }
+        ensures same { IsTrue result ↔ (self.now ≡ other.now) }
+        ensures computed { result ≡ bytes_eq self.now other.now }
     {
         self.text.as_str() == other.text.as_str()
     }

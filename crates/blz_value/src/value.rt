@@ -11,14 +11,17 @@ use crate::text::Str;
 use std::alloc::AllocError;
 use std::cmp::Ordering;
 
-/// A number or a text.
+/// What stands in a column of a record.
 #[derive(Debug, Drop)]
 pub enum Value {
+    /// A whole number.
     Int(i64),
+    /// A text.
     Text(Str),
 }
 
 impl Value {
+    /// An equal value of its own.
     pub fn copy(&self) -> Result<Value, AllocError>
         ensures { IfOk result (λ v. v ≡ self.now) }
     {
@@ -67,7 +70,7 @@ impl PartialOrd for Value {
     }
 }
 
-/// Each number comes before each text.
+/// The order of values: each number comes before each text, numbers go by size, texts by their bytes.
 pub fn compare_values(a: &Value, b: &Value) -> Ordering
     ensures { result ≡ value_cmp a.now b.now }
 {

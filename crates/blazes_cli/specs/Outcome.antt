@@ -1,0 +1,77 @@
+-- How a call of the program ends: in its status, in what it has written and in the counts of faults.
+use Rattle.std.specs.Prelude.{◌≡◌, ◌⊎◌, ℕ, ◌<◌, ◌≤◌, List, Option, IfSome, length, take}
+use Rattle.blz_outside.specs.Counts.{Rose}
+use Rattle.blz_outside.specs.Sink.{Grows, Falls}
+use Rattle.blazes_cli.specs.Answer.{FilesStates, IsReply}
+use Rattle.blazes_cli.specs.declared.status.Status.{Status}
+use Rattle.blazes_cli.specs.declared.status.Status.TheVariants.{Done, Refused, Usage, ReadFault, WriteFault, Incomplete, NoMemory}
+
+-- a sink before and after the call
+pub record SinkStates : Type 0 where
+  pub written : Option (List ℕ)
+  pub written_after : Option (List ℕ)
+  pub room : Option ℕ
+  pub room_after : Option ℕ
+  pub faults : ℕ
+  pub faults_after : ℕ
+
+-- all of the text was written
+pub record WroteAll (sink : SinkStates) (text : List ℕ) : Type 0 where
+  pub grows : Grows sink.written sink.written_after text
+  pub falls : Falls sink.room sink.room_after (length text)
+  pub quiet : sink.faults_after ≡ sink.faults
+
+-- a write failed: some of the text's first bytes were written, and there was no sure room for all of it
+pub record WroteFront (sink : SinkStates) (text : List ℕ) : Type 0 where
+  pub rose : Rose sink.faults sink.faults_after
+  pub count : ℕ
+  pub within : count ≤ length text
+  pub grows : Grows sink.written sink.written_after (take count text)
+  pub falls : Falls sink.room sink.room_after count
+  pub unsure : IfSome sink.room (λ room. room < length text)
+
+-- nothing was written
+pub record WroteNothing (sink : SinkStates) : Type 0 where
+  pub same : sink.written_after ≡ sink.written
+  pub room : sink.room_after ≡ sink.room
+  pub quiet : sink.faults_after ≡ sink.faults
+
+-- how a reply is written
+abbrev pub IsSaid : SinkStates → Status → List ℕ → Status → Type 0
+IsSaid sink status text result = ((result ≡ status) × WroteAll sink text) ⊎ ((result ≡ WriteFault) × WroteFront sink text)
+
+-- how the call ends, by its status
+abbrev pub IsOutcome : List (List ℕ) → FilesStates → SinkStates → Status → Type 0
+IsOutcome words files sink NoMemory = WroteNothing sink
+IsOutcome words files sink WriteFault = (status : Status) × (text : List ℕ) × IsReply words files status text × WroteFront sink text
+IsOutcome words files sink status = (text : List ℕ) × IsReply words files status text × WroteAll sink text
+
+-- the answer to words that ask for nothing
+abbrev pub IsUsageOrLost : Status → Type 0
+IsUsageOrLost Usage = Unit {0}
+IsUsageOrLost WriteFault = Unit {0}
+IsUsageOrLost NoMemory = Unit {0}
+IsUsageOrLost Done = ⊥
+IsUsageOrLost Refused = ⊥
+IsUsageOrLost ReadFault = ⊥
+IsUsageOrLost Incomplete = ⊥
+
+-- the answer where a read failed
+abbrev pub IsReadFaultOrLost : Status → Type 0
+IsReadFaultOrLost ReadFault = Unit {0}
+IsReadFaultOrLost WriteFault = Unit {0}
+IsReadFaultOrLost NoMemory = Unit {0}
+IsReadFaultOrLost Done = ⊥
+IsReadFaultOrLost Refused = ⊥
+IsReadFaultOrLost Usage = ⊥
+IsReadFaultOrLost Incomplete = ⊥
+
+-- the exit status of the process
+abbrev pub code_of : Status → ℕ
+code_of Done = 0
+code_of Refused = 1
+code_of Usage = 2
+code_of ReadFault = 3
+code_of WriteFault = 4
+code_of Incomplete = 5
+code_of NoMemory = 6

@@ -1,0 +1,14 @@
+//! The program as one call: from the words of a command line and the bytes of files to a status
+//! and the bytes that are written.
+#![tactic(auto)]
+
+mod program;
+mod reply;
+mod status;
+#[cfg(test)]
+mod tests;
+mod topology_file;
+mod words;
+
+pub use program::blazes;
+pub use status::Status;

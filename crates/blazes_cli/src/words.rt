@@ -1,0 +1,143 @@
+//! What the words of a command line ask for.
+ghost use Rattle.std.specs.Prelude.{◌≡◌, IfOk, map, option_map, string_bytes, false, codes};
+ghost use Rattle.clap.specs.Words.{all_of, app_of, first_of, found_of, rows_of, rule_of};
+ghost use Rattle.blazes_cli.specs.Words.{bare_command, simple_command, command_rule, file_rule, option_rule};
+ghost use Rattle.blazes_cli.specs.Words as spec;
+
+use clap::error::ErrorKind;
+use clap::{Arg, ArgAction, ArgMatches, Command};
+use std::alloc::{AllocError, Global};
+
+/// What a command line asks for.
+#[derive(Clone, Copy, Debug, PartialEq, Eq)]
+pub enum Request<'a> {
+    /// The labels of the topology in the file of this name.
+    Label { topology: &'a str },
+}
+
+fn command_arg<'a>(alloc: Global) -> Arg<'a>
+    ensures rule { rule_of result ≡ command_rule }
+    ensures local { result.global ≡ false }
+{
+    Arg::new(alloc, "command")
+        .required(true)
+        .action(ArgAction::Set)
+}
+
+fn file_arg<'a>(alloc: Global) -> Arg<'a>
+    ensures rule { rule_of result ≡ file_rule }
+    ensures local { result.global ≡ false }
+{
+    Arg::new(alloc, "file")
+        .action(ArgAction::Append)
+        .num_args(0..)
+}
+
+fn option_arg<'a>(alloc: Global, name: &'a str) -> Arg<'a>
+    ensures rule { rule_of result ≡ option_rule name.entry.now }
+    ensures local { result.global ≡ false }
+{
+    Arg::new(alloc, name).long(name).action(ArgAction::Set)
+}
+
+fn bare<'a>(alloc: Global) -> Command<'a>
+    ensures { app_of result ≡ bare_command }
+{
+    Command::new(alloc, "blazes")
+        .no_binary_name(true)
+        .disable_help_flag(true)
+}
+
+fn command<'a>(alloc: Global) -> Result<Command<'a>, AllocError>
+    ensures { IfOk result (λ command. app_of command ≡ simple_command) }
+{
+    let named = bare(alloc).arg(command_arg(alloc))?;
+    let with_files = named.arg(file_arg(alloc))?;
+    let with_seed = with_files.arg(option_arg(alloc, "seed"))?;
+    let with_count = with_seed.arg(option_arg(alloc, "count"))?;
+    Ok(with_count)
+}
+
+// The words as the simple command reads them, where it finds no fault.
+fn read_words<'a>(
+    alloc: Global,
+    words: &'a [String],
+) -> Result<Option<ArgMatches<'a>>, AllocError>
+    ensures { IfOk result (spec.AreMatches (map string_bytes words.entry.now)) }
+{
+    let command = command(alloc)?;
+    match command.try_get_matches_from(words) {
+        Ok(matches) => Ok(Some(matches)),
+        Err(fault) => {
+            if fault.kind() == ErrorKind::OutOfMemory {
+                return Err(AllocError);
+            }
+            Ok(None)
+        }
+    }
+}
+
+// The first value under a name.
+fn value_of<'a>(matches: &ArgMatches<'a>, name: &str) -> Option<&'a str>
+    ensures { option_map (λ value. value.now) result ≡ first_of name.now (rows_of (found_of matches.now)) }
+{
+    matches.get_str(name)
+}
+
+// All values under a name.
+fn values_of<'m, 'a>(matches: &'m ArgMatches<'a>, name: &str) -> Option<&'m [&'a str]>
+    ensures { option_map (λ values. map (λ value. value.now) values.now) result ≡ all_of name.now (rows_of (found_of matches.now)) }
+{
+    matches.get_strs(name)
+}
+
+fn is_command(matches: &ArgMatches<'_>, name: &str) -> bool
+    ensures { result ≡ spec.is_command name.now (rows_of (found_of matches.now)) }
+{
+    match value_of(matches, "command") {
+        Some(command) => command == name,
+        None => false,
+    }
+}
+
+fn has_option(matches: &ArgMatches<'_>, name: &str) -> bool
+    ensures { result ≡ spec.has_option name.now (rows_of (found_of matches.now)) }
+{
+    value_of(matches, name).is_some()
+}
+
+// The one FILE that the words have.
+fn only_file<'a>(matches: &ArgMatches<'a>) -> Option<&'a str>
+    ensures { option_map (λ file. file.now) result ≡ spec.only_file (rows_of (found_of matches.now)) }
+{
+    match values_of(matches, "file") {
+        Some([file]) => Some(*file),
+        _ => None,
+    }
+}
+
+fn label_request<'a>(matches: &ArgMatches<'a>) -> Option<Request<'a>>
+    ensures { option_map spec.asked_by result ≡ spec.asked (rows_of (found_of matches.now)) }
+{
+    if !is_command(matches, "label") || has_option(matches, "seed") || has_option(matches, "count") {
+        return None;
+    }
+    match only_file(matches) {
+        Some(topology) => Some(Request::Label { topology }),
+        None => None,
+    }
+}
+
+/// What the words ask for; `None` where they don't match the simple command, or no command that is
+/// built has such words after it.
+pub fn request_of<'a>(
+    alloc: Global,
+    words: &'a [String],
+) -> Result<Option<Request<'a>>, AllocError>
+    ensures { IfOk result (λ request. option_map spec.asked_by request ≡ spec.request_of (map string_bytes words.entry.now)) }
+{
+    match read_words(alloc, words)? {
+        Some(matches) => Ok(label_request(&matches)),
+        None => Ok(None),
+    }
+}

@@ -1,0 +1,28 @@
+use super::*;
+use std::test::Fail;
+
+#[test]
+fn reads_of_one_source_in_turn(rt: HostRuntime) -> Result<(), Fail> {
+    let mut files = Vec::new(rt.alloc());
+    for (name, bytes) in [("a", "abc"), ("empty", ""), ("a", "later")] {
+        let name = String::from_str(rt.alloc(), name)?;
+        files.push((name, bytes.as_bytes().to_vec(rt.alloc())?))?;
+    }
+    let mut source = MemFiles::new(files, [2].to_vec(rt.alloc())?);
+    let mut into = Vec::new(rt.alloc());
+    for (name, most, answer, bytes) in [
+        ("a", 3, Ok(End::Whole), "abc"),
+        ("a", 3, Err(ReadFail::Failed), ""),
+        ("a", 2, Ok(End::More), ""),
+        ("a", 4, Ok(End::Whole), "abc"),
+        ("empty", 0, Ok(End::Whole), ""),
+        ("missing", 3, Err(ReadFail::Failed), ""),
+    ] {
+        let was = source.read(name, most, &mut into);
+        assert_eq!(rt; was, answer, "{name} at {most}");
+        if was.is_ok() {
+            assert_eq!(rt; into.as_slice(), bytes.as_bytes(), "{name} at {most}");
+        }
+    }
+    Ok(())
+}

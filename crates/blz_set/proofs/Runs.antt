@@ -1,0 +1,199 @@
+-- The rows with a key, in an index of rows: a stable sort keeps them as they stood, and a search finds them.
+use Rattle.std.proofs.Common.{not, cond, filter, map, ◌&&◌, ◌||◌, ◌≡◌, ℕ, zero, suc, ◌+◌, ◌<◌, ◌≤◌, Bool, true, false, List, [], ◌∷◌, ◌++◌, length, get_or, refl, ap, ◌∙◌, sym, subst, inl, inr, arith, take, drop, take_all, Bor}
+use Rattle.std.specs.declared.cmp.Ordering.{Ordering}
+use Rattle.std.specs.declared.cmp.Ordering.TheVariants.{Less, Equal, Greater}
+use Rattle.std.specs.Ordering.{ordering_reverse, ordering_index, is_lt, is_eq, is_ne}
+use Rattle.std.specs.Fn.{Called, ComparesAs}
+use Rattle.std.proofs.lemmas.Fn.{always_returns_same}
+use denote.Param.Members.{Mut}
+use Rattle.std.specs.List.{AllWithin, list_any}
+use Rattle.std.specs.List.Sorted.{IsNonDecreasingBy, IsPartitionedBy, IsStableBy, ties}
+use Rattle.std.proofs.lemmas.List.{get_or-drop, get_or_default, drop_more, length-drop}
+use Rattle.std.proofs.lemmas.List.Elements.{filter_agree}
+use Rattle.std.proofs.lemmas.List.Sorted.{searchable_from_sorted}
+use Rattle.blz_value.specs.Record.{Row, record_cmp}
+use Rattle.blz_value.specs.RecordOrder.{record_cmp_total, record_cmp_exact}
+use Rattle.blz_value.specs.Operators.{cells}
+use Rattle.blz_value.specs.Groups.{with_key}
+use Rattle.blz_value.proofs.Membership.{Has-from_any}
+use Rattle.blz_set.specs.References.{shown}
+use Rattle.blz_set.specs.Index.{has_key, is_below, InOrder, StartsAt, HaveSameRuns}
+
+-- ---- filters
+
+map_cond : {X Y : Type 0} (f : X → Y) (b : Bool) (x : X) (xs : List X) → cond b (f x ∷ map f xs) (map f xs) ≡ map f (cond b (x ∷ xs) xs)
+map_cond f true x xs = refl
+map_cond f false x xs = refl
+
+filter-map : {X Y : Type 0} (f : X → Y) (p : Y → Bool) (xs : List X) → filter p (map f xs) ≡ map f (filter (λ x. p (f x)) xs)
+filter-map f p [] = refl
+filter-map f p (x ∷ xs) = ap (λ ys. cond (p (f x)) (f x ∷ ys) ys) (filter-map f p xs) ∙ map_cond f (p (f x)) x (filter (λ x. p (f x)) xs)
+
+none_cons : {X : Type 0} (b : Bool) (x : X) (xs : List X) (rest : Bool) → (b || rest) ≡ false → (rest ≡ false → xs ≡ []) → cond b (x ∷ xs) xs ≡ []
+none_cons true x xs rest e h = cc
+none_cons false x xs rest e h = h e
+
+filter_none : {X : Type 0} (p : X → Bool) (xs : List X) → list_any p xs ≡ false → filter p xs ≡ []
+filter_none p [] e = refl
+filter_none p (x ∷ xs) e = none_cons (p x) x (filter p xs) (list_any p xs) e (filter_none p xs)
+
+any-map : {X Y : Type 0} (f : X → Y) (p : Y → Bool) (xs : List X) → list_any p (map f xs) ≡ list_any (λ x. p (f x)) xs
+any-map f p [] = refl
+any-map f p (x ∷ xs) = ap (λ b. p (f x) || b) (any-map f p xs)
+
+-- the rows with a key, behind references
+with_key-shown : (columns : List ℕ) (key : Row) (refs : List (Bor Row)) → with_key columns key (shown refs) ≡ shown (filter (λ r. has_key columns key r.now) refs)
+with_key-shown columns key refs = filter-map (λ (r : Bor Row). r.now) (has_key columns key) refs
+
+-- ---- a stable sort keeps the rows with each key as they stood
+
+tie_is : (o r : Ordering) → o ≡ ordering_reverse r → not (is_lt o) && not (is_lt r) ≡ is_eq r
+tie_is o Less e = rw e refl
+tie_is o Equal e = rw e refl
+tie_is o Greater e = rw e refl
+
+eq_is : (o : Ordering) → is_eq o ≡ true → o ≡ Equal
+eq_is Less e = cc
+eq_is Equal e = refl
+eq_is Greater e = cc
+
+pub same_row : (a b : Row) → is_eq (record_cmp a b) ≡ true → a ≡ b
+same_row a b e = record_cmp_exact a b (eq_is (record_cmp a b) e)
+
+module _ {X : Type 0} (f : X → Row) (xs ys : List X) (stable : IsStableBy (λ x y. is_lt (record_cmp (f x) (f y))) xs ys) where
+  at_element : (x : X) → filter (λ y. is_eq (record_cmp (f y) (f x))) ys ≡ filter (λ y. is_eq (record_cmp (f y) (f x))) xs
+  at_element x =
+      let tie : (y : X) → ties (λ x y. is_lt (record_cmp (f x) (f y))) x y ≡ is_eq (record_cmp (f y) (f x)) = λ y. tie_is (record_cmp (f x) (f y)) (record_cmp (f y) (f x)) (record_cmp_total.antisymm (f x) (f y)) in
+      sym (filter_agree (ties (λ x y. is_lt (record_cmp (f x) (f y))) x) (λ y. is_eq (record_cmp (f y) (f x))) tie ys) ∙ stable x ∙ filter_agree (ties (λ x y. is_lt (record_cmp (f x) (f y))) x) (λ y. is_eq (record_cmp (f y) (f x))) tie xs
+
+  at_found : (key : Row) (zs : List X) → list_any (λ y. is_eq (record_cmp (f y) key)) zs ≡ true → filter (λ y. is_eq (record_cmp (f y) key)) ys ≡ filter (λ y. is_eq (record_cmp (f y) key)) xs
+  at_found key zs e =
+      let m = Has-from_any (λ y. is_eq (record_cmp (f y) key)) zs e in
+      subst (λ k. filter (λ y. is_eq (record_cmp (f y) k)) ys ≡ filter (λ y. is_eq (record_cmp (f y) k)) xs) (same_row (f m.0) key m.2) (at_element m.0)
+
+  at_any : (key : Row) (a b : Bool) → list_any (λ y. is_eq (record_cmp (f y) key)) xs ≡ a → list_any (λ y. is_eq (record_cmp (f y) key)) ys ≡ b → filter (λ y. is_eq (record_cmp (f y) key)) ys ≡ filter (λ y. is_eq (record_cmp (f y) key)) xs
+  at_any key true b e g = at_found key xs e
+  at_any key false true e g = at_found key ys g
+  at_any key false false e g = filter_none (λ y. is_eq (record_cmp (f y) key)) ys g ∙ sym (filter_none (λ y. is_eq (record_cmp (f y) key)) xs e)
+
+  stable_at : (key : Row) → filter (λ y. is_eq (record_cmp (f y) key)) ys ≡ filter (λ y. is_eq (record_cmp (f y) key)) xs
+  stable_at key = at_any key (list_any (λ y. is_eq (record_cmp (f y) key)) xs) (list_any (λ y. is_eq (record_cmp (f y) key)) ys) refl refl
+
+pub sorted_runs : (columns : List ℕ) (rows : List Row) (refs sorted : List (Bor Row)) → shown refs ≡ rows → IsStableBy (λ x y. is_lt (record_cmp (cells columns x.now) (cells columns y.now))) refs sorted → HaveSameRuns columns (shown sorted) rows
+sorted_runs columns rows refs sorted e stable key =
+    with_key-shown columns key sorted ∙ ap shown (stable_at (λ r. cells columns r.now) refs sorted stable key) ∙ sym (with_key-shown columns key refs) ∙ ap (with_key columns key) e
+
+-- a closure that compares by a key
+pub compares : {F X : Type 0} {g : Mut F (Bor X × (Bor X × Unit {0})) Ordering} {f : F} (key : X → Row) → ((a : Bor X × (Bor X × Unit {0})) (r : Ordering) (f' : F) → Called g f a r f' → (r ≡ record_cmp (key a.0.now) (key a.1.0.now)) × (f' ≡ f)) → ComparesAs g (λ x y. is_lt (record_cmp (key x) (key y))) f
+compares {g = g} {f = f} key h = always_returns_same g _ f (λ a r f' k. (ap is_lt (h a r f' k).0, (h a r f' k).1))
+
+-- ---- the run of a key
+
+less_ne : (o : Ordering) → is_lt o ≡ true → is_eq o ≡ false
+less_ne Less e = refl
+less_ne Equal e = cc
+less_ne Greater e = cc
+
+ne_is : (o : Ordering) → is_ne o ≡ true → is_eq o ≡ false
+ne_is Less e = refl
+ne_is Equal e = cc
+ne_is Greater e = refl
+
+below_down : (r s : Ordering) → ordering_index r ≤ ordering_index s → is_lt s ≡ true → is_lt r ≡ true
+below_down Less s le e = refl
+below_down Equal Less le e = absurd (omega arith)
+below_down Equal Equal le e = cc
+below_down Equal Greater le e = cc
+below_down Greater Less le e = absurd (omega arith)
+below_down Greater Equal le e = cc
+below_down Greater Greater le e = cc
+
+-- what comes after an element that is past the key is past it too
+past_up : (r s : Ordering) → ordering_index r ≤ ordering_index s → is_lt r ≡ false → is_eq r ≡ false → is_eq s ≡ false
+past_up Less s le e h = cc
+past_up Equal s le e h = cc
+past_up Greater Less le e h = absurd (omega arith)
+past_up Greater Equal le e h = absurd (omega arith)
+past_up Greater Greater le e h = refl
+
+module _ {X : Type 0} (p : X → Bool) where
+  none_within : (xs : List X) → AllWithin (λ x. p x ≡ false) xs 0 (length xs) → list_any p xs ≡ false
+  none_within [] h = refl
+  none_within (x ∷ xs) h = rw (h 0 x (omega arith) (omega arith)) (none_within xs (λ k d a b. h (suc k) d (omega arith) (omega arith)))
+
+  -- the elements that pass stand in front
+  filter_front : (xs : List X) (n : ℕ) → AllWithin (λ x. p x ≡ true) xs 0 n → AllWithin (λ x. p x ≡ false) xs n (length xs) → take n xs ≡ filter p xs
+  filter_front [] zero h more = refl
+  filter_front [] (suc n) h more = refl
+  filter_front (x ∷ xs) zero h more = sym (filter_none p (x ∷ xs) (none_within (x ∷ xs) more))
+  filter_front (x ∷ xs) (suc n) h more =
+      rw (h 0 x (omega arith) (omega arith)) (ap (λ l. x ∷ l) (filter_front xs n (λ k d a b. h (suc k) d (omega arith) (omega arith)) (λ k d a b. more (suc k) d (omega arith) (omega arith))))
+
+  -- none before a place passes
+  filter_drop : (xs : List X) (i : ℕ) → AllWithin (λ x. p x ≡ false) xs 0 i → filter p (drop i xs) ≡ filter p xs
+  filter_drop xs zero h = refl
+  filter_drop [] (suc i) h = refl
+  filter_drop (x ∷ xs) (suc i) h = rw (h 0 x (omega arith) (omega arith)) (filter_drop xs i (λ k d a b. h (suc k) d (omega arith) (omega arith)))
+
+  any_drop : (xs : List X) (i : ℕ) → AllWithin (λ x. p x ≡ false) xs 0 i → list_any p (drop i xs) ≡ list_any p xs
+  any_drop xs zero h = refl
+  any_drop [] (suc i) h = refl
+  any_drop (x ∷ xs) (suc i) h = rw (h 0 x (omega arith) (omega arith)) (any_drop xs i (λ k d a b. h (suc k) d (omega arith) (omega arith)))
+
+module _ (columns : List ℕ) (key : Row) (refs : List (Bor Row)) (order : InOrder columns refs) where
+  rising : IsNonDecreasingBy (λ (r : Bor Row). ordering_index (record_cmp (cells columns r.now) key)) refs
+  rising = searchable_from_sorted record_cmp_total (λ (r : Bor Row). cells columns r.now) refs key order
+
+  pub below_parts : IsPartitionedBy (λ (r : Bor Row). is_below columns key r.now) refs
+  below_parts i j d le lt e = below_down _ _ (rising i j d le lt) e
+
+  module _ (i : ℕ) (start : StartsAt columns key refs i) where
+    before : AllWithin (λ (r : Bor Row). has_key columns key r.now ≡ false) refs 0 i
+    before k d low high = less_ne (record_cmp (cells columns (get_or refs k d).now) key) (start.0 k d low high)
+
+    -- after an element from the start on that lacks the key, all lack it
+    after : (n : ℕ) (x : Bor Row) → i ≤ n → n < length refs → x ≡ get_or refs n x → has_key columns key x.now ≡ false → AllWithin (λ (r : Bor Row). has_key columns key r.now ≡ false) refs n (length refs)
+    after n x le lt is lacks k d low high =
+        let o : Bor Row → Ordering = λ (r : Bor Row). record_cmp (cells columns r.now) key in
+        let same : x ≡ get_or refs n d = is ∙ get_or_default refs n x d lt in
+        past_up (o (get_or refs n d)) (o (get_or refs k d)) (rising n k d low high) (start.1 n d le lt) (subst (λ (r : Bor Row). is_eq (o r) ≡ false) same lacks)
+
+    module _ (rest : List (Bor Row)) (is_rest : rest ≡ drop i refs) where
+      rest_at : (k : ℕ) (d : Bor Row) → get_or rest k d ≡ get_or refs (i + k) d
+      rest_at k d = ap (λ (l : List (Bor Row)). get_or l k d) is_rest ∙ get_or-drop i refs k d
+
+      -- the front of the rest is the run, where it has the key and the element behind it lacks it
+      front_is_run : (n : ℕ) → AllWithin (λ (r : Bor Row). has_key columns key r.now ≡ true) rest 0 n → AllWithin (λ (r : Bor Row). has_key columns key r.now ≡ false) rest n (length rest) → shown (take n rest) ≡ with_key columns key (shown refs)
+      front_is_run n has lacks =
+          ap shown (filter_front (λ (r : Bor Row). has_key columns key r.now) rest n has lacks)
+          ∙ ap (λ (l : List (Bor Row)). shown (filter (λ (r : Bor Row). has_key columns key r.now) l)) is_rest
+          ∙ ap shown (filter_drop (λ (r : Bor Row). has_key columns key r.now) refs i before)
+          ∙ sym (with_key-shown columns key refs)
+
+      pub run_to : i + length rest ≡ length refs → (n : ℕ) (x : Bor Row) → AllWithin (λ (r : Bor Row). has_key columns key r.now ≡ true) rest 0 n → n < length rest → x ≡ get_or rest n x → is_ne (record_cmp (cells columns x.now) key) ≡ true → shown (take n rest) ≡ with_key columns key (shown refs)
+      run_to whole n x has lt is ne =
+          let past = after (i + n) x (omega arith) (omega arith) (is ∙ rest_at n x) (ne_is (record_cmp (cells columns x.now) key) ne) in
+          front_is_run n has (λ k d low high. subst (λ (r : Bor Row). has_key columns key r.now ≡ false) (sym (rest_at k d)) (past (i + k) d (omega arith) (omega arith)))
+
+      pub run_all : (n : ℕ) → n ≡ length rest → AllWithin (λ (r : Bor Row). has_key columns key r.now ≡ true) rest 0 n → shown rest ≡ with_key columns key (shown refs)
+      run_all n whole has = ap shown (sym (take_all n rest (omega arith))) ∙ front_is_run n has (λ k d low high. absurd (omega arith))
+
+    -- the element at the start answers for all
+    pub start_tells : (x : Bor Row) → i < length refs → x ≡ get_or refs i x → is_eq (record_cmp (cells columns x.now) key) ≡ list_any (has_key columns key) (shown refs)
+    start_tells x lt is =
+        let split : drop i refs ≡ x ∷ drop (i + 1) refs = drop_more refs i x lt ∙ ap (λ (r : Bor Row). r ∷ drop (i + 1) refs) (sym is) in
+        told (is_eq (record_cmp (cells columns x.now) key)) refl
+        ∙ sym (ap (list_any (λ (r : Bor Row). has_key columns key r.now)) split)
+        ∙ any_drop (λ (r : Bor Row). has_key columns key r.now) refs i before
+        ∙ sym (any-map (λ (r : Bor Row). r.now) (has_key columns key) refs)
+      where
+        told : (b : Bool) → is_eq (record_cmp (cells columns x.now) key) ≡ b → is_eq (record_cmp (cells columns x.now) key) ≡ list_any (λ (r : Bor Row). has_key columns key r.now) (x ∷ drop (i + 1) refs)
+        told true e = rw e refl
+        told false e =
+            let past = after i x (omega arith) lt is e in
+            let none = none_within (λ (r : Bor Row). has_key columns key r.now) (drop (i + 1) refs)
+            (λ k d low high. subst (λ (r : Bor Row). has_key columns key r.now ≡ false) (sym (get_or-drop (i + 1) refs k d)) (past (i + 1 + k) d (omega arith) (omega (arith, length-drop (i + 1) refs)))) in
+            e ∙ sym (ap (λ b. b || list_any (λ (r : Bor Row). has_key columns key r.now) (drop (i + 1) refs)) e ∙ none)
+
+    pub none_starts : length refs ≤ i → false ≡ list_any (has_key columns key) (shown refs)
+    none_starts le = sym (any-map (λ (r : Bor Row). r.now) (has_key columns key) refs ∙ none_within (λ (r : Bor Row). has_key columns key r.now) refs (λ k d low high. before k d low (omega arith)))

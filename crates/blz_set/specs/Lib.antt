@@ -1,0 +1,6 @@
+pub mod RecordSet
+pub mod Answers
+pub mod References
+pub mod Index
+pub mod Pairs
+pub mod Groups

@@ -1,0 +1,5 @@
+pub mod Within
+pub mod Members
+pub mod Least
+pub mod Reached
+pub mod Places

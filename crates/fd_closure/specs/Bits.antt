@@ -1,0 +1,10 @@
+-- Sets of numbers below 64. A set is one number, whose bit k says that k is in it.
+use Rattle.std.specs.Prelude.{ℕ, ◌^◌, ◌==◌, nat_lt, not, Bool, if◌then◌else◌, bit_and}
+
+-- the set of this one number, which is empty for a number from 64 on
+unfoldable pub bit_of : ℕ → ℕ
+bit_of n = if nat_lt n 64 then 2 ^ n else 0
+
+-- the two sets have a number in common
+unfoldable pub meets : ℕ → ℕ → Bool
+meets a b = not (bit_and a b == 0)

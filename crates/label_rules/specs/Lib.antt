@@ -1,0 +1,4 @@
+pub mod Label
+pub mod PathTable
+pub mod Reconciliation
+pub mod Laws

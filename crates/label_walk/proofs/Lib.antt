@@ -1,0 +1,4 @@
+pub mod Going
+pub mod Labelling
+pub mod Turns
+pub mod AsyncOrRun

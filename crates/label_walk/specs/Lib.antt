@@ -1,0 +1,5 @@
+pub mod Forward
+pub mod SmallLabels
+pub mod Walk
+pub mod Laws
+pub mod Small

@@ -1,0 +1,17 @@
+//! The labels of all streams of a topology.
+#![tactic(auto)]
+
+mod forward;
+mod label_list;
+mod laws;
+mod small;
+mod walk;
+
+pub use forward::is_forward;
+pub use label_list::Labels;
+pub use laws::small_labels_law;
+pub use small::is_small;
+pub use walk::labels;
+
+#[cfg(test)]
+mod tests;

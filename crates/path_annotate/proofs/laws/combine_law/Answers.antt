@@ -1,0 +1,5 @@
+use Rattle.path_annotate.proofs.Covering.{combine_law}
+use Rattle.path_annotate.proofs.laws.combine_law.Goals as goal
+
+pub returns : goal.returns
+returns c = combine_law

@@ -1,0 +1,5 @@
+use Rattle.path_annotate.proofs.Covering.{covers_law}
+use Rattle.path_annotate.proofs.laws.covers_law.Goals as goal
+
+pub returns : goal.returns
+returns c = covers_law

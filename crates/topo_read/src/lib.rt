@@ -1,0 +1,14 @@
+//! Reads the topology that a TOML file gives.
+#![tactic(auto)]
+
+mod entries;
+mod fault;
+mod reading;
+mod tables;
+mod values;
+
+pub use fault::TopoTextFault;
+pub use reading::read;
+
+#[cfg(test)]
+mod tests;

@@ -1,0 +1,6 @@
+use Rattle.std.proofs.Common.{◌≡◌, drop}
+use Rattle.topo_types.specs.Validity.{first_place, bad_source}
+use Rattle.topo_types.proofs.validity.first_source.Given as goal
+
+abbrev pub invariant-loop-number : goal.invariant-loop-number
+invariant-loop-number l = first_place (bad_source l.kind l.topology) l.number (drop l.number l.topology.sources) ≡ first_place (bad_source l.kind l.topology) 0 l.topology.sources

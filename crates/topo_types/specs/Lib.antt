@@ -1,0 +1,8 @@
+pub mod Name
+pub mod Parts
+pub mod Attributes
+pub mod ValidityTooMany
+pub mod ValidityTwice
+pub mod ValidityUnknown
+pub mod ValidityColumns
+pub mod Validity

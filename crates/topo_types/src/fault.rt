@@ -1,0 +1,37 @@
+//! What is wrong with a topology, and where.
+
+/// The first fault of a topology.
+#[derive(Clone, Copy, Debug, PartialEq, Eq)]
+pub struct TopoFault {
+    pub kind: TopoKind,
+    pub place: TopoPlace,
+}
+
+/// The kinds of faults, in the order in which they are looked for.
+#[derive(Clone, Copy, Debug, PartialEq, Eq)]
+pub enum TopoKind {
+    /// A count passes its limit.
+    TooMany,
+    /// A name, a column, an entry or a note stands twice.
+    Twice,
+    /// A name names nothing.
+    Unknown,
+    /// A stream goes to a port with other columns.
+    Columns,
+    /// The replicas of a stream's two ends can't be paired.
+    ReplicaMismatch,
+    /// A component of a cycle waits for seals or passes them on.
+    SealInCycle,
+    /// A declared note doesn't cover the derived one.
+    Understated,
+}
+
+/// A part of a topology by its number in the file, counted from 1.
+#[derive(Clone, Copy, Debug, PartialEq, Eq)]
+pub enum TopoPlace {
+    Source(u32),
+    Component(u32),
+    /// The number counts the streams that come from outputs.
+    Stream(u32),
+    Fd(u32),
+}

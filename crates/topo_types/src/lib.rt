@@ -1,0 +1,26 @@
+//! A topology as it is written: sources, components, streams and dependencies, by their names.
+#![tactic(auto)]
+
+mod ends;
+mod fault;
+mod mode;
+mod name;
+mod parts;
+mod repeats;
+mod sizes;
+mod topology;
+mod validity;
+
+pub use fault::{TopoFault, TopoKind, TopoPlace};
+pub use fd_closure::{AttrNames, Attrs, Fd};
+pub use mode::Mode;
+pub use name::is_name;
+pub use path_annotate::Note;
+pub use topology::{
+    Body, ColumnType, ComponentEntry, Declared, FdEntry, ModeName, NoteName, Side, SourceEntry,
+    Spot, Stock, StreamEntry, Topology,
+};
+pub use validity::first_fault;
+
+#[cfg(test)]
+mod tests;

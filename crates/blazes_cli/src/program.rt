@@ -13,7 +13,8 @@ use crate::words::{Request, request_of};
 use blz_outside::{Files, ReadFail, Sink};
 use std::alloc::{AllocError, Global};
 
-const USAGE: &str = "usage: blazes label|derive|plan TOPOLOGY | run TOPOLOGY DATA SCHEDULE | make TOPOLOGY DATA [--seed N] | soak [--seed N] [--count N] | shard TOPOLOGY COMPONENT COLUMN BOUND.. | restart TOPOLOGY DATA SCHEDULE | witness TOPOLOGY DATA SCHEDULE SCHEDULE | why TOPOLOGY DATA SCHEDULE STREAM REPLICA INDEX\n";
+const USAGE: &str =
+    "usage: blazes label|derive|plan TOPOLOGY | run TOPOLOGY DATA SCHEDULE | make TOPOLOGY DATA [--seed N] | soak [--seed N] [--count N] | shard TOPOLOGY COMPONENT COLUMN BOUND.. | restart TOPOLOGY DATA SCHEDULE | witness TOPOLOGY DATA SCHEDULE SCHEDULE | why TOPOLOGY DATA SCHEDULE STREAM REPLICA INDEX\n";
 
 fn label<F: Files>(alloc: Global, topology: &str, files: &mut F) -> Result<Reply, AllocError>
     ensures { IfOk result (λ reply. (given : List (List ℕ)) → asking.request_of given ≡ Some (asking.label topology.now) → IsReply given (record { held = F.held files.old; steady = F.steady files.old; faults = F.faults files.old; faults_after = F.faults files.new }) reply.status reply.text.items) }
@@ -29,11 +30,7 @@ fn label<F: Files>(alloc: Global, topology: &str, files: &mut F) -> Result<Reply
     }
 }
 
-fn reply_to<F: Files>(
-    alloc: Global,
-    words: &[String],
-    files: &mut F,
-) -> Result<Reply, AllocError>
+fn reply_to<F: Files>(alloc: Global, words: &[String], files: &mut F) -> Result<Reply, AllocError>
     ensures { IfOk result (λ reply. IsReply (map string_bytes words.now) (record { held = F.held files.old; steady = F.steady files.old; faults = F.faults files.old; faults_after = F.faults files.new }) reply.status reply.text.items) }
 {
     match request_of(alloc, words)? {

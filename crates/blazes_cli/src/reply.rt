@@ -63,11 +63,7 @@ fn push_label_line(name: &Str, label: Label, text: &mut Vec<u8>) -> Result<(), A
     Ok(())
 }
 
-fn push_label_lines(
-    names: &[&Str],
-    labels: &[Label],
-    text: &mut Vec<u8>,
-) -> Result<(), AllocError>
+fn push_label_lines(names: &[&Str], labels: &[Label], text: &mut Vec<u8>) -> Result<(), AllocError>
     ensures { OnOk result (text.new.items ≡ text.old.items ++ flat_map spec.label_line (zip (shown names.now) labels.now)) }
 {
     let mut left = labels;

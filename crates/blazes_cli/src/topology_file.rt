@@ -18,6 +18,7 @@ use topo_types::Topology;
 pub const TOPOLOGY_LIMIT: usize = 262_144;
 
 const NOT_TOML: &str = "refused NotToml\n";
+
 const NOT_BUILT: &str = "refused NotBuilt\n";
 
 fn labelled(alloc: Global, topology: &Topology) -> Result<Reply, AllocError>
@@ -57,12 +58,7 @@ fn reply_to_text(alloc: Global, text: &[u8]) -> Result<Reply, AllocError>
 
 /// The reply to `label` for a topology file of this name, of which a read within the limit gave
 /// this end and these bytes.
-pub fn label_reply(
-    alloc: Global,
-    name: &str,
-    end: End,
-    text: &[u8],
-) -> Result<Reply, AllocError>
+pub fn label_reply(alloc: Global, name: &str, end: End, text: &[u8]) -> Result<Reply, AllocError>
     ensures status { IfOk result (λ reply. IsFromChecks reply.status) }
     ensures answer { (bytes : List ℕ) → IsRead end text.now bytes → IfOk result (λ reply. AnswersChecked (check_length name.now bytes) (answer_of reply)) }
 {

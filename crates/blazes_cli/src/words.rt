@@ -59,10 +59,7 @@ fn command<'a>(alloc: Global) -> Result<Command<'a>, AllocError>
 }
 
 // The words as the simple command reads them, where it finds no fault.
-fn read_words<'a>(
-    alloc: Global,
-    words: &'a [String],
-) -> Result<Option<ArgMatches<'a>>, AllocError>
+fn read_words<'a>(alloc: Global, words: &'a [String]) -> Result<Option<ArgMatches<'a>>, AllocError>
     ensures { IfOk result (spec.AreMatches (map string_bytes words.entry.now)) }
 {
     let command = command(alloc)?;
@@ -119,7 +116,10 @@ fn only_file<'a>(matches: &ArgMatches<'a>) -> Option<&'a str>
 fn label_request<'a>(matches: &ArgMatches<'a>) -> Option<Request<'a>>
     ensures { option_map spec.asked_by result ≡ spec.asked (rows_of (found_of matches.now)) }
 {
-    if !is_command(matches, "label") || has_option(matches, "seed") || has_option(matches, "count") {
+    if !is_command(matches, "label")
+        || has_option(matches, "seed")
+        || has_option(matches, "count")
+    {
         return None;
     }
     match only_file(matches) {
@@ -130,10 +130,7 @@ fn label_request<'a>(matches: &ArgMatches<'a>) -> Option<Request<'a>>
 
 /// What the words ask for; `None` where they don't match the simple command, or no command that is
 /// built has such words after it.
-pub fn request_of<'a>(
-    alloc: Global,
-    words: &'a [String],
-) -> Result<Option<Request<'a>>, AllocError>
+pub fn request_of<'a>(alloc: Global, words: &'a [String]) -> Result<Option<Request<'a>>, AllocError>
     ensures { IfOk result (λ request. option_map spec.asked_by request ≡ spec.request_of (map string_bytes words.entry.now)) }
 {
     match read_words(alloc, words)? {

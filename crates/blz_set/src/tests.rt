@@ -73,7 +73,11 @@ fn set_operations(rt: HostRuntime) -> Result<(), Fail> {
         ("select", left.select(&over_one), "(2, \"y\")(2, \"z\")"),
         ("project", left.project(&[0]), "(1)(2)"),
         ("join", left.join(&right, &[(0, 0)]), "(1, \"x\")"),
-        ("antijoin", left.antijoin(&right, &[(0, 0)]), "(2, \"y\")(2, \"z\")"),
+        (
+            "antijoin",
+            left.antijoin(&right, &[(0, 0)]),
+            "(2, \"y\")(2, \"z\")"
+        ),
         ("count", left.group(&[0], Agg::Count), "(1, 1)(2, 2)"),
         ("min", left.group(&[0], Agg::Min(1)), "(1, \"x\")(2, \"y\")"),
         ("max", left.group(&[0], Agg::Max(1)), "(1, \"x\")(2, \"z\")"),
@@ -145,11 +149,21 @@ fn full_set(rt: HostRuntime) -> Result<(), Fail> {
     let alloc = rt.alloc();
     let mut set = numbers(alloc, 1, 262_144)?;
     for number in [0, 262_145] {
-        assert!(rt; matches!(set.insert(single(alloc, number)?), Err(SetFault::TooManyRows)));
+        assert!(rt;
+            matches!(
+                set.insert(single(alloc, number)?),
+                Err(SetFault::TooManyRows)
+            )
+        );
         assert!(rt; !set.contains(&single(alloc, number)?));
     }
     assert!(rt; !set.insert(single(alloc, 262_144)?)?);
-    assert!(rt; matches!(set.union_in(&numbers(alloc, 0, 9)?), Err(SetFault::TooManyRows)));
+    assert!(rt;
+        matches!(
+            set.union_in(&numbers(alloc, 0, 9)?),
+            Err(SetFault::TooManyRows)
+        )
+    );
     set.union_in(&numbers(alloc, 1, 9)?)?;
     assert_eq!(rt; set.len(), 262_144);
     assert!(rt; set.at(0) == Some(&single(alloc, 1)?));

@@ -1,5 +1,5 @@
 -- What the program answers to its words and to the files that it reads.
-use Rattle.std.specs.Prelude.{◌≡◌, ℕ, ◌≤◌, ◌<◌, Bool, IsTrue, List, Option, Some, None, Result, Ok, Err, IfSome}
+use Rattle.std.specs.Prelude.{◌≡◌, ℕ, ◌≤◌, ◌<◌, Bool, IsTrue, List, Option, Some, None, Result, Ok, Err, IfSome, IsSome}
 use Rattle.blz_outside.specs.Counts.{Rose}
 use Rattle.blz_outside.specs.Files.{FileMap, told_bytes}
 use Rattle.topo_types.specs.declared.topology.Topology.{Topology}
@@ -35,6 +35,10 @@ Answers held (label name) answer = IfSome (told_bytes held name) (λ bytes. Answ
 abbrev pub IsReached : Asked → List ℕ → Type 0
 IsReached (label topology) name = topology ≡ name
 
+-- each name that the order of checks reaches is held
+abbrev pub IsHeld : Option FileMap → Asked → Type 0
+IsHeld held asked = (name : List ℕ) → IsReached asked name → IsSome (told_bytes held name)
+
 -- a source of files before and after the call
 pub record FilesStates : Type 0 where
   pub held : Option FileMap
@@ -42,11 +46,16 @@ pub record FilesStates : Type 0 where
   pub faults : ℕ
   pub faults_after : ℕ
 
--- something is asked for, no read failed, and this is the answer
+abbrev pub files_states : Option FileMap → Bool → ℕ → ℕ → FilesStates
+files_states held steady faults faults_after =
+    record { held = held; steady = steady; faults = faults; faults_after = faults_after }
+
+-- something is asked for, no read failed, and this is the answer; a steady source holds all that was read
 pub record IsAnswered (words : List (List ℕ)) (files : FilesStates) (answer : Answer) : Type 0 where
   pub asked : Asked
   pub matched : request_of words ≡ Some asked
   pub quiet : files.faults_after ≡ files.faults
+  pub present : IsTrue files.steady → IsHeld files.held asked
   pub answers : Answers files.held asked answer
 
 -- something is asked for, and the read of a name that its checks reach failed; a steady source doesn't hold the name

@@ -15,6 +15,10 @@ pub record SinkStates : Type 0 where
   pub faults : ℕ
   pub faults_after : ℕ
 
+abbrev pub sink_states : Option (List ℕ) → Option (List ℕ) → Option ℕ → Option ℕ → ℕ → ℕ → SinkStates
+sink_states written written_after room room_after faults faults_after =
+    record { written = written; written_after = written_after; room = room; room_after = room_after; faults = faults; faults_after = faults_after }
+
 -- all of the text was written
 pub record WroteAll (sink : SinkStates) (text : List ℕ) : Type 0 where
   pub grows : Grows sink.written sink.written_after text

@@ -1,10 +1,9 @@
 //! The call that the program makes.
-ghost use Rattle.std.specs.Prelude.{◌≡◌, ◌≢◌, ◌<◌, List, ℕ, None, Some, IfOk, IfSome, IsSome, IsTrue, map, string_bytes};
+ghost use Rattle.std.specs.Prelude.{◌≡◌, ◌≢◌, ◌<◌, List, ℕ, None, Some, IfOk, IfSome, IsSomeAnd, IsTrue, map, string_bytes};
 ghost use Rattle.blz_outside.specs.Counts.{Rose};
-ghost use Rattle.blz_outside.specs.Files.{told_bytes};
 ghost use Rattle.blazes_cli.specs.Words as asking;
-ghost use Rattle.blazes_cli.specs.Answer.{FilesStates, IsReply, IsReached};
-ghost use Rattle.blazes_cli.specs.Outcome.{SinkStates, IsSaid, IsOutcome, IsUsageOrLost, IsReadFaultOrLost};
+ghost use Rattle.blazes_cli.specs.Answer.{files_states, IsReply, IsHeld};
+ghost use Rattle.blazes_cli.specs.Outcome.{sink_states, IsSaid, IsOutcome, IsUsageOrLost, IsReadFaultOrLost};
 
 use crate::reply::{Reply, line_reply, name_reply};
 use crate::status::Status;
@@ -17,7 +16,10 @@ const USAGE: &str =
     "usage: blazes label|derive|plan TOPOLOGY | run TOPOLOGY DATA SCHEDULE | make TOPOLOGY DATA [--seed N] | soak [--seed N] [--count N] | shard TOPOLOGY COMPONENT COLUMN BOUND.. | restart TOPOLOGY DATA SCHEDULE | witness TOPOLOGY DATA SCHEDULE SCHEDULE | why TOPOLOGY DATA SCHEDULE STREAM REPLICA INDEX\n";
 
 fn label<F: Files>(alloc: Global, topology: &str, files: &mut F) -> Result<Reply, AllocError>
-    ensures { IfOk result (λ reply. (given : List (List ℕ)) → asking.request_of given ≡ Some (asking.label topology.now) → IsReply given (record { held = F.held files.old; steady = F.steady files.old; faults = F.faults files.old; faults_after = F.faults files.new }) reply.status reply.text.items) }
+    ensures { IfOk result (λ reply. (given : List (List ℕ)) →
+        asking.request_of given ≡ Some (asking.label topology.now) → IsReply given
+        (files_states (F.held files.old) (F.steady files.old) (F.faults files.old) (F.faults files.new))
+        reply.status reply.text.items) }
 {
     let mut text = Vec::new(alloc);
     match files.read(topology, TOPOLOGY_LIMIT, &mut text) {
@@ -31,7 +33,9 @@ fn label<F: Files>(alloc: Global, topology: &str, files: &mut F) -> Result<Reply
 }
 
 fn reply_to<F: Files>(alloc: Global, words: &[String], files: &mut F) -> Result<Reply, AllocError>
-    ensures { IfOk result (λ reply. IsReply (map string_bytes words.now) (record { held = F.held files.old; steady = F.steady files.old; faults = F.faults files.old; faults_after = F.faults files.new }) reply.status reply.text.items) }
+    ensures { IfOk result (λ reply. IsReply (map string_bytes words.now)
+        (files_states (F.held files.old) (F.steady files.old) (F.faults files.old) (F.faults files.new))
+        reply.status reply.text.items) }
 {
     match request_of(alloc, words)? {
         Some(Request::Label { topology }) => label(alloc, topology, files),
@@ -40,7 +44,10 @@ fn reply_to<F: Files>(alloc: Global, words: &[String], files: &mut F) -> Result<
 }
 
 fn say<K: Sink>(out: &mut K, status: Status, text: &[u8]) -> Status
-    ensures { IsSaid (record { written = K.written out.old; written_after = K.written out.new; room = K.room out.old; room_after = K.room out.new; faults = K.faults out.old; faults_after = K.faults out.new }) status text.now result }
+    ensures { IsSaid
+        (sink_states (K.written out.old) (K.written out.new) (K.room out.old) (K.room out.new)
+        (K.faults out.old) (K.faults out.new))
+        status text.now result }
 {
     match out.put(text) {
         Ok(()) => status,
@@ -57,8 +64,9 @@ pub fn blazes<F: Files, K: Sink>(
     out: &mut K,
 ) -> Status
     ensures outcome { IsOutcome (map string_bytes words.now)
-        (record { held = F.held files.old; steady = F.steady files.old; faults = F.faults files.old; faults_after = F.faults files.new })
-        (record { written = K.written out.old; written_after = K.written out.new; room = K.room out.old; room_after = K.room out.new; faults = K.faults out.old; faults_after = K.faults out.new })
+        (files_states (F.held files.old) (F.steady files.old) (F.faults files.old) (F.faults files.new))
+        (sink_states (K.written out.old) (K.written out.new) (K.room out.old) (K.room out.new)
+        (K.faults out.old) (K.faults out.new))
         result }
 
     // Usage comes exactly where the words ask for nothing that is built.
@@ -70,10 +78,14 @@ pub fn blazes<F: Files, K: Sink>(
     ensures read { result ≡ Status.ReadFault → Rose (F.faults files.old) (F.faults files.new) }
     ensures read_counted { F.faults files.old < F.faults files.new → IsReadFaultOrLost result }
 
-    // A steady source that holds each name that is reached gives no ReadFault.
-    ensures steady { IsTrue (F.steady files.old) →
-        IfSome (asking.request_of (map string_bytes words.now)) (λ asked. (name : List ℕ) → IsReached asked name → IsSome (told_bytes (F.held files.old) name)) →
+    // A steady source gives no ReadFault where it holds each name that is reached, and no answer but
+    // ReadFault or a lost one where it doesn't.
+    ensures steady_held { IsTrue (F.steady files.old) →
+        IfSome (asking.request_of (map string_bytes words.now)) (IsHeld (F.held files.old)) →
         result ≢ Status.ReadFault }
+    ensures steady_absent { IsTrue (F.steady files.old) →
+        IsSomeAnd (asking.request_of (map string_bytes words.now)) (λ asked. ¬ IsHeld (F.held files.old) asked) →
+        IsReadFaultOrLost result }
 
     // WriteFault comes only where the count of the sink's faults rose, and always where it is greater.
     ensures write { result ≡ Status.WriteFault → Rose (K.faults out.old) (K.faults out.new) }

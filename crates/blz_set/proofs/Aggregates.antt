@@ -1,5 +1,5 @@
 -- What is made of the values in a column: the first of them in order, the last, and the sum.
-use Rattle.std.proofs.Common.{◌≡◌, ℕ, zero, suc, ◌+◌, ◌-◌, ◌<◌, ◌≤◌, Bool, true, false, Option, Some, None, unwrap_or, option_map, List, [], ◌∷◌, ◌++◌, length, get_or, drop, map, fold, reverse, refl, ap, ◌∙◌, sym, subst, inl, inr, ◌⊎◌, arith, Bor}
+use Rattle.std.proofs.Common.{◌≡◌, ℕ, zero, suc, ◌+◌, ◌-◌, ◌<◌, ◌≤◌, Bool, true, false, Option, Some, None, unwrap_or, option_map, List, [], ◌∷◌, ◌++◌, length, get_or, drop, map, fold, reverse, refl, ap, ◌∙◌, sym, subst, inl, inr, ◌⊎◌, arith}
 use Rattle.std.specs.Prelude.{pos, ◌+ℤ◌}
 use Rattle.std.specs.List.{reduce}
 use Rattle.std.specs.List.Sorted.{IsStrictlySortedBy}
@@ -23,12 +23,16 @@ use Rattle.blz_value.specs.Test.{cell}
 use Rattle.blz_value.specs.Groups.{column_values, summand, exact_sum, first_value, values_in_order, least, greatest}
 use Rattle.blz_value.proofs.Membership.{Has-get_or, Contains-from_Has}
 use Rattle.blz_value.proofs.SetLemmas.{sorted_set_by, Has-set_by, Has-from_set_by}
-use Rattle.blz_set.specs.References.{shown}
+use Rattle.blz_set.specs.declared.entry.Entry.{Entry}
+use Rattle.blz_set.specs.declared.value_ref.ValueRef.{ValueRef}
+use Rattle.blz_set.specs.declared.value_ref.ValueRef.TheVariants.{Number}
+use Rattle.blz_set.specs.ValueRef.{value_of}
+use Rattle.blz_set.specs.Entry.{row_of, rows_of}
 
 -- ---- a sum, row by row
 
-pub exact_sum_step : (column : ℕ) (refs : List (Bor Row)) (i : ℕ) (r : Bor Row) → i < length refs → r ≡ get_or refs i r → exact_sum (column_values column (shown (drop i refs))) ≡ summand (cell r.now column) +ℤ exact_sum (column_values column (shown (drop (i + 1) refs)))
-exact_sum_step column refs i r lt is = ap (λ l. exact_sum (column_values column (shown l))) (drop_more refs i r lt ∙ ap (λ (q : Bor Row). q ∷ drop (i + 1) refs) (sym is))
+pub exact_sum_step : (column : ℕ) (refs : List Entry) (i : ℕ) (r : Entry) → i < length refs → r ≡ get_or refs i r → exact_sum (column_values column (rows_of (drop i refs))) ≡ summand (cell (row_of r) column) +ℤ exact_sum (column_values column (rows_of (drop (i + 1) refs)))
+exact_sum_step column refs i r lt is = ap (λ l. exact_sum (column_values column (rows_of l))) (drop_more refs i r lt ∙ ap (λ (q : Entry). q ∷ drop (i + 1) refs) (sym is))
 
 -- ---- the value that none is below, in an order
 
@@ -162,39 +166,37 @@ greatest_is (v ∷ values) =
     one_first (flip_args value_cmp) (back_total value_cmp_total) (λ x y e. sym (value_cmp_exact y x e)) (fold greater v values) (greatest (v ∷ values)) (v ∷ values)
     (IsFirst-of_fold (flip_args value_cmp) (back_total value_cmp_total) greater max_picks v values) (greatest_is_first (v ∷ values) (omega arith))
 
--- ---- the same behind references
+-- ---- the same of values that are lent
 
-pub lesser-now : (p q : Bor Value) → (min_by_ordering (value_cmp p.now q.now) p q).now ≡ lesser p.now q.now
-lesser-now p q = go (value_cmp p.now q.now)
+pub value_of-lesser : (p q : ValueRef) → value_of (min_by_ordering (value_cmp (value_of p) (value_of q)) p q) ≡ lesser (value_of p) (value_of q)
+value_of-lesser p q = go (value_cmp (value_of p) (value_of q))
   where
-    go : (o : Ordering) → (min_by_ordering o p q).now ≡ min_by_ordering o p.now q.now
+    go : (o : Ordering) → value_of (min_by_ordering o p q) ≡ min_by_ordering o (value_of p) (value_of q)
     go Less = refl
     go Equal = refl
     go Greater = refl
 
-pub greater-now : (p q : Bor Value) → (max_by_ordering (value_cmp p.now q.now) p q).now ≡ greater p.now q.now
-greater-now p q = go (value_cmp p.now q.now)
+pub value_of-greater : (p q : ValueRef) → value_of (max_by_ordering (value_cmp (value_of p) (value_of q)) p q) ≡ greater (value_of p) (value_of q)
+value_of-greater p q = go (value_cmp (value_of p) (value_of q))
   where
-    go : (o : Ordering) → (max_by_ordering o p q).now ≡ max_by_ordering o p.now q.now
+    go : (o : Ordering) → value_of (max_by_ordering o p q) ≡ max_by_ordering o (value_of p) (value_of q)
     go Less = refl
     go Equal = refl
     go Greater = refl
 
-unwrap_or-now : (picked : Option (Bor Value)) (other : Bor Value) → (unwrap_or picked other).now ≡ unwrap_or (option_map (λ (r : Bor Value). r.now) picked) other.now
-unwrap_or-now None other = refl
-unwrap_or-now (Some r) other = refl
+value_of-unwrap_or : (picked : Option ValueRef) (other : ValueRef) → value_of (unwrap_or picked other) ≡ unwrap_or (option_map value_of picked) (value_of other)
+value_of-unwrap_or None other = refl
+value_of-unwrap_or (Some r) other = refl
 
-values_shown : (column : ℕ) (refs : List (Bor Row)) → map (λ (r : Bor Row). cell r.now column) refs ≡ column_values column (shown refs)
-values_shown column [] = refl
-values_shown column (r ∷ refs) = ap (λ (l : List Value). cell r.now column ∷ l) (values_shown column refs)
+values_lent : (column : ℕ) (entries : List Entry) → map (λ (entry : Entry). cell (row_of entry) column) entries ≡ column_values column (rows_of entries)
+values_lent column [] = refl
+values_lent column (entry ∷ entries) = ap (λ (l : List Value). cell (row_of entry) column ∷ l) (values_lent column entries)
 
-module _ (column : ℕ) (refs : List (Bor Row)) (picked : Option (Bor Value)) (other : Bor Value) (none : other.now ≡ Int (pos 0)) where
-  pub least_picked : option_map (λ (r : Bor Value). r.now) picked ≡ reduce lesser (map (λ (r : Bor Row). cell r.now column) refs) → (unwrap_or picked other).now ≡ least (column_values column (shown refs))
+module _ (column : ℕ) (entries : List Entry) (picked : Option ValueRef) where
+  pub least_picked : option_map value_of picked ≡ reduce lesser (map (λ (entry : Entry). cell (row_of entry) column) entries) → value_of (unwrap_or picked (Number (pos 0))) ≡ least (column_values column (rows_of entries))
   least_picked e =
-      unwrap_or-now picked other ∙ ap (unwrap_or (option_map (λ (r : Bor Value). r.now) picked)) none
-      ∙ ap (λ (o : Option Value). unwrap_or o (Int (pos 0))) (e ∙ ap (reduce lesser) (values_shown column refs)) ∙ least_is (column_values column (shown refs))
+      value_of-unwrap_or picked (Number (pos 0)) ∙ ap (λ (o : Option Value). unwrap_or o (Int (pos 0))) (e ∙ ap (reduce lesser) (values_lent column entries)) ∙ least_is (column_values column (rows_of entries))
 
-  pub greatest_picked : option_map (λ (r : Bor Value). r.now) picked ≡ reduce greater (map (λ (r : Bor Row). cell r.now column) refs) → (unwrap_or picked other).now ≡ greatest (column_values column (shown refs))
+  pub greatest_picked : option_map value_of picked ≡ reduce greater (map (λ (entry : Entry). cell (row_of entry) column) entries) → value_of (unwrap_or picked (Number (pos 0))) ≡ greatest (column_values column (rows_of entries))
   greatest_picked e =
-      unwrap_or-now picked other ∙ ap (unwrap_or (option_map (λ (r : Bor Value). r.now) picked)) none
-      ∙ ap (λ (o : Option Value). unwrap_or o (Int (pos 0))) (e ∙ ap (reduce greater) (values_shown column refs)) ∙ greatest_is (column_values column (shown refs))
+      value_of-unwrap_or picked (Number (pos 0)) ∙ ap (λ (o : Option Value). unwrap_or o (Int (pos 0))) (e ∙ ap (reduce greater) (values_lent column entries)) ∙ greatest_is (column_values column (rows_of entries))

@@ -1,5 +1,5 @@
 -- A join, row by row.
-use Rattle.std.proofs.Common.{◌&&◌, ◌||◌, not, ◌≡◌, ℕ, ◌+◌, ◌<◌, Bool, true, false, cond, List, [], ◌∷◌, ◌++◌, length, get_or, take, drop, map, filter, Err, refl, ap, ◌∙◌, sym, subst, take-append-drop, arith, Bor}
+use Rattle.std.proofs.Common.{◌&&◌, ◌||◌, not, ◌≡◌, ℕ, ◌+◌, ◌<◌, Bool, true, false, cond, List, [], ◌∷◌, ◌++◌, length, get_or, take, drop, map, filter, Err, refl, ap, ◌∙◌, sym, subst, take-append-drop, arith}
 use Rattle.std.proofs.lemmas.List.{map-append, take_more, append_assoc, append-nil}
 use Rattle.std.proofs.lemmas.List.Concat.{flat_map-append}
 use Rattle.std.proofs.lemmas.List.Elements.{filter_agree}
@@ -18,11 +18,12 @@ use Rattle.blz_value.proofs.RowSets.{set_of-push, set_of-append_set, length-set_
 use Rattle.blz_set.specs.declared.fault.SetFault.{SetFault}
 use Rattle.blz_set.specs.declared.fault.SetFault.TheVariants.{TooManyRows, NoMemory}
 use Rattle.blz_set.specs.RecordSet.{row_limit}
-use Rattle.blz_set.specs.References.{shown}
+use Rattle.blz_set.specs.declared.entry.Entry.{Entry}
+use Rattle.blz_set.specs.Entry.{row_of, rows_of}
 use Rattle.blz_set.specs.Index.{has_key, HaveSameRuns}
 use Rattle.blz_set.specs.Pairs.{lefts_of, rights_of}
 use Rattle.blz_set.specs.Answers.{Gives, Becomes, Grows}
-use Rattle.blz_set.proofs.Keys.{shown_more}
+use Rattle.blz_set.proofs.Keys.{rows_of_more}
 
 -- the values from a column on whose columns stand in no pair
 abbrev pub unpaired_from : Pairs → ℕ → Row → Row
@@ -68,7 +69,7 @@ module _ (pairs : Pairs) (left : Row) (others rows ordered : List Row) (columns 
       ap (λ r. with_key r (cells ls left) ordered) of_index ∙ runs (cells ls left) ∙ ap (with_key rs (cells ls left)) all
       ∙ ap (λ r. with_key r (cells ls left) others) of_rights ∙ ap (λ l. with_key (rights_of pairs) (cells l left) others) of_lefts ∙ sym (agreeing pairs left others)
 
-  pub run_agrees : (run : List (Bor Row)) → shown run ≡ with_key columns (cells ls left) ordered → map (joined pairs left) (shown run) ≡ map (joined pairs left) (filter (agree pairs left) others)
+  pub run_agrees : (run : List Entry) → rows_of run ≡ with_key columns (cells ls left) ordered → map (joined pairs left) (rows_of run) ≡ map (joined pairs left) (filter (agree pairs left) others)
   run_agrees run e = ap (map (joined pairs left)) (e ∙ same_run)
 
   pub has_agrees : (found : Bool) → found ≡ list_any (has_key columns (cells ls left)) ordered → found ≡ list_any (agree pairs left) others
@@ -82,13 +83,13 @@ module _ (pairs : Pairs) (left : Row) (others rows ordered : List Row) (columns 
 -- ---- steps
 
 module _ (pairs : Pairs) (left : Row) where
-  pub joined_more : (run : List (Bor Row)) (i : ℕ) (r : Bor Row) → i < length run → r ≡ get_or run i r → map (joined pairs left) (shown (take (i + 1) run)) ≡ map (joined pairs left) (shown (take i run)) ++ joined pairs left r.now ∷ []
-  joined_more run i r lt is = ap (map (joined pairs left)) (shown_more run i r lt is) ∙ map-append (joined pairs left) (shown (take i run)) (r.now ∷ [])
+  pub joined_more : (run : List Entry) (i : ℕ) (r : Entry) → i < length run → r ≡ get_or run i r → map (joined pairs left) (rows_of (take (i + 1) run)) ≡ map (joined pairs left) (rows_of (take i run)) ++ joined pairs left (row_of r) ∷ []
+  joined_more run i r lt is = ap (map (joined pairs left)) (rows_of_more run i r lt is) ∙ map-append (joined pairs left) (rows_of (take i run)) ((row_of r) ∷ [])
 
-  pub joined_split : (n : ℕ) (run : List (Bor Row)) → map (joined pairs left) (shown run) ≡ map (joined pairs left) (shown (take n run)) ++ map (joined pairs left) (shown (drop n run))
+  pub joined_split : (n : ℕ) (run : List Entry) → map (joined pairs left) (rows_of run) ≡ map (joined pairs left) (rows_of (take n run)) ++ map (joined pairs left) (rows_of (drop n run))
   joined_split n run =
-      ap (λ (l : List (Bor Row)). map (joined pairs left) (shown l)) (sym (take-append-drop n run))
-      ∙ ap (map (joined pairs left)) (map-append (λ (r : Bor Row). r.now) (take n run) (drop n run)) ∙ map-append (joined pairs left) (shown (take n run)) (shown (drop n run))
+      ap (λ (l : List Entry). map (joined pairs left) (rows_of l)) (sym (take-append-drop n run))
+      ∙ ap (map (joined pairs left)) (map-append row_of (take n run) (drop n run)) ∙ map-append (joined pairs left) (rows_of (take n run)) (rows_of (drop n run))
 
 module _ (pairs : Pairs) (rights : List Row) where
   joins : Row → List Row

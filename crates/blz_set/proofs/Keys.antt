@@ -1,5 +1,5 @@
 -- The keys of rows in order: the first row of each run gives the set of the keys.
-use Rattle.std.proofs.Common.{◌≡◌, ℕ, ◌+◌, ◌-◌, ◌<◌, ◌≤◌, Bool, true, false, cond, map, filter, List, [], ◌∷◌, ◌++◌, length, get_or, take, refl, ap, ◌∙◌, sym, subst, inl, inr, arith, Bor}
+use Rattle.std.proofs.Common.{◌≡◌, ℕ, ◌+◌, ◌-◌, ◌<◌, ◌≤◌, Bool, true, false, cond, map, filter, List, [], ◌∷◌, ◌++◌, length, get_or, take, refl, ap, ◌∙◌, sym, subst, inl, inr, arith}
 use Rattle.std.specs.declared.cmp.Ordering.{Ordering}
 use Rattle.std.specs.declared.cmp.Ordering.TheVariants.{Less, Equal, Greater}
 use Rattle.std.specs.Ordering.{ordering_reverse, ordering_then, is_eq, is_lt, is_ne}
@@ -22,17 +22,18 @@ use Rattle.blz_value.proofs.SetLemmas.{all_has, all_from_has}
 use Rattle.blz_value.proofs.SetLaws.{sorted_set_of, Has-from_set_of, members_set_of}
 use Rattle.blz_value.proofs.Membership.{Has-map, Has-from_map, Has-get_or, Contains-from_Has, Has-filter, Has-from_filter, map_members, filter_members}
 use Rattle.blz_value.proofs.RowSets.{same_set_of, is_set_of, set_of-push_above, set_of-push_present, length-set_of-le}
-use Rattle.blz_set.specs.References.{shown}
+use Rattle.blz_set.specs.declared.entry.Entry.{Entry}
+use Rattle.blz_set.specs.Entry.{row_of, rows_of}
 use Rattle.blz_set.specs.Groups.{grouped, is_often}
 use Rattle.blz_set.specs.RecordSet.{IsRecordSet, row_limit}
 use Rattle.blz_set.specs.Index.{has_key, InOrder, HaveSameRuns}
 use Rattle.blz_set.proofs.RecordSets.{length-filter-le, filter-push}
 
-pub shown-push : (refs : List (Bor Row)) (r : Bor Row) → shown (refs ++ r ∷ []) ≡ shown refs ++ r.now ∷ []
-shown-push refs r = map-append (λ (q : Bor Row). q.now) refs (r ∷ [])
+pub rows_of-push : (refs : List Entry) (r : Entry) → rows_of (refs ++ r ∷ []) ≡ rows_of refs ++ (row_of r) ∷ []
+rows_of-push refs r = map-append row_of refs (r ∷ [])
 
-pub shown_more : (refs : List (Bor Row)) (i : ℕ) (r : Bor Row) → i < length refs → r ≡ get_or refs i r → shown (take (i + 1) refs) ≡ shown (take i refs) ++ r.now ∷ []
-shown_more refs i r lt is = ap shown (take_more refs i r lt ∙ ap (λ (q : Bor Row). take i refs ++ q ∷ []) (sym is)) ∙ shown-push (take i refs) r
+pub rows_of_more : (refs : List Entry) (i : ℕ) (r : Entry) → i < length refs → r ≡ get_or refs i r → rows_of (take (i + 1) refs) ≡ rows_of (take i refs) ++ (row_of r) ∷ []
+rows_of_more refs i r lt is = ap rows_of (take_more refs i r lt ∙ ap (λ (q : Entry). take i refs ++ q ∷ []) (sym is)) ∙ rows_of-push (take i refs) r
 
 pub keys-push : (columns : List ℕ) (rows : List Row) (row : Row) → project_rows columns (rows ++ row ∷ []) ≡ project_rows columns rows ++ cells columns row ∷ []
 keys-push columns rows row = map-append (cells columns) rows (row ∷ [])
@@ -60,57 +61,57 @@ tied Greater a b e h = cc
 
 -- ---- the keys so far
 
-pub none_at_first : (columns : List ℕ) (refs : List (Bor Row)) (i : ℕ) (q : Row) → i ≡ 0 → ¬ Has q (project_rows columns (shown (take i refs)))
-none_at_first columns refs i q e h = subst (λ (n : ℕ). Has q (project_rows columns (shown (take n refs)))) e h
+pub none_at_first : (columns : List ℕ) (refs : List Entry) (i : ℕ) (q : Row) → i ≡ 0 → ¬ Has q (project_rows columns (rows_of (take i refs)))
+none_at_first columns refs i q e h = subst (λ (n : ℕ). Has q (project_rows columns (rows_of (take n refs)))) e h
 
-module _ (columns : List ℕ) (refs : List (Bor Row)) (i : ℕ) (x : Bor Row) (lt : i < length refs) (is : x ≡ get_or refs i x) where
-  key : Bor Row → Row
-  key = λ (r : Bor Row). cells columns r.now
+module _ (columns : List ℕ) (refs : List Entry) (i : ℕ) (x : Entry) (lt : i < length refs) (is : x ≡ get_or refs i x) where
+  key : Entry → Row
+  key = λ (r : Entry). cells columns (row_of r)
 
-  pub keys_more : project_rows columns (shown (take (i + 1) refs)) ≡ project_rows columns (shown (take i refs)) ++ cells columns x.now ∷ []
-  keys_more = ap (project_rows columns) (shown_more refs i x lt is) ∙ keys-push columns (shown (take i refs)) x.now
+  pub keys_more : project_rows columns (rows_of (take (i + 1) refs)) ≡ project_rows columns (rows_of (take i refs)) ++ cells columns (row_of x) ∷ []
+  keys_more = ap (project_rows columns) (rows_of_more refs i x lt is) ∙ keys-push columns (rows_of (take i refs)) (row_of x)
 
   -- a row with a key that is above all goes to the firsts
-  pub first_key : (firsts : List (Bor Row)) → ((q : Row) → Has q (project_rows columns (shown (take i refs))) → record_cmp q (cells columns x.now) ≡ Less) → project_rows columns (shown firsts) ≡ set_of (project_rows columns (shown (take i refs)))
-      → project_rows columns (shown (firsts ++ x ∷ [])) ≡ set_of (project_rows columns (shown (take (i + 1) refs)))
+  pub first_key : (firsts : List Entry) → ((q : Row) → Has q (project_rows columns (rows_of (take i refs))) → record_cmp q (cells columns (row_of x)) ≡ Less) → project_rows columns (rows_of firsts) ≡ set_of (project_rows columns (rows_of (take i refs)))
+      → project_rows columns (rows_of (firsts ++ x ∷ [])) ≡ set_of (project_rows columns (rows_of (take (i + 1) refs)))
   first_key firsts above so_far =
-      ap (project_rows columns) (shown-push firsts x) ∙ keys-push columns (shown firsts) x.now
-      ∙ ap (λ keys. keys ++ cells columns x.now ∷ []) so_far
-      ∙ sym (ap set_of keys_more ∙ set_of-push_above (cells columns x.now) (project_rows columns (shown (take i refs))) above)
+      ap (project_rows columns) (rows_of-push firsts x) ∙ keys-push columns (rows_of firsts) (row_of x)
+      ∙ ap (λ keys. keys ++ cells columns (row_of x) ∷ []) so_far
+      ∙ sym (ap set_of keys_more ∙ set_of-push_above (cells columns (row_of x)) (project_rows columns (rows_of (take i refs))) above)
 
-  module _ (y : Bor Row) (some : 0 < i) (last : y ≡ get_or refs (i - 1) y) where
+  module _ (y : Entry) (some : 0 < i) (last : y ≡ get_or refs (i - 1) y) where
     -- a row that differs from the one before it is above all before it
-    pub above_all : InOrder columns refs → is_ne (record_cmp (cells columns y.now) (cells columns x.now)) ≡ true → (q : Row) → Has q (project_rows columns (shown (take i refs))) → record_cmp q (cells columns x.now) ≡ Less
+    pub above_all : InOrder columns refs → is_ne (record_cmp (cells columns (row_of y)) (cells columns (row_of x))) ≡ true → (q : Row) → Has q (project_rows columns (rows_of (take i refs))) → record_cmp q (cells columns (row_of x)) ≡ Less
     above_all order ne q h =
-        let cmp : Bor Row → Bor Row → Ordering = λ (a b : Bor Row). record_cmp (cells columns a.now) (cells columns b.now) in
-        let row = Has-from_map (cells columns) q (shown (take i refs)) h in
-        let ref = Has-from_map (λ (r : Bor Row). r.now) row.0 (take i refs) row.1 in
-        let r : Bor Row = ref.0 in
+        let cmp : Entry → Entry → Ordering = λ (a b : Entry). record_cmp (cells columns (row_of a)) (cells columns (row_of b)) in
+        let row = Has-from_map (cells columns) q (rows_of (take i refs)) h in
+        let ref = Has-from_map row_of row.0 (take i refs) row.1 in
+        let r : Entry = ref.0 in
         let place = Contains-from_Has (take i refs) r ref.1 in
         let below : place.0 < i = omega (arith, place.1, length-take-le i refs (omega arith)) in
         let at : get_or refs place.0 r ≡ r = sym (get_or-take i refs place.0 r below) ∙ place.2 in
         let far : is_lt (cmp y r) ≡ false =
-        subst (λ (b : Bor Row). is_lt (cmp y b) ≡ false) at
-        (subst (λ (a : Bor Row). is_lt (cmp a (get_or refs place.0 r)) ≡ false) (get_or_default refs (i - 1) r y (omega arith) ∙ sym last)
-        (sorted_far (λ a b. is_lt (cmp a b)) (ranks_by record_cmp_total (λ (b : Bor Row). cells columns b.now)) refs order place.0 (i - 1) r (omega arith) (omega arith))) in
+        subst (λ (b : Entry). is_lt (cmp y b) ≡ false) at
+        (subst (λ (a : Entry). is_lt (cmp a (get_or refs place.0 r)) ≡ false) (get_or_default refs (i - 1) r y (omega arith) ∙ sym last)
+        (sorted_far (λ a b. is_lt (cmp a b)) (ranks_by record_cmp_total (λ (b : Entry). cells columns (row_of b))) refs order place.0 (i - 1) r (omega arith) (omega arith))) in
         let next : is_lt (cmp x y) ≡ false =
-        subst (λ (a : Bor Row). is_lt (cmp a y) ≡ false) (get_or_default refs i y x lt ∙ sym is)
-        (subst (λ (b : Bor Row). is_lt (cmp (get_or refs i y) b) ≡ false) (sym last)
-        (sorted_far (λ a b. is_lt (cmp a b)) (ranks_by record_cmp_total (λ (b : Bor Row). cells columns b.now)) refs order (i - 1) i y (omega arith) lt)) in
-        let less : cmp y x ≡ Less = less_is (cmp y x) (cmp x y) (record_cmp_total.antisymm (cells columns y.now) (cells columns x.now)) ne next in
-        let same : cells columns r.now ≡ q = ap (cells columns) ref.2 ∙ row.2 in
-        subst (λ (k : Row). record_cmp k (cells columns x.now) ≡ Less) same
-        (at_most (cmp r y) (cmp y r) (cells columns r.now) (cells columns y.now) (cells columns x.now) refl refl (record_cmp_total.antisymm (cells columns r.now) (cells columns y.now)) far less)
+        subst (λ (a : Entry). is_lt (cmp a y) ≡ false) (get_or_default refs i y x lt ∙ sym is)
+        (subst (λ (b : Entry). is_lt (cmp (get_or refs i y) b) ≡ false) (sym last)
+        (sorted_far (λ a b. is_lt (cmp a b)) (ranks_by record_cmp_total (λ (b : Entry). cells columns (row_of b))) refs order (i - 1) i y (omega arith) lt)) in
+        let less : cmp y x ≡ Less = less_is (cmp y x) (cmp x y) (record_cmp_total.antisymm (cells columns (row_of y)) (cells columns (row_of x))) ne next in
+        let same : cells columns (row_of r) ≡ q = ap (cells columns) ref.2 ∙ row.2 in
+        subst (λ (k : Row). record_cmp k (cells columns (row_of x)) ≡ Less) same
+        (at_most (cmp r y) (cmp y r) (cells columns (row_of r)) (cells columns (row_of y)) (cells columns (row_of x)) refl refl (record_cmp_total.antisymm (cells columns (row_of r)) (cells columns (row_of y))) far less)
 
     -- a row with the key of the one before it adds no key
-    pub same_key : (firsts : List (Bor Row)) → is_ne (record_cmp (cells columns y.now) (cells columns x.now)) ≡ false → project_rows columns (shown firsts) ≡ set_of (project_rows columns (shown (take i refs)))
-        → project_rows columns (shown firsts) ≡ set_of (project_rows columns (shown (take (i + 1) refs)))
+    pub same_key : (firsts : List Entry) → is_ne (record_cmp (cells columns (row_of y)) (cells columns (row_of x))) ≡ false → project_rows columns (rows_of firsts) ≡ set_of (project_rows columns (rows_of (take i refs)))
+        → project_rows columns (rows_of firsts) ≡ set_of (project_rows columns (rows_of (take (i + 1) refs)))
     same_key firsts eq so_far =
-        let same = tied (record_cmp (cells columns y.now) (cells columns x.now)) (cells columns y.now) (cells columns x.now) refl eq in
+        let same = tied (record_cmp (cells columns (row_of y)) (cells columns (row_of x))) (cells columns (row_of y)) (cells columns (row_of x)) refl eq in
         let at : get_or (take i refs) (i - 1) y ≡ y = get_or-take i refs (i - 1) y (omega arith) ∙ sym last in
-        let has : Has y (take i refs) = subst (λ (r : Bor Row). Has r (take i refs)) at (Has-get_or (take i refs) (i - 1) y (omega (arith, length-take-le i refs (omega arith)))) in
-        let held = Has-map (cells columns) y.now (shown (take i refs)) (Has-map (λ (r : Bor Row). r.now) y (take i refs) has) in
-        so_far ∙ sym (ap set_of keys_more ∙ set_of-push_present (cells columns x.now) (project_rows columns (shown (take i refs))) (subst (λ (k : Row). Has k (project_rows columns (shown (take i refs)))) same held))
+        let has : Has y (take i refs) = subst (λ (r : Entry). Has r (take i refs)) at (Has-get_or (take i refs) (i - 1) y (omega (arith, length-take-le i refs (omega arith)))) in
+        let held = Has-map (cells columns) (row_of y) (rows_of (take i refs)) (Has-map row_of y (take i refs) has) in
+        so_far ∙ sym (ap set_of keys_more ∙ set_of-push_present (cells columns (row_of x)) (project_rows columns (rows_of (take i refs))) (subst (λ (k : Row). Has k (project_rows columns (rows_of (take i refs)))) same held))
 
 -- ---- sets of keys
 
@@ -134,13 +135,13 @@ keys_are columns own rows self ordered firsts of_index runs all e =
     subst (λ (cs : List ℕ). project_rows cs firsts ≡ set_of (project_rows cs ordered)) of_index e ∙ same_keys columns rows ordered runs ∙ ap (λ (l : List Row). set_of (project_rows columns l)) all
 
 -- a run of the index is a run of the set
-pub run_is : (columns own : List ℕ) (key : Row) (rows self ordered : List Row) (run : List (Bor Row)) → own ≡ columns → HaveSameRuns columns ordered rows → rows ≡ self → shown run ≡ with_key own key ordered → shown run ≡ with_key columns key self
+pub run_is : (columns own : List ℕ) (key : Row) (rows self ordered : List Row) (run : List Entry) → own ≡ columns → HaveSameRuns columns ordered rows → rows ≡ self → rows_of run ≡ with_key own key ordered → rows_of run ≡ with_key columns key self
 run_is columns own key rows self ordered run of_index runs all e = e ∙ ap (λ (cs : List ℕ). with_key cs key ordered) of_index ∙ runs key ∙ ap (with_key columns key) all
 
-pub length-run : (columns : List ℕ) (key : Row) (rows : List Row) (run : List (Bor Row)) → shown run ≡ with_key columns key rows → length run ≡ length (with_key columns key rows)
-length-run columns key rows run e = sym (length-map run (λ (r : Bor Row). r.now)) ∙ ap length e
+pub length-run : (columns : List ℕ) (key : Row) (rows : List Row) (run : List Entry) → rows_of run ≡ with_key columns key rows → length run ≡ length (with_key columns key rows)
+length-run columns key rows run e = sym (length-map run row_of) ∙ ap length e
 
-pub length-run-le : (columns : List ℕ) (key : Row) (rows : List Row) (run : List (Bor Row)) → IsRecordSet rows → shown run ≡ with_key columns key rows → length run ≤ row_limit
+pub length-run-le : (columns : List ℕ) (key : Row) (rows : List Row) (run : List Entry) → IsRecordSet rows → rows_of run ≡ with_key columns key rows → length run ≤ row_limit
 length-run-le columns key rows run h e = omega (arith, length-run columns key rows run e, length-filter-le (has_key columns key) rows, h.small)
 
 -- ---- a value behind each key
@@ -202,8 +203,8 @@ module _ (columns : List ℕ) (rows keys : List Row) (all : keys ≡ set_of (pro
     often_few bound = omega (arith, keys_few, length-filter-le (is_often columns bound rows) keys)
 
 -- a step over the keys that occur often
-pub often_more : (columns : List ℕ) (bound : ℕ) (rows : List Row) (refs : List (Bor Row)) (i : ℕ) (r : Bor Row) (b : Bool) → i < length refs → r ≡ get_or refs i r → is_often columns bound rows (cells columns r.now) ≡ b
-    → filter (is_often columns bound rows) (project_rows columns (shown (take (i + 1) refs))) ≡ filter (is_often columns bound rows) (project_rows columns (shown (take i refs))) ++ cond b (cells columns r.now ∷ []) []
+pub often_more : (columns : List ℕ) (bound : ℕ) (rows : List Row) (refs : List Entry) (i : ℕ) (r : Entry) (b : Bool) → i < length refs → r ≡ get_or refs i r → is_often columns bound rows (cells columns (row_of r)) ≡ b
+    → filter (is_often columns bound rows) (project_rows columns (rows_of (take (i + 1) refs))) ≡ filter (is_often columns bound rows) (project_rows columns (rows_of (take i refs))) ++ cond b (cells columns (row_of r) ∷ []) []
 often_more columns bound rows refs i r b lt is e =
     ap (filter (is_often columns bound rows)) (keys_more columns refs i r lt is)
-    ∙ filter-push (is_often columns bound rows) (project_rows columns (shown (take i refs))) (cells columns r.now) b e
+    ∙ filter-push (is_often columns bound rows) (project_rows columns (rows_of (take i refs))) (cells columns (row_of r)) b e

@@ -6,8 +6,8 @@ use Rattle.std.specs.Ordering.{ordering_reverse, ordering_index, is_lt, is_eq, i
 use Rattle.std.specs.Fn.{Called, ComparesAs}
 use Rattle.std.proofs.lemmas.Fn.{always_returns_same}
 use denote.Param.Members.{Mut}
-use Rattle.std.specs.List.{AllWithin, list_any}
-use Rattle.std.specs.List.Sorted.{IsNonDecreasingBy, IsPartitionedBy, IsStableBy, ties}
+use Rattle.std.specs.List.{All, AllWithin, list_any}
+use Rattle.std.specs.List.Sorted.{IsNonDecreasingBy, IsPartitionedBy, IsPartitionPoint, IsSortedByKey, IsStableBy, ties}
 use Rattle.std.proofs.lemmas.List.{get_or-drop, get_or_default, drop_more, length-drop}
 use Rattle.std.proofs.lemmas.List.Elements.{filter_agree}
 use Rattle.std.proofs.lemmas.List.Sorted.{searchable_from_sorted}
@@ -16,8 +16,9 @@ use Rattle.blz_value.specs.RecordOrder.{record_cmp_total, record_cmp_exact}
 use Rattle.blz_value.specs.Operators.{cells}
 use Rattle.blz_value.specs.Groups.{with_key}
 use Rattle.blz_value.proofs.Membership.{Has-from_any}
-use Rattle.blz_set.specs.References.{shown}
-use Rattle.blz_set.specs.Index.{has_key, is_below, InOrder, StartsAt, HaveSameRuns}
+use Rattle.blz_set.specs.declared.entry.Entry.{Entry}
+use Rattle.blz_set.specs.Entry.{row_of, rows_of, entry_key}
+use Rattle.blz_set.specs.Index.{HaveKeys, has_key, is_below, InOrder, StartsAt, HaveSameRuns}
 
 -- ---- filters
 
@@ -42,8 +43,8 @@ any-map f p [] = refl
 any-map f p (x ∷ xs) = ap (λ b. p (f x) || b) (any-map f p xs)
 
 -- the rows with a key, behind references
-with_key-shown : (columns : List ℕ) (key : Row) (refs : List (Bor Row)) → with_key columns key (shown refs) ≡ shown (filter (λ r. has_key columns key r.now) refs)
-with_key-shown columns key refs = filter-map (λ (r : Bor Row). r.now) (has_key columns key) refs
+with_key-rows_of : (columns : List ℕ) (key : Row) (refs : List Entry) → with_key columns key (rows_of refs) ≡ rows_of (filter (λ r. has_key columns key (row_of r)) refs)
+with_key-rows_of columns key refs = filter-map row_of (has_key columns key) refs
 
 -- ---- a stable sort keeps the rows with each key as they stood
 
@@ -79,9 +80,43 @@ module _ {X : Type 0} (f : X → Row) (xs ys : List X) (stable : IsStableBy (λ 
   stable_at : (key : Row) → filter (λ y. is_eq (record_cmp (f y) key)) ys ≡ filter (λ y. is_eq (record_cmp (f y) key)) xs
   stable_at key = at_any key (list_any (λ y. is_eq (record_cmp (f y) key)) xs) (list_any (λ y. is_eq (record_cmp (f y) key)) ys) refl refl
 
-pub sorted_runs : (columns : List ℕ) (rows : List Row) (refs sorted : List (Bor Row)) → shown refs ≡ rows → IsStableBy (λ x y. is_lt (record_cmp (cells columns x.now) (cells columns y.now))) refs sorted → HaveSameRuns columns (shown sorted) rows
-sorted_runs columns rows refs sorted e stable key =
-    with_key-shown columns key sorted ∙ ap shown (stable_at (λ r. cells columns r.now) refs sorted stable key) ∙ sym (with_key-shown columns key refs) ∙ ap (with_key columns key) e
+-- tests that agree on all elements keep the same
+filter_alike : {X : Type 0} (p q : X → Bool) (xs : List X) → All (λ x. p x ≡ q x) xs → filter p xs ≡ filter q xs
+filter_alike p q [] same = refl
+filter_alike p q (x ∷ xs) same = rw (same 0 x (omega arith)) (ap (λ l. cond (q x) (x ∷ l) l) (filter_alike p q xs (λ k d lt. same (suc k) d (omega arith))))
+
+module _ (columns : List ℕ) (entries : List Entry) (keys : HaveKeys columns entries) where
+  -- the rows with a key are those of the entries with the key
+  with_key-entries : (key : Row) → with_key columns key (rows_of entries) ≡ rows_of (filter (λ entry. is_eq (record_cmp (entry_key columns entry) key)) entries)
+  with_key-entries key =
+      with_key-rows_of columns key entries
+      ∙ ap rows_of (filter_alike (λ entry. has_key columns key (row_of entry)) (λ entry. is_eq (record_cmp (entry_key columns entry) key)) entries (λ k d lt. ap (λ own. is_eq (record_cmp own key)) (sym (keys k d lt))))
+
+  -- entries in the order of their keys
+  pub order_of_keys : IsSortedByKey (entry_key columns) record_cmp entries → InOrder columns entries
+  order_of_keys sorted k d low high =
+      ap is_lt (ap (λ own. record_cmp own (cells columns (row_of (get_or entries k d)))) (sym (keys (k + 1) d high)) ∙ ap (record_cmp (entry_key columns (get_or entries (k + 1) d))) (sym (keys k d (omega arith)))) ∙ sorted k d low high
+
+  -- the key of an entry at a place
+  pub key_at : (k : ℕ) (entry : Entry) → k < length entries → entry ≡ get_or entries k entry → entry_key columns entry ≡ cells columns (row_of entry)
+  key_at k entry lt is = subst (λ (x : Entry). entry_key columns x ≡ cells columns (row_of x)) (sym is) (keys k entry lt)
+
+  -- how an entry compares by its key
+  pub compared : (k : ℕ) (entry : Entry) → k < length entries → entry ≡ get_or entries k entry → (key own : Row) → own ≡ key → (order : Ordering) → order ≡ record_cmp (entry_key columns entry) own → order ≡ record_cmp (cells columns (row_of entry)) key
+  compared k entry lt is key own same order e =
+      e ∙ ap (record_cmp (entry_key columns entry)) same ∙ ap (λ mine. record_cmp mine key) (key_at k entry lt is)
+
+-- the entries from a place on have their keys too
+pub keys_from : (columns : List ℕ) (entries rest : List Entry) (n : ℕ) → HaveKeys columns entries → rest ≡ drop n entries → HaveKeys columns rest
+keys_from columns entries rest n keys is k d lt =
+    let at : get_or rest k d ≡ get_or entries (n + k) d = ap (λ (l : List Entry). get_or l k d) is ∙ get_or-drop n entries k d in
+    let below : n + k < length entries = omega (arith, ap length is, length-drop n entries) in
+    subst (λ (entry : Entry). entry_key columns entry ≡ cells columns (row_of entry)) (sym at) (keys (n + k) d below)
+
+-- a stable sort of entries by their keys keeps the rows with each key
+pub sorted_runs : (columns : List ℕ) (rows : List Row) (entries sorted : List Entry) → HaveKeys columns entries → HaveKeys columns sorted → rows_of entries ≡ rows → IsStableBy (λ x y. is_lt (record_cmp (entry_key columns x) (entry_key columns y))) entries sorted → HaveSameRuns columns (rows_of sorted) rows
+sorted_runs columns rows entries sorted keys sorted_keys e stable key =
+    with_key-entries columns sorted sorted_keys key ∙ ap rows_of (stable_at (entry_key columns) entries sorted stable key) ∙ sym (with_key-entries columns entries keys key) ∙ ap (with_key columns key) e
 
 -- a closure that compares by a key
 pub compares : {F X : Type 0} {g : Mut F (Bor X × (Bor X × Unit {0})) Ordering} {f : F} (key : X → Row) → ((a : Bor X × (Bor X × Unit {0})) (r : Ordering) (f' : F) → Called g f a r f' → (r ≡ record_cmp (key a.0.now) (key a.1.0.now)) × (f' ≡ f)) → ComparesAs g (λ x y. is_lt (record_cmp (key x) (key y))) f
@@ -140,60 +175,68 @@ module _ {X : Type 0} (p : X → Bool) where
   any_drop [] (suc i) h = refl
   any_drop (x ∷ xs) (suc i) h = rw (h 0 x (omega arith) (omega arith)) (any_drop xs i (λ k d a b. h (suc k) d (omega arith) (omega arith)))
 
-module _ (columns : List ℕ) (key : Row) (refs : List (Bor Row)) (order : InOrder columns refs) where
-  rising : IsNonDecreasingBy (λ (r : Bor Row). ordering_index (record_cmp (cells columns r.now) key)) refs
-  rising = searchable_from_sorted record_cmp_total (λ (r : Bor Row). cells columns r.now) refs key order
+module _ (columns : List ℕ) (key : Row) (refs : List Entry) (order : InOrder columns refs) where
+  rising : IsNonDecreasingBy (λ (r : Entry). ordering_index (record_cmp (cells columns (row_of r)) key)) refs
+  rising = searchable_from_sorted record_cmp_total (λ (r : Entry). cells columns (row_of r)) refs key order
 
-  pub below_parts : IsPartitionedBy (λ (r : Bor Row). is_below columns key r.now) refs
-  below_parts i j d le lt e = below_down _ _ (rising i j d le lt) e
+  pub below_parts : HaveKeys columns refs → IsPartitionedBy (λ entry. is_lt (record_cmp (entry_key columns entry) key)) refs
+  below_parts keys i j d le lt e =
+      let at : (k : ℕ) → k < length refs → is_lt (record_cmp (entry_key columns (get_or refs k d)) key) ≡ is_below columns key (row_of (get_or refs k d)) = λ k below. ap (λ own. is_lt (record_cmp own key)) (keys k d below) in
+      at i (omega arith) ∙ below_down _ _ (rising i j d le lt) (sym (at j lt) ∙ e)
+
+  -- where the entries begin whose keys are not below
+  pub start_of_keys : HaveKeys columns refs → (i : ℕ) → i ≤ length refs → IsPartitionPoint (λ entry. is_lt (record_cmp (entry_key columns entry) key) ≡ true) (λ entry. is_lt (record_cmp (entry_key columns entry) key) ≡ false) refs i → StartsAt columns key refs i
+  start_of_keys keys i le parts =
+      let at : (k : ℕ) (d : Entry) → k < length refs → is_below columns key (row_of (get_or refs k d)) ≡ is_lt (record_cmp (entry_key columns (get_or refs k d)) key) = λ k d below. ap (λ own. is_lt (record_cmp own key)) (sym (keys k d below)) in
+      (λ k d low high. at k d (omega arith) ∙ parts.0 k d low high, λ k d low high. at k d high ∙ parts.1 k d low high)
 
   module _ (i : ℕ) (start : StartsAt columns key refs i) where
-    before : AllWithin (λ (r : Bor Row). has_key columns key r.now ≡ false) refs 0 i
-    before k d low high = less_ne (record_cmp (cells columns (get_or refs k d).now) key) (start.0 k d low high)
+    before : AllWithin (λ (r : Entry). has_key columns key (row_of r) ≡ false) refs 0 i
+    before k d low high = less_ne (record_cmp (cells columns (row_of (get_or refs k d))) key) (start.0 k d low high)
 
     -- after an element from the start on that lacks the key, all lack it
-    after : (n : ℕ) (x : Bor Row) → i ≤ n → n < length refs → x ≡ get_or refs n x → has_key columns key x.now ≡ false → AllWithin (λ (r : Bor Row). has_key columns key r.now ≡ false) refs n (length refs)
+    after : (n : ℕ) (x : Entry) → i ≤ n → n < length refs → x ≡ get_or refs n x → has_key columns key (row_of x) ≡ false → AllWithin (λ (r : Entry). has_key columns key (row_of r) ≡ false) refs n (length refs)
     after n x le lt is lacks k d low high =
-        let o : Bor Row → Ordering = λ (r : Bor Row). record_cmp (cells columns r.now) key in
+        let o : Entry → Ordering = λ (r : Entry). record_cmp (cells columns (row_of r)) key in
         let same : x ≡ get_or refs n d = is ∙ get_or_default refs n x d lt in
-        past_up (o (get_or refs n d)) (o (get_or refs k d)) (rising n k d low high) (start.1 n d le lt) (subst (λ (r : Bor Row). is_eq (o r) ≡ false) same lacks)
+        past_up (o (get_or refs n d)) (o (get_or refs k d)) (rising n k d low high) (start.1 n d le lt) (subst (λ (r : Entry). is_eq (o r) ≡ false) same lacks)
 
-    module _ (rest : List (Bor Row)) (is_rest : rest ≡ drop i refs) where
-      rest_at : (k : ℕ) (d : Bor Row) → get_or rest k d ≡ get_or refs (i + k) d
-      rest_at k d = ap (λ (l : List (Bor Row)). get_or l k d) is_rest ∙ get_or-drop i refs k d
+    module _ (rest : List Entry) (is_rest : rest ≡ drop i refs) where
+      rest_at : (k : ℕ) (d : Entry) → get_or rest k d ≡ get_or refs (i + k) d
+      rest_at k d = ap (λ (l : List Entry). get_or l k d) is_rest ∙ get_or-drop i refs k d
 
       -- the front of the rest is the run, where it has the key and the element behind it lacks it
-      front_is_run : (n : ℕ) → AllWithin (λ (r : Bor Row). has_key columns key r.now ≡ true) rest 0 n → AllWithin (λ (r : Bor Row). has_key columns key r.now ≡ false) rest n (length rest) → shown (take n rest) ≡ with_key columns key (shown refs)
+      front_is_run : (n : ℕ) → AllWithin (λ (r : Entry). has_key columns key (row_of r) ≡ true) rest 0 n → AllWithin (λ (r : Entry). has_key columns key (row_of r) ≡ false) rest n (length rest) → rows_of (take n rest) ≡ with_key columns key (rows_of refs)
       front_is_run n has lacks =
-          ap shown (filter_front (λ (r : Bor Row). has_key columns key r.now) rest n has lacks)
-          ∙ ap (λ (l : List (Bor Row)). shown (filter (λ (r : Bor Row). has_key columns key r.now) l)) is_rest
-          ∙ ap shown (filter_drop (λ (r : Bor Row). has_key columns key r.now) refs i before)
-          ∙ sym (with_key-shown columns key refs)
+          ap rows_of (filter_front (λ (r : Entry). has_key columns key (row_of r)) rest n has lacks)
+          ∙ ap (λ (l : List Entry). rows_of (filter (λ (r : Entry). has_key columns key (row_of r)) l)) is_rest
+          ∙ ap rows_of (filter_drop (λ (r : Entry). has_key columns key (row_of r)) refs i before)
+          ∙ sym (with_key-rows_of columns key refs)
 
-      pub run_to : i + length rest ≡ length refs → (n : ℕ) (x : Bor Row) → AllWithin (λ (r : Bor Row). has_key columns key r.now ≡ true) rest 0 n → n < length rest → x ≡ get_or rest n x → is_ne (record_cmp (cells columns x.now) key) ≡ true → shown (take n rest) ≡ with_key columns key (shown refs)
+      pub run_to : i + length rest ≡ length refs → (n : ℕ) (x : Entry) → AllWithin (λ (r : Entry). has_key columns key (row_of r) ≡ true) rest 0 n → n < length rest → x ≡ get_or rest n x → is_ne (record_cmp (cells columns (row_of x)) key) ≡ true → rows_of (take n rest) ≡ with_key columns key (rows_of refs)
       run_to whole n x has lt is ne =
-          let past = after (i + n) x (omega arith) (omega arith) (is ∙ rest_at n x) (ne_is (record_cmp (cells columns x.now) key) ne) in
-          front_is_run n has (λ k d low high. subst (λ (r : Bor Row). has_key columns key r.now ≡ false) (sym (rest_at k d)) (past (i + k) d (omega arith) (omega arith)))
+          let past = after (i + n) x (omega arith) (omega arith) (is ∙ rest_at n x) (ne_is (record_cmp (cells columns (row_of x)) key) ne) in
+          front_is_run n has (λ k d low high. subst (λ (r : Entry). has_key columns key (row_of r) ≡ false) (sym (rest_at k d)) (past (i + k) d (omega arith) (omega arith)))
 
-      pub run_all : (n : ℕ) → n ≡ length rest → AllWithin (λ (r : Bor Row). has_key columns key r.now ≡ true) rest 0 n → shown rest ≡ with_key columns key (shown refs)
-      run_all n whole has = ap shown (sym (take_all n rest (omega arith))) ∙ front_is_run n has (λ k d low high. absurd (omega arith))
+      pub run_all : (n : ℕ) → n ≡ length rest → AllWithin (λ (r : Entry). has_key columns key (row_of r) ≡ true) rest 0 n → rows_of rest ≡ with_key columns key (rows_of refs)
+      run_all n whole has = ap rows_of (sym (take_all n rest (omega arith))) ∙ front_is_run n has (λ k d low high. absurd (omega arith))
 
     -- the element at the start answers for all
-    pub start_tells : (x : Bor Row) → i < length refs → x ≡ get_or refs i x → is_eq (record_cmp (cells columns x.now) key) ≡ list_any (has_key columns key) (shown refs)
+    pub start_tells : (x : Entry) → i < length refs → x ≡ get_or refs i x → is_eq (record_cmp (cells columns (row_of x)) key) ≡ list_any (has_key columns key) (rows_of refs)
     start_tells x lt is =
-        let split : drop i refs ≡ x ∷ drop (i + 1) refs = drop_more refs i x lt ∙ ap (λ (r : Bor Row). r ∷ drop (i + 1) refs) (sym is) in
-        told (is_eq (record_cmp (cells columns x.now) key)) refl
-        ∙ sym (ap (list_any (λ (r : Bor Row). has_key columns key r.now)) split)
-        ∙ any_drop (λ (r : Bor Row). has_key columns key r.now) refs i before
-        ∙ sym (any-map (λ (r : Bor Row). r.now) (has_key columns key) refs)
+        let split : drop i refs ≡ x ∷ drop (i + 1) refs = drop_more refs i x lt ∙ ap (λ (r : Entry). r ∷ drop (i + 1) refs) (sym is) in
+        told (is_eq (record_cmp (cells columns (row_of x)) key)) refl
+        ∙ sym (ap (list_any (λ (r : Entry). has_key columns key (row_of r))) split)
+        ∙ any_drop (λ (r : Entry). has_key columns key (row_of r)) refs i before
+        ∙ sym (any-map row_of (has_key columns key) refs)
       where
-        told : (b : Bool) → is_eq (record_cmp (cells columns x.now) key) ≡ b → is_eq (record_cmp (cells columns x.now) key) ≡ list_any (λ (r : Bor Row). has_key columns key r.now) (x ∷ drop (i + 1) refs)
+        told : (b : Bool) → is_eq (record_cmp (cells columns (row_of x)) key) ≡ b → is_eq (record_cmp (cells columns (row_of x)) key) ≡ list_any (λ (r : Entry). has_key columns key (row_of r)) (x ∷ drop (i + 1) refs)
         told true e = rw e refl
         told false e =
             let past = after i x (omega arith) lt is e in
-            let none = none_within (λ (r : Bor Row). has_key columns key r.now) (drop (i + 1) refs)
-            (λ k d low high. subst (λ (r : Bor Row). has_key columns key r.now ≡ false) (sym (get_or-drop (i + 1) refs k d)) (past (i + 1 + k) d (omega arith) (omega (arith, length-drop (i + 1) refs)))) in
-            e ∙ sym (ap (λ b. b || list_any (λ (r : Bor Row). has_key columns key r.now) (drop (i + 1) refs)) e ∙ none)
+            let none = none_within (λ (r : Entry). has_key columns key (row_of r)) (drop (i + 1) refs)
+            (λ k d low high. subst (λ (r : Entry). has_key columns key (row_of r) ≡ false) (sym (get_or-drop (i + 1) refs k d)) (past (i + 1 + k) d (omega arith) (omega (arith, length-drop (i + 1) refs)))) in
+            e ∙ sym (ap (λ b. b || list_any (λ (r : Entry). has_key columns key (row_of r)) (drop (i + 1) refs)) e ∙ none)
 
-    pub none_starts : length refs ≤ i → false ≡ list_any (has_key columns key) (shown refs)
-    none_starts le = sym (any-map (λ (r : Bor Row). r.now) (has_key columns key) refs ∙ none_within (λ (r : Bor Row). has_key columns key r.now) refs (λ k d low high. before k d low (omega arith)))
+    pub none_starts : length refs ≤ i → false ≡ list_any (has_key columns key) (rows_of refs)
+    none_starts le = sym (any-map row_of (has_key columns key) refs ∙ none_within (λ (r : Entry). has_key columns key (row_of r)) refs (λ k d low high. before k d low (omega arith)))

@@ -2,10 +2,11 @@
 ghost use Rattle.std.specs.Prelude.{◌≡◌, ◌++◌, map, IfOk, OnOk};
 ghost use Rattle.blz_value.specs.Operators.{is_paired, unpaired, joined};
 ghost use Rattle.blz_set.specs.RecordSet.{IsRecordSet};
-ghost use Rattle.blz_set.specs.References.{shown};
+ghost use Rattle.blz_set.specs.Entry.{rows_of};
 ghost use Rattle.blz_set.specs.Pairs.{lefts_of, rights_of};
 ghost use Rattle.blz_set.specs.Answers.{Grows};
 
+use crate::entry::Entry;
 use crate::fault::SetFault;
 use crate::set::RecordSet;
 use blz_value::{Record, Value};
@@ -31,14 +32,14 @@ pub(crate) fn add_joined(
     alloc: Global,
     set: &mut RecordSet,
     left: &Record,
-    rights: &[&Record],
+    rights: &[Entry<'_>],
     pairs: &[(u32, u32)],
 ) -> Result<(), SetFault>
     requires { IsRecordSet set.old }
-    ensures { Grows set.old (map (joined pairs.now left.now) (shown rights.now)) set.new result }
+    ensures { Grows set.old (map (joined pairs.now left.now) (rows_of rights.now)) set.new result }
 {
     for right in rights {
-        let _ = set.insert(joined_row(alloc, left, *right, pairs)?)?;
+        let _ = set.insert(joined_row(alloc, left, right.row(), pairs)?)?;
     }
     Ok(())
 }

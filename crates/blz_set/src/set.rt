@@ -10,9 +10,10 @@ ghost use Rattle.blz_set.specs.RecordSet.{IsRecordSet, has_row, missing_from};
 ghost use Rattle.blz_set.specs.References.{shown};
 ghost use Rattle.blz_set.specs.Answers.{Gives, Becomes};
 
+use crate::entry::copy_cells;
 use crate::fault::SetFault;
 use crate::group::grouped_row;
-use crate::index::{Index, copy_cells};
+use crate::index::Index;
 use crate::join::{add_joined, left_columns, right_columns};
 use blz_value::{Agg, Record, Test, compare, holds};
 use std::alloc::{AllocError, Global};
@@ -188,7 +189,7 @@ impl RecordSet {
         let firsts = index.firsts(alloc)?;
         let mut rows = Vec::new(alloc);
         for first in &firsts {
-            rows.push(Record::from_values(copy_cells(alloc, *first, columns)?))?;
+            rows.push(Record::from_values(copy_cells(alloc, first.row(), columns)?))?;
         }
         Ok(RecordSet { rows })
     }
@@ -238,7 +239,8 @@ impl RecordSet {
         let firsts = index.firsts(alloc)?;
         let mut rows = Vec::new(alloc);
         for first in &firsts {
-            rows.push(grouped_row(alloc, *first, keys, index.run(*first, keys), agg)?)?;
+            let row = first.row();
+            rows.push(grouped_row(alloc, row, keys, index.run(row, keys), agg)?)?;
         }
         Ok(RecordSet { rows })
     }
@@ -253,8 +255,9 @@ impl RecordSet {
         let firsts = index.firsts(alloc)?;
         let mut rows = Vec::new(alloc);
         for first in &firsts {
-            if bound <= index.run(*first, keys).len() as u64 {
-                rows.push(Record::from_values(copy_cells(alloc, *first, keys)?))?;
+            let row = first.row();
+            if bound <= index.run(row, keys).len() as u64 {
+                rows.push(Record::from_values(copy_cells(alloc, row, keys)?))?;
             }
         }
         Ok(RecordSet { rows })

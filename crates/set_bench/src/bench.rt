@@ -10,7 +10,6 @@ use std::fmt;
 
 /// The least and the greatest number of rows that a bench may have.
 pub const LEAST_ROWS: u32 = 10;
-
 pub const MOST_ROWS: u32 = 170_000;
 
 /// What an operator gave.

@@ -1,17 +1,19 @@
-use Rattle.std.proofs.Common.{◌≡◌, ◌∙◌, ap, rules, Bor}
+use Rattle.std.proofs.Common.{◌≡◌, ◌∙◌, ap, rules}
 use Rattle.std.specs.Ordering.{min_by_ordering}
 use Rattle.std.proofs.lemmas.Iterator.{YieldsList-from_slice, YieldsList-from_map_by}
 use Rattle.std.proofs.lemmas.Iterator.Consumers.{reduce_by_from_yields_List}
-use Rattle.blz_value.specs.declared.value.Value.{Value}
 use Rattle.blz_value.specs.Value.{value_cmp}
-use Rattle.blz_value.specs.Record.{Row}
 use Rattle.blz_value.specs.Test.{cell}
-use Rattle.blz_set.proofs.Aggregates.{lesser, lesser-now, least_picked}
+use Rattle.blz_set.specs.declared.value_ref.ValueRef.{ValueRef}
+use Rattle.blz_set.specs.declared.entry.Entry.{Entry}
+use Rattle.blz_set.specs.ValueRef.{value_of}
+use Rattle.blz_set.specs.Entry.{row_of}
+use Rattle.blz_set.proofs.Aggregates.{lesser, value_of-lesser, least_picked}
 use Rattle.blz_set.proofs.group.least_of.Goals as goal
 
 pub returns : goal.returns
 returns c =
-    ap (λ (r : Bor Value). r.now) c.unwrap_or.ensures
-    ∙ least_picked c.args.column c.args.rows.now c.min.result c.args.zero c.requires
-    (reduce_by_from_yields_List (λ (p q : Bor Value). min_by_ordering (value_cmp p.now q.now) p q) lesser c.map.result c.min.result lesser-now c.min.ensures.ran
-    (YieldsList-from_map_by _ (λ (r : Bor Value). r.now) (λ (row : Bor Row). cell row.now c.args.column) (YieldsList-from_slice c.args.rows.now cc) c.map.ensures.closure (λ x r q k. search rules)))
+    ap value_of c.unwrap_or.ensures
+    ∙ least_picked c.args.column c.args.rows.now c.min.result
+    (reduce_by_from_yields_List (λ (p q : ValueRef). min_by_ordering (value_cmp (value_of p) (value_of q)) p q) lesser c.map.result c.min.result value_of-lesser c.min.ensures.ran
+    (YieldsList-from_map_by _ value_of (λ (entry : Entry). cell (row_of entry) c.args.column) (YieldsList-from_slice c.args.rows.now cc) c.map.ensures.closure (λ x r q k. search rules)))

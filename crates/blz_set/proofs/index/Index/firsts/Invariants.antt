@@ -2,8 +2,8 @@
 use Rattle.std.proofs.Common.{◌≡◌, take}
 use Rattle.blz_value.specs.Sets.{set_of}
 use Rattle.blz_value.specs.Operators.{project_rows}
-use Rattle.blz_set.specs.References.{shown}
+use Rattle.blz_set.specs.Entry.{rows_of}
 use Rattle.blz_set.proofs.index.Index.firsts.Given as goal
 
 abbrev pub invariant-loop-i : goal.invariant-loop-i
-invariant-loop-i l = project_rows l.self.columns.now (shown l.firsts.items) ≡ set_of (project_rows l.self.columns.now (shown (take l.i l.rows)))
+invariant-loop-i l = project_rows l.self.columns.now (rows_of l.firsts.items) ≡ set_of (project_rows l.self.columns.now (rows_of (take l.i l.entries)))

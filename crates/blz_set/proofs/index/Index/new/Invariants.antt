@@ -1,7 +1,11 @@
--- the rows so far
+-- the entries so far
 use Rattle.std.proofs.Common.{◌≡◌, take}
-use Rattle.blz_set.specs.References.{shown}
+use Rattle.blz_set.specs.Entry.{rows_of}
+use Rattle.blz_set.specs.Index.{HaveKeys}
 use Rattle.blz_set.proofs.index.Index.new.Given as goal
 
 abbrev pub invariant-loop-row : goal.invariant-loop-row
-invariant-loop-row l = shown l.refs.items ≡ take l.row-index l.rows
+invariant-loop-row l = record {
+  rows : rows_of l.entries.items ≡ take l.row-index l.rows;
+  keys : HaveKeys l.columns l.entries.items;
+}

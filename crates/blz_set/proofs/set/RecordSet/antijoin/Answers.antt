@@ -4,7 +4,8 @@ use Rattle.std.specs.List.{list_any}
 use Rattle.blz_value.specs.Record.{Row}
 use Rattle.blz_value.specs.Operators.{agree, notin_rows}
 use Rattle.blz_set.specs.RecordSet.{IsRecordSet}
-use Rattle.blz_set.specs.References.{shown}
+use Rattle.blz_set.specs.declared.entry.Entry.{Entry}
+use Rattle.blz_set.specs.Entry.{row_of, rows_of}
 use Rattle.blz_set.proofs.RecordSets.{filter_is_set, gives_filter, filter_step}
 use Rattle.blz_set.proofs.Joins.{has_agrees}
 use Rattle.blz_set.proofs.set.RecordSet.antijoin.Goals as goal
@@ -18,7 +19,7 @@ loop-left-preserved c =
     let left = c.left-item.result in
     let is_alone = λ (l : Row). not (list_any (agree pairs l) others) in
     let more = filter_step is_alone c.rows-left-items.result.now c.loop-left.left-index left (omega arith) c.left-item.is in
-    let any = has_agrees pairs left others c.rows.result.now (shown index.rows.items) index.columns.now c.deref.result.now c.deref-in-loop-left.result.now
+    let any = has_agrees pairs left others c.rows.result.now (rows_of index.entries.items) index.columns.now c.deref.result.now c.deref-in-loop-left.result.now
     c.in_ok-index.ensures.columns (c.deref.ensures.value ∙ c.in_ok-rights.ensures) (c.deref-in-loop-left.ensures.value ∙ c.in_ok-lefts.ensures) c.in_ok-index.ensures.rows c.rows.ensures.all c.has_run.result c.has_run.ensures in
     elim c.if-not-has_run.branch [
       | then-not-has_run+in_ok-copy+in_ok-push w ↦

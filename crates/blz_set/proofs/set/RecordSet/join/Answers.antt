@@ -3,7 +3,8 @@ use Rattle.blz_value.specs.Record.{Row}
 use Rattle.blz_value.specs.Sets.{set_of}
 use Rattle.blz_value.specs.Operators.{agree, joined, join_rows}
 use Rattle.blz_set.specs.RecordSet.{row_limit}
-use Rattle.blz_set.specs.References.{shown}
+use Rattle.blz_set.specs.declared.entry.Entry.{Entry}
+use Rattle.blz_set.specs.Entry.{row_of, rows_of}
 use Rattle.blz_set.specs.Answers.{Gives}
 use Rattle.blz_set.proofs.RecordSets.{set_is_set}
 use Rattle.blz_set.proofs.Unions.{handed_on}
@@ -21,10 +22,10 @@ returns-in_err-add_joined c =
     let i = c.loop-left.left-index in
     let left = c.left-item.result in
     let index = c.in_ok-index.index in
-    let made = map (joined pairs left) (shown c.run.result.now) in
+    let made = map (joined pairs left) (rows_of c.run.result.now) in
     let rows = join_rows pairs c.args.self.now others in
     let now = join_rows pairs (take (i + 1) lefts) others in
-    let run = run_agrees pairs left others c.rows.result.now (shown index.rows.items) index.columns.now c.deref.result.now c.deref-in-loop-left.result.now
+    let run = run_agrees pairs left others c.rows.result.now (rows_of index.entries.items) index.columns.now c.deref.result.now c.deref-in-loop-left.result.now
     c.in_ok-index.ensures.columns (c.deref.ensures.value ∙ c.in_ok-rights.ensures) (c.deref-in-loop-left.ensures.value ∙ c.in_ok-lefts.ensures) c.in_ok-index.ensures.rows c.rows.ensures.all c.run.result.now c.run.ensures in
     let grown = grown_by (join_rows pairs (take i lefts) others) (map (joined pairs left) (filter (agree pairs left) others)) now c.loop-left.set made c.loop-left.invariant.joined run (join_rows_more pairs others lefts i left (omega arith) c.left-item.is) in
     let all = ap (λ l. join_rows pairs l others) (sym c.rows-left-items.ensures.all) ∙ join_rows_split pairs others (i + 1) lefts in
@@ -40,8 +41,8 @@ loop-left-preserved c =
     let i = c.loop-left.left-index in
     let left = c.left-item.result in
     let index = c.in_ok-index.index in
-    let run = run_agrees pairs left others c.rows.result.now (shown index.rows.items) index.columns.now c.deref.result.now c.deref-in-loop-left.result.now
+    let run = run_agrees pairs left others c.rows.result.now (rows_of index.entries.items) index.columns.now c.deref.result.now c.deref-in-loop-left.result.now
     c.in_ok-index.ensures.columns (c.deref.ensures.value ∙ c.in_ok-rights.ensures) (c.deref-in-loop-left.ensures.value ∙ c.in_ok-lefts.ensures) c.in_ok-index.ensures.rows c.rows.ensures.all c.run.result.now c.run.ensures in
-    let grown = grown_by (join_rows pairs (take i lefts) others) (map (joined pairs left) (filter (agree pairs left) others)) (join_rows pairs (take (i + 1) lefts) others) c.loop-left.set (map (joined pairs left) (shown c.run.result.now)) c.loop-left.invariant.joined run
+    let grown = grown_by (join_rows pairs (take i lefts) others) (map (joined pairs left) (filter (agree pairs left) others)) (join_rows pairs (take (i + 1) lefts) others) c.loop-left.set (map (joined pairs left) (rows_of c.run.result.now)) c.loop-left.invariant.joined run
     (join_rows_more pairs others lefts i left (omega arith) c.left-item.is) in
     record { joined = c.in_ok-add_joined.ensures.0 ∙ grown; small = c.in_ok-add_joined.ensures.1 }

@@ -1,11 +1,11 @@
 -- What a read tells, and the reply that follows from it.
-use Rattle.std.proofs.Common.{◌≡◌, ◌≤◌, ◌<◌, ℕ, List, length, Option, Some, None, Result, Ok, Err, IfSome, IfNone, IsSome, IsErr, IsTrue, refl, subst}
+use Rattle.std.proofs.Common.{◌≡◌, ◌≤◌, ◌<◌, ℕ, List, length, Option, Some, None, Ok, IfSome, IfNone, IsSome, IsErr, IsTrue, refl, subst}
 use Rattle.blz_outside.specs.Files.{OnWhole, OnMore, told_bytes}
 use Rattle.blz_outside.specs.declared.files.End.{End}
 use Rattle.blz_outside.specs.declared.files.End.TheVariants.{Whole, More}
 use Rattle.blz_outside.specs.declared.files.ReadFail.{ReadFail}
 use Rattle.blazes_cli.specs.Words.{label, request_of}
-use Rattle.blazes_cli.specs.Answer.{Answer, AnswersChecked, FilesStates, IsFromChecks, IsReply}
+use Rattle.blazes_cli.specs.Answer.{AnswersChecked, FilesStates, IsFromChecks, IsReply}
 use Rattle.blazes_cli.specs.Checks.{check_length, topology_limit}
 use Rattle.blazes_cli.specs.Reading.{IsRead}
 use Rattle.blazes_cli.specs.declared.status.Status.{Status}

@@ -1,5 +1,5 @@
 -- What the program answers to its words and to the files that it reads.
-use Rattle.std.specs.Prelude.{◌≡◌, ℕ, ◌≤◌, ◌<◌, Bool, IsTrue, List, Option, Some, None, Result, Ok, Err, IfSome, IsSome}
+use Rattle.std.specs.Prelude.{◌≡◌, ℕ, Bool, IsTrue, List, Option, Some, None, Ok, Err, IfSome, IsSome}
 use Rattle.blz_outside.specs.Counts.{Rose}
 use Rattle.blz_outside.specs.Files.{FileMap, told_bytes}
 use Rattle.topo_types.specs.declared.topology.Topology.{Topology}

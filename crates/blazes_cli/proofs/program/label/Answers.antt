@@ -1,4 +1,4 @@
-use Rattle.std.proofs.Common.{◌≡◌, List, ℕ, vec_len, rules, subst, sym}
+use Rattle.std.proofs.Common.{vec_len, rules, subst, sym}
 use Rattle.blz_outside.specs.Files.{told_bytes}
 use Rattle.blazes_cli.specs.Answer.{AnswersChecked, files_states}
 use Rattle.blazes_cli.specs.Checks.{check_length}

@@ -1,6 +1,5 @@
-use Rattle.std.proofs.Common.{◌≡◌, ◌∙◌, ap₂, rules}
-use Rattle.clap.specs.Words.{app_of, with_rule}
-use Rattle.blazes_cli.specs.Words.{bare_command, simple_command, command_rule, file_rule, option_rule}
+use Rattle.std.proofs.Common.{◌∙◌, ap₂}
+use Rattle.clap.specs.Words.{with_rule}
 use Rattle.blazes_cli.proofs.words.command.Goals as goal
 
 pub returns : goal.returns

@@ -1,7 +1,7 @@
-use Rattle.std.proofs.Common.{◌≡◌, ◌≢◌, List, [], ◌∷◌, Option, None, refl, map, string_bytes}
+use Rattle.std.proofs.Common.{◌≡◌, ◌≢◌, List, [], ◌∷◌, None, refl, map, string_bytes}
 use Rattle.clap.specs.Kinds.{Kinds}
 use Rattle.clap.specs.Words.{Row, fault_of, matches_of}
-use Rattle.blazes_cli.specs.Words.{Asked, asked_without, simple_command}
+use Rattle.blazes_cli.specs.Words.{asked_without, simple_command}
 use Rattle.blazes_cli.proofs.words.request_of.Goals as goal
 
 -- words with a fault ask for nothing

@@ -10,6 +10,7 @@ use std::fmt;
 
 /// The least and the greatest number of rows that a bench may have.
 pub const LEAST_ROWS: u32 = 10;
+
 pub const MOST_ROWS: u32 = 170_000;
 
 /// What an operator gave.
@@ -41,19 +42,28 @@ impl fmt::Display for Answer {
     }
 }
 
-/// Sets of rows of four values: a number; the half of it, scattered; a tenth of that; and a text.
+/// The sets that an operator takes. Their rows have four values: a number; the half of it, dealt to
+/// another place; a tenth of that; and a text.
 #[derive(Drop)]
-pub struct Bench {
-    alloc: Global,
-    count: u32,
+struct Input {
     /// The rows of the even numbers below twice the count.
     evens: RecordSet,
     /// The rows of the numbers below the count.
     lows: RecordSet,
     /// The even numbers' rows, to which others are added.
     grown: RecordSet,
-    ghost count_fits: { (LEAST_ROWS ≤ count) × (count ≤ MOST_ROWS) },
     ghost wide: { All (λ row. length row ≡ 4) evens },
+}
+
+/// Inputs of so many rows. There are as many inputs as have the greatest number of rows together, and
+/// they are taken in turn, so that the processor's caches serve no number of rows better than another.
+#[derive(Drop)]
+pub struct Bench {
+    alloc: Global,
+    count: u32,
+    inputs: Vec<Input>,
+    ghost count_fits: { (LEAST_ROWS ≤ count) × (count ≤ MOST_ROWS) },
+    ghost has_inputs: { 0 < length inputs.items },
 }
 
 impl Bench {
@@ -62,44 +72,65 @@ impl Bench {
         requires least { LEAST_ROWS ≤ count }
         requires most { count ≤ MOST_ROWS }
     {
-        let grown = RecordSet::from_rows(rows(alloc, count, 2)?)?;
-        let evens = grown.copy()?;
-        let lows = RecordSet::from_rows(rows(alloc, count, 1)?)?.copy()?;
+        let mut inputs = Vec::new(alloc);
+        inputs.push(Input::new(alloc, count)?)?;
+        for _ in 1..MOST_ROWS / count {
+            inputs.push(Input::new(alloc, count)?)?;
+        }
         Ok(Bench {
             alloc,
             count,
-            evens,
-            lows,
-            grown,
+            inputs,
         })
     }
 
     /// Runs an operator so often, and gives the last answer.
     pub fn run(&mut self, operator: Operator, times: u32) -> Result<Answer, SetFault> {
-        if operator == Operator::Insert {
-            return self.insert(times);
-        }
         let mut answer = Answer { rows: 0, sum: 0 };
-        for _ in 0..times {
-            answer = self.run_once(operator)?;
+        for turn in 0..times {
+            let place = turn as usize % self.inputs.len();
+            if operator == Operator::Insert {
+                self.insert(place, turn)?;
+            } else {
+                answer = self.inputs[place].run(self.alloc, self.count, operator)?;
+            }
+        }
+        if operator == Operator::Insert {
+            answer = Answer::of(&self.inputs[0].grown, 0);
         }
         Ok(answer)
     }
 
-    // Adds the rows of odd numbers, at scattered places.
-    fn insert(&mut self, times: u32) -> Result<Answer, SetFault> {
-        for turn in 0..times {
-            let number = 2 * dealt(turn + 1, self.count) + 1;
-            let _ = self.grown.insert(row(self.alloc, number, self.count)?)?;
-        }
-        Ok(Answer::of(&self.grown, 0))
+    // Adds the row of an odd number to the set of the input at a place.
+    fn insert(&mut self, place: usize, turn: u32) -> Result<(), SetFault>
+        requires { place < length self.old.inputs.items }
+    {
+        let number = 2 * dealt(turn, self.count) + 1;
+        let row = row(self.alloc, number, self.count)?;
+        let _ = self.inputs[place].grown.insert(row)?;
+        Ok(())
+    }
+}
+
+impl Input {
+    fn new(alloc: Global, count: u32) -> Result<Input, SetFault>
+        requires least { LEAST_ROWS ≤ count }
+        requires most { count ≤ MOST_ROWS }
+    {
+        let grown = RecordSet::from_rows(rows(alloc, count, 2)?)?;
+        let evens = grown.copy()?;
+        let lows = RecordSet::from_rows(rows(alloc, count, 1)?)?.copy()?;
+        Ok(Input { evens, lows, grown })
     }
 
-    fn run_once(&self, operator: Operator) -> Result<Answer, SetFault> {
+    fn run(&self, alloc: Global, count: u32, operator: Operator) -> Result<Answer, SetFault>
+        requires least { LEAST_ROWS ≤ count }
+        requires most { count ≤ MOST_ROWS }
+    {
         let evens = &self.evens;
         match operator {
             Operator::FromRows => {
-                let set = RecordSet::from_rows(rows(self.alloc, self.count, 2)?)?;
+                let set = RecordSet::from_rows(rows(alloc, count, 2)?)?;
                 Ok(Answer::of(&set, 0))
             }
             Operator::Copy | Operator::Insert => Ok(Answer::of(&evens.copy()?, 0)),
@@ -109,7 +140,7 @@ impl Bench {
                 set.union_in(&self.lows)?;
                 Ok(Answer::of(&set, 0))
             }
-            Operator::Select => self.select(),
+            Operator::Select => self.select(count),
             Operator::Project => Ok(Answer::of(&evens.project(&[1, 2])?, 0)),
             Operator::Join => Ok(Answer::of(&evens.join(evens, &[(1, 1)])?, 4)),
             Operator::Antijoin => Ok(Answer::of(&evens.antijoin(&self.lows, &[(1, 1)])?, 0)),
@@ -118,12 +149,12 @@ impl Bench {
         }
     }
 
-    // The rows whose scattered number is below half the count.
-    fn select(&self) -> Result<Answer, SetFault> {
+    // The rows whose second value is below half the count.
+    fn select(&self, count: u32) -> Result<Answer, SetFault> {
         let test = Test::Compare {
             left: Operand::Column(1),
             op: Op::Lt,
-            right: Operand::Literal(Value::Int(i64::from(self.count / 2))),
+            right: Operand::Literal(Value::Int(i64::from(count / 2))),
         };
         Ok(Answer::of(&self.evens.select(&test)?, 1))
     }

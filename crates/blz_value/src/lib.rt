@@ -5,6 +5,7 @@
 mod aggregate;
 mod items;
 mod laws;
+mod name;
 mod record;
 mod test;
 mod text;
@@ -14,6 +15,7 @@ mod write;
 pub use aggregate::Agg;
 pub use items::Items;
 pub use laws::{record_order_law, set_law};
+pub use name::is_name;
 pub use record::{Record, compare};
 pub use test::{Op, Operand, Test, holds};
 pub use text::Str;

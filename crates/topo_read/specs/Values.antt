@@ -3,7 +3,7 @@ use Rattle.std.specs.Prelude.{ℕ, ℤ, pos, negsuc, Bool, ◌==◌, nat_lt, Lis
 use Rattle.std.specs.List.{position_or_len, before_first, after_first}
 use Rattle.std.specs.Str.{bytes_eq}
 use Rattle.toml.specs.Data.{Data, Items, no_items, item, as_str, as_array, as_integer}
-use Rattle.topo_types.specs.Name.{is_name}
+use Rattle.blz_value.specs.Name.{is_name}
 use Rattle.topo_types.specs.declared.topology.Spot.{Spot}
 use Rattle.topo_types.specs.declared.topology.NoteName.{NoteName}
 use Rattle.topo_read.specs.declared.values.Format.{Format}

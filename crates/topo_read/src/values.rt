@@ -6,10 +6,10 @@ ghost use Rattle.topo_read.specs.Gives.{GivesValue};
 ghost use Rattle.topo_read.specs.Values as spec;
 
 use crate::fault::ValueFault;
-use blz_value::{Items, Str};
+use blz_value::{Items, Str, is_name};
 use std::alloc::Global;
 use toml::Value;
-use topo_types::{NoteName, Spot, is_name};
+use topo_types::{NoteName, Spot};
 
 /// What a value of one form gives.
 pub(crate) trait FromValue: Drop + Sized {

@@ -1,4 +1,3 @@
-pub mod Name
 pub mod Parts
 pub mod Attributes
 pub mod ValidityTooMany

@@ -4,7 +4,6 @@
 mod ends;
 mod fault;
 mod mode;
-mod name;
 mod parts;
 mod repeats;
 mod sizes;
@@ -14,7 +13,6 @@ mod validity;
 pub use fault::{TopoFault, TopoKind, TopoPlace};
 pub use fd_closure::{AttrNames, Attrs, Fd};
 pub use mode::Mode;
-pub use name::is_name;
 pub use path_annotate::Note;
 pub use topology::{
     Body, ColumnType, ComponentEntry, Declared, FdEntry, ModeName, NoteName, Side, SourceEntry,

@@ -1,7 +1,7 @@
-//! Names of sources, components, streams, ports, outputs and attributes.
+//! Names: of collections, columns, sources, components, ports, outputs and streams.
 ghost use Rattle.std.specs.Prelude.{◌≡◌};
 ghost use Rattle.std.specs.List.{list_all};
-ghost use Rattle.topo_types.specs.Name as spec;
+ghost use Rattle.blz_value.specs.Name as spec;
 
 fn is_name_start(byte: u8) -> bool
     ensures { result ≡ spec.is_name_start byte }

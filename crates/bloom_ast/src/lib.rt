@@ -1,0 +1,11 @@
+//! The module language: modules as trees, what an expression and a step mean, and the checks of a
+//! module.
+#![tactic(auto)]
+
+mod checked;
+mod expr;
+mod module;
+
+pub use checked::Checked;
+pub use expr::{Expr, NamedAgg, Pred, Term};
+pub use module::{Collection, Kind, Module, Rule};

@@ -30,8 +30,8 @@ agree pairs left right = list_all (λ pair. eq_by_cmp value_cmp (cell left pair.
 abbrev pub is_paired : Pairs → ℕ → Bool
 is_paired pairs column = list_any (λ pair. pair.1 == column) pairs
 
--- the values of a right row whose columns stand in no pair
-abbrev pub unpaired : Pairs → Row → Row
+-- what a right row, or its columns, has where the column stands in no pair
+abbrev pub unpaired : {X : Type 0} → Pairs → List X → List X
 unpaired pairs right = map (λ place. place.1) (filter (λ place. not (is_paired pairs place.0)) (enumerate_from 0 right))
 
 -- a left row, followed by the right row's values whose columns stand in no pair

@@ -55,13 +55,15 @@ struct Input {
     ghost wide: { All (λ row. length row ≡ 4) evens },
 }
 
-/// Inputs of so many rows. There are as many inputs as have the greatest number of rows together, and
-/// they are taken in turn, so that the processor's caches serve no number of rows better than another.
+/// Inputs of so many rows. There are as many inputs as have the greatest number of rows together. They
+/// are taken in turn, and what a round of turns gives is kept until the round is over. So each number of
+/// rows has as many bytes in use, and the processor's caches serve none better than another.
 #[derive(Drop)]
 pub struct Bench {
     alloc: Global,
     count: u32,
     inputs: Vec<Input>,
+    results: Vec<RecordSet>,
     ghost count_fits: { (LEAST_ROWS ≤ count) × (count ≤ MOST_ROWS) },
     ghost has_inputs: { 0 < length inputs.items },
 }
@@ -81,6 +83,7 @@ impl Bench {
             alloc,
             count,
             inputs,
+            results: Vec::new(alloc),
         })
     }
 
@@ -89,16 +92,31 @@ impl Bench {
         let mut answer = Answer { rows: 0, sum: 0 };
         for turn in 0..times {
             let place = turn as usize % self.inputs.len();
-            if operator == Operator::Insert {
-                self.insert(place, turn)?;
-            } else {
-                answer = self.inputs[place].run(self.alloc, self.count, operator)?;
+            match operator {
+                Operator::Insert => self.insert(place, turn)?,
+                Operator::Contains => answer = self.inputs[place].contained(),
+                _ => self.keep_result(place, operator)?,
             }
         }
         if operator == Operator::Insert {
-            answer = Answer::of(&self.inputs[0].grown, 0);
+            return Ok(Answer::of(&self.inputs[0].grown, 0));
         }
-        Ok(answer)
+        match self.results.last() {
+            Some(set) if operator != Operator::Contains => Ok(Answer::of(set, summed(operator))),
+            _ => Ok(answer),
+        }
+    }
+
+    // Runs an operator on the input at a place, and keeps what it gives.
+    fn keep_result(&mut self, place: usize, operator: Operator) -> Result<(), SetFault>
+        requires { place < length self.old.inputs.items }
+    {
+        if self.results.len() >= self.inputs.len() {
+            self.results.clear();
+        }
+        let set = self.inputs[place].run(self.alloc, self.count, operator)?;
+        self.results.push(set)?;
+        Ok(())
     }
 
     // Adds the row of an odd number to the set of the input at a place.
@@ -123,40 +141,37 @@ impl Input {
         Ok(Input { evens, lows, grown })
     }
 
-    fn run(&self, alloc: Global, count: u32, operator: Operator) -> Result<Answer, SetFault>
+    // What an operator that gives a set makes of this input.
+    fn run(&self, alloc: Global, count: u32, operator: Operator) -> Result<RecordSet, SetFault>
         requires least { LEAST_ROWS ≤ count }
         requires most { count ≤ MOST_ROWS }
     {
         let evens = &self.evens;
         match operator {
-            Operator::FromRows => {
-                let set = RecordSet::from_rows(rows(alloc, count, 2)?)?;
-                Ok(Answer::of(&set, 0))
-            }
-            Operator::Copy | Operator::Insert => Ok(Answer::of(&evens.copy()?, 0)),
-            Operator::Contains => Ok(self.contained()),
+            Operator::FromRows => RecordSet::from_rows(rows(alloc, count, 2)?),
+            Operator::Copy | Operator::Insert | Operator::Contains => Ok(evens.copy()?),
             Operator::UnionIn => {
                 let mut set = evens.copy()?;
                 set.union_in(&self.lows)?;
-                Ok(Answer::of(&set, 0))
+                Ok(set)
             }
             Operator::Select => self.select(count),
-            Operator::Project => Ok(Answer::of(&evens.project(&[1, 2])?, 0)),
-            Operator::Join => Ok(Answer::of(&evens.join(evens, &[(1, 1)])?, 4)),
-            Operator::Antijoin => Ok(Answer::of(&evens.antijoin(&self.lows, &[(1, 1)])?, 0)),
-            Operator::Group => Ok(Answer::of(&evens.group(&[2], Agg::Sum(0))?, 1)),
-            Operator::AtLeast => Ok(Answer::of(&evens.at_least(&[2], 10)?, 0)),
+            Operator::Project => evens.project(&[1, 2]),
+            Operator::Join => evens.join(evens, &[(1, 1)]),
+            Operator::Antijoin => evens.antijoin(&self.lows, &[(1, 1)]),
+            Operator::Group => evens.group(&[2], Agg::Sum(0)),
+            Operator::AtLeast => evens.at_least(&[2], 10),
         }
     }
 
     // The rows whose second value is below half the count.
-    fn select(&self, count: u32) -> Result<Answer, SetFault> {
+    fn select(&self, count: u32) -> Result<RecordSet, SetFault> {
         let test = Test::Compare {
             left: Operand::Column(1),
             op: Op::Lt,
             right: Operand::Literal(Value::Int(i64::from(count / 2))),
         };
-        Ok(Answer::of(&self.evens.select(&test)?, 1))
+        self.evens.select(&test)
     }
 
     // The low numbers' rows that the even numbers' set contains.
@@ -171,6 +186,15 @@ impl Input {
             }
         }
         found
+    }
+}
+
+// The column of an operator's rows that its answer sums.
+fn summed(operator: Operator) -> usize {
+    match operator {
+        Operator::Select | Operator::Group => 1,
+        Operator::Join => 4,
+        _ => 0,
     }
 }
 

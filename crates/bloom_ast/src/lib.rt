@@ -5,7 +5,9 @@
 mod checked;
 mod expr;
 mod module;
+mod program;
 
 pub use checked::Checked;
 pub use expr::{Expr, NamedAgg, Pred, Term};
 pub use module::{Collection, Kind, Module, Rule};
+pub use program::Program;

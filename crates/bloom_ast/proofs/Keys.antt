@@ -1,5 +1,5 @@
 -- The key columns in order are as many as the keys.
-use Rattle.std.proofs.Common.{◌≡◌, ◌≢◌, ◌<◌, ◌≤◌, ◌+◌, ℕ, zero, suc, Bool, true, false, cond, not, ◌||◌, List, [], ◌∷◌, length, get_or, map, filter, refl, ap, ◌∙◌, sym, inl, inr, arith}
+use Rattle.std.proofs.Common.{◌≡◌, ◌≢◌, ◌<◌, ◌≤◌, ◌+◌, ℕ, zero, suc, Bool, true, false, cond, not, ◌||◌, List, [], ◌∷◌, length, get_or, filter, refl, ap, ◌∙◌, sym, inl, inr, arith}
 use Rattle.std.specs.Prelude.{◌==◌, AllPairs}
 use Rattle.std.specs.List.{All, list_any, range_with_len}
 use Rattle.std.proofs.lemmas.Bool.{cases_eq, eq-eqb, ne_eqb}

@@ -2,19 +2,23 @@
 use Rattle.std.specs.Prelude.{◌≡◌, List, filter}
 use Rattle.std.specs.Str.{bytes_eq}
 use Rattle.blz_value.specs.Record.{Row}
+use Rattle.bloom_ast.specs.declared.module.Kind.{Kind}
+use Rattle.bloom_ast.specs.declared.module.Collection.{Collection}
 use Rattle.bloom_ast.specs.Query.{Name}
 use Rattle.bloom_ast.specs.Form.{RuleForm, Form, Accepted}
-use Rattle.bloom_ast.specs.Lookup.{kind_of, declared}
-use Rattle.bloom_ast.specs.Step.{Sets, rows_named, ended, union_of, at_start, at_end}
+use Rattle.bloom_ast.specs.Lookup.{collection_number, kind_of, declared}
+use Rattle.bloom_ast.specs.Kinds.{place_in_kind}
+use Rattle.bloom_ast.specs.Step.{Sets, set_at, rows_named, ended, union_of, at_end}
 
 -- what each collection holds
 abbrev pub Env : Type 0
 Env = Name → List Row
 
--- what the collections hold at the beginning of a step, and at its end
-abbrev pub start_env : Form → (kept now : Sets) → Env
-start_env form kept now = rows_named form.collections (at_start form.collections kept now)
+-- of sets for the collections of a kind in declared order, that of the collection of the name
+abbrev pub set_named : Kind → List Collection → Sets → Env
+set_named kind cs sets name = set_at sets (place_in_kind kind cs (collection_number cs name))
 
+-- what the collections hold at the end of a step
 abbrev pub end_env : Accepted → (kept now : Sets) → Env
 end_env a kept now = rows_named a.form.collections (at_end a kept now)
 

@@ -10,3 +10,4 @@ pub mod Step
 pub mod StockSteps
 pub mod Program
 pub mod ProgramStep
+pub mod Equations

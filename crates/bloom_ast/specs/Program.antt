@@ -7,7 +7,6 @@ use Rattle.bloom_ast.specs.declared.module.Collection.{Collection}
 use Rattle.bloom_ast.specs.declared.program.Program.{Program}
 use Rattle.bloom_ast.specs.declared.program.Program.TheVariants.{Module, Split, Latest, Number}
 use Rattle.bloom_ast.specs.Query.{Name}
-use Rattle.bloom_ast.specs.Form.{Accepted}
 use Rattle.bloom_ast.specs.Kinds.{of_kind}
 use Rattle.bloom_ast.specs.StockSteps.{keys_in_order}
 

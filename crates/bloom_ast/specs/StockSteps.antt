@@ -1,6 +1,6 @@
 -- One step of each stock body, over sets of rows.
-use Rattle.std.specs.Prelude.{ℕ, pos, ◌+◌, ◌-◌, ◌==◌, Bool, not, ◌||◌, List, [], ◌∷◌, ◌++◌, map, filter, length, take, is_some}
-use Rattle.std.specs.List.{remove, flat_map, find, list_any, list_all, enumerate_from, range_with_len, slice_split}
+use Rattle.std.specs.Prelude.{ℕ, pos, ◌+◌, ◌-◌, ◌==◌, Bool, not, ◌||◌, List, [], ◌∷◌, ◌++◌, map, filter, length, take}
+use Rattle.std.specs.List.{remove, flat_map, list_any, list_all, enumerate_from, range_with_len, slice_split}
 use Rattle.std.specs.Ordering.{is_le, eq_by_cmp}
 use Rattle.blz_value.specs.declared.value.Value.{Value}
 use Rattle.blz_value.specs.declared.value.Value.TheVariants.{Int, Text}

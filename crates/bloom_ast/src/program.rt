@@ -2,8 +2,13 @@
 ghost use Rattle.std.specs.Prelude.{◌≡◌, ◌≢◌, ◌≤◌, ◌<◌, [], length, slice_index_or, All, AllPairs};
 ghost use Rattle.bloom_ast.specs.Kinds.{same_kind, of_kind};
 ghost use Rattle.bloom_ast.specs.Program.{
-    IsSmall, IsStock, columns_of_kind, key_columns, port_columns, output_columns,
-    table_columns
+  IsSmall,
+  IsStock,
+  columns_of_kind,
+  key_columns,
+  port_columns,
+  output_columns,
+  table_columns,
 };
 
 use crate::checked::Checked;
@@ -17,14 +22,19 @@ pub enum Program {
     /// A module.
     Module(Checked),
     /// Splits the text in a column into words.
-    Split { columns: Items<Str>, split: u32 },
+    Split {
+        columns: Items<Str>,
+        split: u32,
+    },
     /// Keeps the greatest record of each step for each key, and answers with it.
     Latest {
         columns: Items<Str>,
         keys: Items<u32>,
     },
     /// Numbers the records in the order in which they come.
-    Number { columns: Items<Str> },
+    Number {
+        columns: Items<Str>,
+    },
 }
 
 fn has_kind(collection: &Collection, kind: Kind) -> bool
@@ -145,7 +155,11 @@ impl Program {
     {
         match self {
             Program::Module(checked) => {
-                width_at(checked.module().collections.as_slice(), Kind::Output, output)
+                width_at(
+                    checked.module().collections.as_slice(),
+                    Kind::Output,
+                    output,
+                )
             }
             Program::Latest { columns, .. } => columns.as_slice().len() as u32,
             Program::Split { columns, .. } | Program::Number { columns } => {

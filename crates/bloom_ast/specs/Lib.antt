@@ -4,3 +4,10 @@ pub mod Codes
 pub mod Lookup
 pub mod Columns
 pub mod Heads
+pub mod Kinds
+pub mod Rows
+pub mod Step
+pub mod StockSteps
+pub mod Program
+pub mod ProgramStep
+pub mod Equations

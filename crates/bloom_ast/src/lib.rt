@@ -4,8 +4,12 @@
 
 mod checked;
 mod expr;
+mod laws;
 mod module;
+mod program;
 
 pub use checked::Checked;
 pub use expr::{Expr, NamedAgg, Pred, Term};
+pub use laws::step_law;
 pub use module::{Collection, Kind, Module, Rule};
+pub use program::Program;

@@ -1,2 +1,6 @@
 pub mod Machine
 pub mod Forward
+pub mod SingleLemmas
+pub mod PredicateLemmas
+pub mod PredicateAgain
+pub mod RepeatLemmas

@@ -4,3 +4,5 @@ pub mod SingleLemmas
 pub mod PredicateLemmas
 pub mod PredicateAgain
 pub mod RepeatLemmas
+pub mod Flat
+pub mod ListLemmas

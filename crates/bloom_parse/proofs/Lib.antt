@@ -6,3 +6,5 @@ pub mod PredicateAgain
 pub mod RepeatLemmas
 pub mod Flat
 pub mod ListLemmas
+pub mod ExprLemmas
+pub mod ExprAgain

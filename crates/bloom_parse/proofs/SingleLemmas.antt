@@ -140,6 +140,14 @@ bound_reads [] = λ k st. refl
 bound_reads (terminals.Integer n ∷ rest) = bound_cases n rest (int_le (pos 1) n) refl
 bound_reads (t ∷ rest) = λ k st. refl
 
+-- the machine takes a bound
+bound_stepped : (n : ℤ) (k : ℕ) (st : List Sym) (rest : List Terminal) (b : Bool) → int_le (pos 1) n ≡ b → pos 1 ≤ℤ n → elim (cond {A = Option State} b (Some (k, st)) None) as (λ s. Result State ℕ) [ None ↦ Err (length (terminals.Integer n ∷ rest)) | Some s ↦ run s.0 s.1 rest ] ≡ run k st rest
+bound_stepped n k st rest true e le = refl
+bound_stepped n k st rest false e le = absurd (omega (arith, ints))
+
+pub bound_goes : (ts : List Terminal) (x : ℤ × List Terminal) → ReadsBound ts (Ok x) → (k : ℕ) (st : List Sym) → run k (Sym.a_bound ∷ st) ts ≡ run k st x.1
+bound_goes ts x h k st = ap (λ (t : List Terminal). run k (Sym.a_bound ∷ st) t) (sym h.0) ∙ bound_stepped x.0 k st x.1 (int_le (pos 1) x.0) refl h.1
+
 -- a bound is read again
 bound_taken : (n : ℤ) (rest : List Terminal) (b : Bool) → int_le (pos 1) n ≡ b → pos 1 ≤ℤ n → cond {A = Result (ℤ × List Terminal) ℕ} b (Ok (n, rest)) (Err (length (terminals.Integer n ∷ rest))) ≡ Ok (n, rest)
 bound_taken n rest true e le = refl

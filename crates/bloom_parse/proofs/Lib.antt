@@ -8,3 +8,6 @@ pub mod Flat
 pub mod ListLemmas
 pub mod ExprLemmas
 pub mod ExprAgain
+pub mod ModuleLemmas
+pub mod ModuleAgain
+pub mod PlaceLemmas

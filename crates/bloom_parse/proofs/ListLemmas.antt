@@ -88,21 +88,21 @@ key_names_reads : (ts : List Terminal) → ReadsKeyNames ts (key_names_at ts)
 unfolding key_names_at
 key_names_reads ts =
     bind_reads (ReadsName ts) (ReadsKeyNames ts) (λ f. names_at f.0 f.1 >>= λ ns. mark_at marks.CloseKeys ns.1 >>= λ c. Ok (ns.0, c)) (name_at ts) (name_reads ts)
-      (λ f e.
-        let p : (k : ℕ) (st : List Sym) → run k (Sym.a_name ∷ Sym.more_keys ∷ st) ts ≡ run k (Sym.more_keys ∷ st) f.1 = λ k st. ap (λ (t : List Terminal). run k (Sym.a_name ∷ Sym.more_keys ∷ st) t) (sym e) in
-        bind_reads (ReadsMore name_kind Sym.more_keys (Sym.mark marks.CloseKeys) f.0 f.1) (ReadsKeyNames ts) (λ ns. mark_at marks.CloseKeys ns.1 >>= λ c. Ok (ns.0, c)) (names_at f.0 f.1) (key_list_reads f.0 f.1)
-          (λ ns m. bind_reads (ReadsMark marks.CloseKeys ns.1) (ReadsKeyNames ts) (λ c. Ok (ns.0, c)) (mark_at marks.CloseKeys ns.1) (mark_reads marks.CloseKeys ns.1)
-            (λ c e3. record {
-              first = f.0;
-              more = m.trees;
-              means = ap (λ (ys : List Name). f.0 ∷ ys) (sym (map_itself m.trees)) ∙ m.means;
-              texts = ap (λ (t : List Terminal). terminals.Name f.0 ∷ t) (ap (λ (t : List Terminal). more_names_text m.trees ++ t) e3 ∙ m.texts) ∙ e;
-              next = m.next;
-              goes = λ k st. p k st ∙ m.goes k st ∙ ap (λ (t : List Terminal). run (m.next k) (Sym.mark marks.CloseKeys ∷ st) t) (sym e3);
-            })
-            (λ n j k st. p k st ∙ m.goes k st ∙ j (m.next k) st))
-          (λ n j k st. p k st ∙ j k st))
-      (λ n h k st. h k (Sym.more_keys ∷ st))
+    (λ f e.
+    let p : (k : ℕ) (st : List Sym) → run k (Sym.a_name ∷ Sym.more_keys ∷ st) ts ≡ run k (Sym.more_keys ∷ st) f.1 = λ k st. ap (λ (t : List Terminal). run k (Sym.a_name ∷ Sym.more_keys ∷ st) t) (sym e) in
+    bind_reads (ReadsMore name_kind Sym.more_keys (Sym.mark marks.CloseKeys) f.0 f.1) (ReadsKeyNames ts) (λ ns. mark_at marks.CloseKeys ns.1 >>= λ c. Ok (ns.0, c)) (names_at f.0 f.1) (key_list_reads f.0 f.1)
+    (λ ns m. bind_reads (ReadsMark marks.CloseKeys ns.1) (ReadsKeyNames ts) (λ c. Ok (ns.0, c)) (mark_at marks.CloseKeys ns.1) (mark_reads marks.CloseKeys ns.1)
+    (λ c e3. record {
+      first = f.0;
+      more = m.trees;
+      means = ap (λ (ys : List Name). f.0 ∷ ys) (sym (map_itself m.trees)) ∙ m.means;
+      texts = ap (λ (t : List Terminal). terminals.Name f.0 ∷ t) (ap (λ (t : List Terminal). more_names_text m.trees ++ t) e3 ∙ m.texts) ∙ e;
+      next = m.next;
+      goes = λ k st. p k st ∙ m.goes k st ∙ ap (λ (t : List Terminal). run (m.next k) (Sym.mark marks.CloseKeys ∷ st) t) (sym e3);
+    })
+    (λ n j k st. p k st ∙ m.goes k st ∙ j (m.next k) st))
+    (λ n j k st. p k st ∙ j k st))
+    (λ n h k st. h k (Sym.more_keys ∷ st))
 
 pub record IsKeys (ts : List Terminal) (x : List Name × List Terminal) : Type 0 where
   pub text : keys_text x.0 ++ x.1 ≡ ts
@@ -141,8 +141,8 @@ pub keys_reads : (ts : List Terminal) → ReadsKeys ts (keys_at ts)
 unfolding keys_at
 keys_reads ts =
     bind_reads (ReadsMark marks.OpenKeys ts) (ReadsKeys ts) (λ o. cond (has_close_keys o) (Ok ([], drop 1 o)) (key_names_at o)) (mark_at marks.OpenKeys ts) (mark_reads marks.OpenKeys ts)
-      (λ o e. keys_cases ts o e (has_close_keys o) refl)
-      (λ n h k st. h k (Sym.first_key ∷ st))
+    (λ o e. keys_cases ts o e (has_close_keys o) refl)
+    (λ n h k st. h k (Sym.first_key ∷ st))
 
 pub keys_again : (keys : List Name) (rest : List Terminal) → keys_at (keys_text keys ++ rest) ≡ listed keys rest
 unfolding keys_at key_names_at
@@ -161,14 +161,14 @@ column_reads : (ts : List Terminal) → ReadsColumn ts (column_at ts)
 unfolding column_at
 column_reads ts =
     bind_reads (ReadsMark marks.Open ts) (ReadsColumn ts) (λ o. name_at o >>= λ n. mark_at marks.Close n.1 >>= λ c. Ok (n.0, c)) (mark_at marks.Open ts) (mark_reads marks.Open ts)
-      (λ o e1. bind_reads (ReadsName o) (ReadsColumn ts) (λ n. mark_at marks.Close n.1 >>= λ c. Ok (n.0, c)) (name_at o) (name_reads o)
-        (λ n e2.
-          let two : mark marks.Open ∷ terminals.Name n.0 ∷ n.1 ≡ ts = ap (λ (t : List Terminal). mark marks.Open ∷ t) e2 ∙ e1 in
-          bind_reads (ReadsMark marks.Close n.1) (ReadsColumn ts) (λ c. Ok (n.0, c)) (mark_at marks.Close n.1) (mark_reads marks.Close n.1)
-            (λ c e3. ap (λ (t : List Terminal). mark marks.Open ∷ terminals.Name n.0 ∷ t) e3 ∙ two)
-            (λ m h k st. ap (λ (t : List Terminal). run k (Sym.mark marks.Open ∷ Sym.a_name ∷ Sym.mark marks.Close ∷ st) t) (sym two) ∙ h k st))
-        (λ m h k st. ap (λ (t : List Terminal). run k (Sym.mark marks.Open ∷ Sym.a_name ∷ Sym.mark marks.Close ∷ st) t) (sym e1) ∙ h k (Sym.mark marks.Close ∷ st)))
-      (λ m h k st. h k (Sym.a_name ∷ Sym.mark marks.Close ∷ st))
+    (λ o e1. bind_reads (ReadsName o) (ReadsColumn ts) (λ n. mark_at marks.Close n.1 >>= λ c. Ok (n.0, c)) (name_at o) (name_reads o)
+    (λ n e2.
+    let two : mark marks.Open ∷ terminals.Name n.0 ∷ n.1 ≡ ts = ap (λ (t : List Terminal). mark marks.Open ∷ t) e2 ∙ e1 in
+    bind_reads (ReadsMark marks.Close n.1) (ReadsColumn ts) (λ c. Ok (n.0, c)) (mark_at marks.Close n.1) (mark_reads marks.Close n.1)
+    (λ c e3. ap (λ (t : List Terminal). mark marks.Open ∷ terminals.Name n.0 ∷ t) e3 ∙ two)
+    (λ m h k st. ap (λ (t : List Terminal). run k (Sym.mark marks.Open ∷ Sym.a_name ∷ Sym.mark marks.Close ∷ st) t) (sym two) ∙ h k st))
+    (λ m h k st. ap (λ (t : List Terminal). run k (Sym.mark marks.Open ∷ Sym.a_name ∷ Sym.mark marks.Close ∷ st) t) (sym e1) ∙ h k (Sym.mark marks.Close ∷ st)))
+    (λ m h k st. h k (Sym.a_name ∷ Sym.mark marks.Close ∷ st))
 
 abbrev pub ReadsAgg : List Terminal → Result (NamedAgg × List Terminal) ℕ → Type 0
 ReadsAgg ts (Ok x) = agg_text x.0 ++ x.1 ≡ ts
@@ -218,8 +218,8 @@ behind_name n ts = cond (has_as ts) (name_at (drop 1 ts) >>= λ m. Ok ((n, m.0),
 renamed_reads : (n : Name) (rest : List Terminal) → ItemBehind n (word words.As ∷ rest) (name_at rest >>= λ m. Ok ((n, m.0), m.1))
 renamed_reads n rest =
     bind_reads (ReadsName rest) (ItemBehind n (word words.As ∷ rest)) (λ m. Ok ((n, m.0), m.1)) (name_at rest) (name_reads rest)
-      (λ m e. record { tree = Item.renamed n m.0; means = refl; texts = ap (λ (t : List Terminal). terminals.Name n ∷ word words.As ∷ t) e; goes = λ k st. ap (λ (t : List Terminal). run k (Sym.a_name ∷ Sym.more_items ∷ st) t) (sym e); shorter = omega (arith, ap (λ (t : List Terminal). length t) e) })
-      (λ j h k st. h k (Sym.more_items ∷ st))
+    (λ m e. record { tree = Item.renamed n m.0; means = refl; texts = ap (λ (t : List Terminal). terminals.Name n ∷ word words.As ∷ t) e; goes = λ k st. ap (λ (t : List Terminal). run k (Sym.a_name ∷ Sym.more_items ∷ st) t) (sym e); shorter = omega (arith, ap (λ (t : List Terminal). length t) e) })
+    (λ j h k st. h k (Sym.more_items ∷ st))
 
 item_behind : (n : Name) (ts : List Terminal) → ItemBehind n ts (behind_name n ts)
 item_behind n [] = record { tree = Item.plain n; means = refl; texts = refl; goes = λ k st. refl; shorter = omega arith }
@@ -234,8 +234,8 @@ pub item_reads : (ts : List Terminal) → ReadsItem ts (item_at ts)
 unfolding item_at
 item_reads ts =
     bind_reads (ReadsName ts) (ReadsItem ts) (λ n. behind_name n.0 n.1) (name_at ts) (name_reads ts)
-      (λ n e. subst (λ t. ReadsItem t (behind_name n.0 n.1)) e (item_with n.0 n.1 (behind_name n.0 n.1) (item_behind n.0 n.1)))
-      (λ m h k st. h k (Sym.item_end ∷ st))
+    (λ n e. subst (λ t. ReadsItem t (behind_name n.0 n.1)) e (item_with n.0 n.1 (behind_name n.0 n.1) (item_behind n.0 n.1)))
+    (λ m h k st. h k (Sym.item_end ∷ st))
 
 abbrev pub item_kind : Kind (Name × Name) Item
 item_kind = record { view = item_pair; text = λ i. mark marks.Comma ∷ item_text i; Fits = λ i. Unit {0}; all_text = more_items_text }
@@ -285,16 +285,16 @@ pair_reads ts =
     let G : Result ((Name × Name) × List Terminal) ℕ → Type 0 = ReadsOne pair_kind Sym.more_pairs (mark marks.Comma ∷ ts) in
     let syms : List Sym → List Sym = λ st. Sym.a_name ∷ Sym.equals ∷ Sym.a_name ∷ Sym.more_pairs ∷ st in
     bind_reads (ReadsName ts) G (λ a. equals_at a.1 >>= λ behind. name_at behind >>= λ b. Ok ((a.0, b.0), b.1)) (name_at ts) (name_reads ts)
-      (λ a e. bind_reads (ReadsEquals a.1) G (λ behind. name_at behind >>= λ b. Ok ((a.0, b.0), b.1)) (equals_at a.1) (equals_reads a.1)
-        (λ behind f.
-          let two : terminals.Name a.0 ∷ terminals.Sign Eq ∷ behind ≡ ts = ap (λ (t : List Terminal). terminals.Name a.0 ∷ t) f ∙ e in
-          bind_reads (ReadsName behind) G (λ b. Ok ((a.0, b.0), b.1)) (name_at behind) (name_reads behind)
-            (λ b g.
-              let all : terminals.Name a.0 ∷ terminals.Sign Eq ∷ terminals.Name b.0 ∷ b.1 ≡ ts = ap (λ (t : List Terminal). terminals.Name a.0 ∷ terminals.Sign Eq ∷ t) g ∙ two in
-              record { tree = (a.0, b.0); fits = tt; means = refl; texts = ap (λ (t : List Terminal). mark marks.Comma ∷ t) all; next = λ k. k; goes = λ k st. ap (λ (t : List Terminal). run k (syms st) t) (sym all); shorter = omega (arith, ap (λ (t : List Terminal). length t) all) })
-            (λ n h k st. ap (λ (t : List Terminal). run k (syms st) t) (sym two) ∙ h k (Sym.more_pairs ∷ st)))
-        (λ n h k st. ap (λ (t : List Terminal). run k (syms st) t) (sym e) ∙ h k (Sym.a_name ∷ Sym.more_pairs ∷ st)))
-      (λ n h k st. h k (Sym.equals ∷ Sym.a_name ∷ Sym.more_pairs ∷ st))
+    (λ a e. bind_reads (ReadsEquals a.1) G (λ behind. name_at behind >>= λ b. Ok ((a.0, b.0), b.1)) (equals_at a.1) (equals_reads a.1)
+    (λ behind f.
+    let two : terminals.Name a.0 ∷ terminals.Sign Eq ∷ behind ≡ ts = ap (λ (t : List Terminal). terminals.Name a.0 ∷ t) f ∙ e in
+    bind_reads (ReadsName behind) G (λ b. Ok ((a.0, b.0), b.1)) (name_at behind) (name_reads behind)
+    (λ b g.
+    let all : terminals.Name a.0 ∷ terminals.Sign Eq ∷ terminals.Name b.0 ∷ b.1 ≡ ts = ap (λ (t : List Terminal). terminals.Name a.0 ∷ terminals.Sign Eq ∷ t) g ∙ two in
+    record { tree = (a.0, b.0); fits = tt; means = refl; texts = ap (λ (t : List Terminal). mark marks.Comma ∷ t) all; next = λ k. k; goes = λ k st. ap (λ (t : List Terminal). run k (syms st) t) (sym all); shorter = omega (arith, ap (λ (t : List Terminal). length t) all) })
+    (λ n h k st. ap (λ (t : List Terminal). run k (syms st) t) (sym two) ∙ h k (Sym.more_pairs ∷ st)))
+    (λ n h k st. ap (λ (t : List Terminal). run k (syms st) t) (sym e) ∙ h k (Sym.a_name ∷ Sym.more_pairs ∷ st)))
+    (λ n h k st. h k (Sym.equals ∷ Sym.a_name ∷ Sym.more_pairs ∷ st))
 
 pairs_stop : (k : ℕ) (st : List Sym) (ts : List Terminal) → has_comma ts ≡ false → run k (Sym.more_pairs ∷ st) ts ≡ run k (Sym.mark marks.Close ∷ st) ts
 pairs_stop k st [] e = refl

@@ -214,4 +214,3 @@ closes (Sym.arrow ∷ st) k = closes st k
 closes (Sym.collections ∷ st) k = closes st k
 closes (Sym.rules ∷ st) k = closes st k
 closes (Sym.the_end ∷ st) k = closes st k
-

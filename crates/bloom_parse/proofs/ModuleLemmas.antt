@@ -11,7 +11,8 @@ use Rattle.bloom_parse.specs.declared.terminal.Mark.TheVariants as marks
 use Rattle.bloom_ast.specs.declared.module.Kind.{Kind}
 use Rattle.bloom_ast.specs.declared.module.Kind.TheVariants.{Input, Output, Table, Scratch}
 use Rattle.bloom_ast.specs.declared.module.Collection.{Collection}
-use Rattle.bloom_ast.specs.Form.{RuleForm, Form}
+use Rattle.bloom_ast.specs.declared.module.Rule.{Rule}
+use Rattle.bloom_ast.specs.Form.{RuleForm, Form, rule_form, rule_forms}
 use Rattle.bloom_parse.specs.Trees.{word, mark, more_names_text, expr_text, expr_query, ExprFits, kind_word, CollectionTree, collection_text, collection_form, RuleTree, rule_text, tree_rule, ModuleTree, module_text, module_form}
 use Rattle.bloom_parse.specs.Places.{IsModuleText}
 use Rattle.bloom_parse.specs.ReadingSingle.{◌>>=◌, mark_at, name_at, arrow_at, module_word_at, has_name}
@@ -51,34 +52,34 @@ declared_reads kind ts =
     let G : Result (Collection × List Terminal) ℕ → Type 0 = ReadsDeclared kind ts in
     let last : List Sym → List Sym = λ st. Sym.mark marks.Semicolon ∷ Sym.collections ∷ st in
     bind_reads (ReadsName ts) G (λ n. mark_at marks.Open n.1 >>= λ o. name_at o >>= λ f. names_at f.0 f.1 >>= λ ns. mark_at marks.Close ns.1 >>= λ c. mark_at marks.Semicolon c >>= λ s. Ok (collection_of kind n.0 ns.0, s)) (name_at ts) (name_reads ts)
-      (λ n e1.
-        let p1 : (k : ℕ) (st : List Sym) → run k (in_collection st) ts ≡ run k (Sym.mark marks.Open ∷ Sym.a_name ∷ Sym.more_names ∷ last st) n.1 = λ k st. ap (λ (t : List Terminal). run k (in_collection st) t) (sym e1) in
-        bind_reads (ReadsMark marks.Open n.1) G (λ o. name_at o >>= λ f. names_at f.0 f.1 >>= λ ns. mark_at marks.Close ns.1 >>= λ c. mark_at marks.Semicolon c >>= λ s. Ok (collection_of kind n.0 ns.0, s)) (mark_at marks.Open n.1) (mark_reads marks.Open n.1)
-          (λ o e2.
-            let p2 : (k : ℕ) (st : List Sym) → run k (in_collection st) ts ≡ run k (Sym.a_name ∷ Sym.more_names ∷ last st) o = λ k st. p1 k st ∙ ap (λ (t : List Terminal). run k (Sym.mark marks.Open ∷ Sym.a_name ∷ Sym.more_names ∷ last st) t) (sym e2) in
-            bind_reads (ReadsName o) G (λ f. names_at f.0 f.1 >>= λ ns. mark_at marks.Close ns.1 >>= λ c. mark_at marks.Semicolon c >>= λ s. Ok (collection_of kind n.0 ns.0, s)) (name_at o) (name_reads o)
-              (λ f e3.
-                let p3 : (k : ℕ) (st : List Sym) → run k (in_collection st) ts ≡ run k (Sym.more_names ∷ last st) f.1 = λ k st. p2 k st ∙ ap (λ (t : List Terminal). run k (Sym.a_name ∷ Sym.more_names ∷ last st) t) (sym e3) in
-                bind_reads (ReadsMore name_kind Sym.more_names (Sym.mark marks.Close) f.0 f.1) G (λ ns. mark_at marks.Close ns.1 >>= λ c. mark_at marks.Semicolon c >>= λ s. Ok (collection_of kind n.0 ns.0, s)) (names_at f.0 f.1) (names_reads f.0 f.1)
-                  (λ ns m. bind_reads (ReadsMark marks.Close ns.1) G (λ c. mark_at marks.Semicolon c >>= λ s. Ok (collection_of kind n.0 ns.0, s)) (mark_at marks.Close ns.1) (mark_reads marks.Close ns.1)
-                    (λ c e4.
-                      let p4 : (k : ℕ) (st : List Sym) → run k (in_collection st) ts ≡ run (m.next k) (last st) c = λ k st. p3 k st ∙ m.goes k (last st) ∙ ap (λ (t : List Terminal). run (m.next k) (Sym.mark marks.Close ∷ last st) t) (sym e4) in
-                      bind_reads (ReadsMark marks.Semicolon c) G (λ s. Ok (collection_of kind n.0 ns.0, s)) (mark_at marks.Semicolon c) (mark_reads marks.Semicolon c)
-                        (λ s e5.
-                          let tree : CollectionTree = record { kind = kind; name = n.0; first = f.0; more = m.trees } in
-                          record {
-                            tree = tree;
-                            texts = flat_collection tree s ∙ ap (λ (t : List Terminal). word (kind_word kind) ∷ t) (ap (λ (t : List Terminal). terminals.Name n.0 ∷ t) (ap (λ (t : List Terminal). mark marks.Open ∷ t) (ap (λ (t : List Terminal). terminals.Name f.0 ∷ t) (ap (λ (t : List Terminal). more_names_text m.trees ++ t) (ap (λ (t : List Terminal). mark marks.Close ∷ t) e5 ∙ e4) ∙ m.texts) ∙ e3) ∙ e2) ∙ e1);
-                            means = ap (λ (ns : List Name). collection_of kind n.0 (f.0 ∷ ns)) (sym (map_itself m.trees)) ∙ ap (λ (ns : List Name). collection_of kind n.0 ns) m.means;
-                            next = m.next;
-                            goes = λ k st. p4 k st ∙ ap (λ (t : List Terminal). run (m.next k) (last st) t) (sym e5);
-                          })
-                        (λ i j k st. p4 k st ∙ j (m.next k) (Sym.collections ∷ st)))
-                    (λ i j k st. p3 k st ∙ m.goes k (last st) ∙ j (m.next k) (last st)))
-                  (λ i j k st. p3 k st ∙ j k (last st)))
-              (λ i j k st. p2 k st ∙ j k (Sym.more_names ∷ last st)))
-          (λ i j k st. p1 k st ∙ j k (Sym.a_name ∷ Sym.more_names ∷ last st)))
-      (λ i j k st. j k (Sym.mark marks.Open ∷ Sym.a_name ∷ Sym.more_names ∷ last st))
+    (λ n e1.
+    let p1 : (k : ℕ) (st : List Sym) → run k (in_collection st) ts ≡ run k (Sym.mark marks.Open ∷ Sym.a_name ∷ Sym.more_names ∷ last st) n.1 = λ k st. ap (λ (t : List Terminal). run k (in_collection st) t) (sym e1) in
+    bind_reads (ReadsMark marks.Open n.1) G (λ o. name_at o >>= λ f. names_at f.0 f.1 >>= λ ns. mark_at marks.Close ns.1 >>= λ c. mark_at marks.Semicolon c >>= λ s. Ok (collection_of kind n.0 ns.0, s)) (mark_at marks.Open n.1) (mark_reads marks.Open n.1)
+    (λ o e2.
+    let p2 : (k : ℕ) (st : List Sym) → run k (in_collection st) ts ≡ run k (Sym.a_name ∷ Sym.more_names ∷ last st) o = λ k st. p1 k st ∙ ap (λ (t : List Terminal). run k (Sym.mark marks.Open ∷ Sym.a_name ∷ Sym.more_names ∷ last st) t) (sym e2) in
+    bind_reads (ReadsName o) G (λ f. names_at f.0 f.1 >>= λ ns. mark_at marks.Close ns.1 >>= λ c. mark_at marks.Semicolon c >>= λ s. Ok (collection_of kind n.0 ns.0, s)) (name_at o) (name_reads o)
+    (λ f e3.
+    let p3 : (k : ℕ) (st : List Sym) → run k (in_collection st) ts ≡ run k (Sym.more_names ∷ last st) f.1 = λ k st. p2 k st ∙ ap (λ (t : List Terminal). run k (Sym.a_name ∷ Sym.more_names ∷ last st) t) (sym e3) in
+    bind_reads (ReadsMore name_kind Sym.more_names (Sym.mark marks.Close) f.0 f.1) G (λ ns. mark_at marks.Close ns.1 >>= λ c. mark_at marks.Semicolon c >>= λ s. Ok (collection_of kind n.0 ns.0, s)) (names_at f.0 f.1) (names_reads f.0 f.1)
+    (λ ns m. bind_reads (ReadsMark marks.Close ns.1) G (λ c. mark_at marks.Semicolon c >>= λ s. Ok (collection_of kind n.0 ns.0, s)) (mark_at marks.Close ns.1) (mark_reads marks.Close ns.1)
+    (λ c e4.
+    let p4 : (k : ℕ) (st : List Sym) → run k (in_collection st) ts ≡ run (m.next k) (last st) c = λ k st. p3 k st ∙ m.goes k (last st) ∙ ap (λ (t : List Terminal). run (m.next k) (Sym.mark marks.Close ∷ last st) t) (sym e4) in
+    bind_reads (ReadsMark marks.Semicolon c) G (λ s. Ok (collection_of kind n.0 ns.0, s)) (mark_at marks.Semicolon c) (mark_reads marks.Semicolon c)
+    (λ s e5.
+    let tree : CollectionTree = record { kind = kind; name = n.0; first = f.0; more = m.trees } in
+    record {
+      tree = tree;
+      texts = flat_collection tree s ∙ ap (λ (t : List Terminal). word (kind_word kind) ∷ t) (ap (λ (t : List Terminal). terminals.Name n.0 ∷ t) (ap (λ (t : List Terminal). mark marks.Open ∷ t) (ap (λ (t : List Terminal). terminals.Name f.0 ∷ t) (ap (λ (t : List Terminal). more_names_text m.trees ++ t) (ap (λ (t : List Terminal). mark marks.Close ∷ t) e5 ∙ e4) ∙ m.texts) ∙ e3) ∙ e2) ∙ e1);
+      means = ap (λ (ns : List Name). collection_of kind n.0 (f.0 ∷ ns)) (sym (map_itself m.trees)) ∙ ap (λ (ns : List Name). collection_of kind n.0 ns) m.means;
+      next = m.next;
+      goes = λ k st. p4 k st ∙ ap (λ (t : List Terminal). run (m.next k) (last st) t) (sym e5);
+    })
+    (λ i j k st. p4 k st ∙ j (m.next k) (Sym.collections ∷ st)))
+    (λ i j k st. p3 k st ∙ m.goes k (last st) ∙ j (m.next k) (last st)))
+    (λ i j k st. p3 k st ∙ j k (last st)))
+    (λ i j k st. p2 k st ∙ j k (Sym.more_names ∷ last st)))
+    (λ i j k st. p1 k st ∙ j k (Sym.a_name ∷ Sym.more_names ∷ last st)))
+    (λ i j k st. j k (Sym.mark marks.Open ∷ Sym.a_name ∷ Sym.more_names ∷ last st))
 
 pub collection_longer : (c : CollectionTree) (more : List Terminal) → length more < length (collection_text c ++ more)
 collection_longer c more = omega (arith, length_more (more_names_text c.more ++ mark marks.Close ∷ mark marks.Semicolon ∷ []) more)
@@ -133,25 +134,25 @@ rule_behind head ts =
     let G : Result (RuleForm × List Terminal) ℕ → Type 0 = ReadsOne rule_kind Sym.rules (terminals.Name head ∷ ts) in
     let last : List Sym → List Sym = λ st. Sym.mark marks.Semicolon ∷ Sym.rules ∷ st in
     bind_reads (ReadsArrow ts) G (λ a. expr_at 32 a >>= λ b. mark_at marks.Semicolon b.1 >>= λ s. Ok ((head, b.0), s)) (arrow_at ts) (arrow_reads ts)
-      (λ a e1.
-        let p1 : (k : ℕ) (st : List Sym) → run k (Sym.rules ∷ st) (terminals.Name head ∷ ts) ≡ run k (Sym.expr 32 ∷ last st) a = λ k st. ap (λ (t : List Terminal). run k (in_rule st) t) (sym e1) in
-        bind_reads (ReadsExpr 32 a) G (λ b. mark_at marks.Semicolon b.1 >>= λ s. Ok ((head, b.0), s)) (expr_at 32 a) (expr_reads 32 a)
-          (λ b h. bind_reads (ReadsMark marks.Semicolon b.1) G (λ s. Ok ((head, b.0), s)) (mark_at marks.Semicolon b.1) (mark_reads marks.Semicolon b.1)
-            (λ s e3.
-              let tree : RuleTree = record { head = head; body = h.tree } in
-              let all : rule_text tree ++ s ≡ terminals.Name head ∷ ts = flat_rule tree s ∙ ap (λ (t : List Terminal). terminals.Name head ∷ t) (ap (λ (t : List Terminal). terminals.Sign Le ∷ t) (ap (λ (t : List Terminal). expr_text h.tree ++ t) e3 ∙ h.text) ∙ e1) in
-              record {
-                tree = tree;
-                fits = h.fits;
-                means = ap (λ (q : Query). (head, q)) h.means;
-                texts = all;
-                next = h.next;
-                goes = λ k st. p1 k st ∙ h.goes k (last st) ∙ ap (λ (t : List Terminal). run (h.next k) (last st) t) (sym e3);
-                shorter = omega (arith, rule_longer tree s, ap (λ (t : List Terminal). length t) all);
-              })
-            (λ n j k st. p1 k st ∙ h.goes k (last st) ∙ j (h.next k) (Sym.rules ∷ st)))
-          (λ n j k st. p1 k st ∙ j k (last st)))
-      (λ n j k st. j k (Sym.expr 32 ∷ last st))
+    (λ a e1.
+    let p1 : (k : ℕ) (st : List Sym) → run k (Sym.rules ∷ st) (terminals.Name head ∷ ts) ≡ run k (Sym.expr 32 ∷ last st) a = λ k st. ap (λ (t : List Terminal). run k (in_rule st) t) (sym e1) in
+    bind_reads (ReadsExpr 32 a) G (λ b. mark_at marks.Semicolon b.1 >>= λ s. Ok ((head, b.0), s)) (expr_at 32 a) (expr_reads 32 a)
+    (λ b h. bind_reads (ReadsMark marks.Semicolon b.1) G (λ s. Ok ((head, b.0), s)) (mark_at marks.Semicolon b.1) (mark_reads marks.Semicolon b.1)
+    (λ s e3.
+    let tree : RuleTree = record { head = head; body = h.tree } in
+    let all : rule_text tree ++ s ≡ terminals.Name head ∷ ts = flat_rule tree s ∙ ap (λ (t : List Terminal). terminals.Name head ∷ t) (ap (λ (t : List Terminal). terminals.Sign Le ∷ t) (ap (λ (t : List Terminal). expr_text h.tree ++ t) e3 ∙ h.text) ∙ e1) in
+    record {
+      tree = tree;
+      fits = h.fits;
+      means = ap (λ (q : Query). (head, q)) h.means;
+      texts = all;
+      next = h.next;
+      goes = λ k st. p1 k st ∙ h.goes k (last st) ∙ ap (λ (t : List Terminal). run (h.next k) (last st) t) (sym e3);
+      shorter = omega (arith, rule_longer tree s, ap (λ (t : List Terminal). length t) all);
+    })
+    (λ n j k st. p1 k st ∙ h.goes k (last st) ∙ j (h.next k) (Sym.rules ∷ st)))
+    (λ n j k st. p1 k st ∙ j k (last st)))
+    (λ n j k st. j k (Sym.expr 32 ∷ last st))
 
 rule_reads : (ts : List Terminal) → has_name ts ≡ true → ReadsOne rule_kind Sym.rules ts (rule_at ts)
 rule_reads [] e = absurd cc
@@ -200,36 +201,41 @@ module_reads ts =
     let G : Result Form ℕ → Type 0 = ReadsModule ts in
     let last : List Sym = Sym.collections ∷ [] in
     bind_reads (ReadsModuleWord ts) G (λ w. name_at w >>= λ n. mark_at marks.Semicolon n.1 >>= λ b. collections_at b >>= λ cs. rules_at cs.1 >>= λ rs. end_at rs.1 >>= λ z. Ok (form_from n.0 cs.0 rs.0)) (module_word_at ts) (module_word_reads ts)
-      (λ w e1.
-        let p1 : run 0 whole ts ≡ run 0 (Sym.a_name ∷ Sym.mark marks.Semicolon ∷ last) w = ap (λ (t : List Terminal). run 0 whole t) (sym e1) in
-        bind_reads (ReadsName w) G (λ n. mark_at marks.Semicolon n.1 >>= λ b. collections_at b >>= λ cs. rules_at cs.1 >>= λ rs. end_at rs.1 >>= λ z. Ok (form_from n.0 cs.0 rs.0)) (name_at w) (name_reads w)
-          (λ n e2.
-            let p2 : run 0 whole ts ≡ run 0 (Sym.mark marks.Semicolon ∷ last) n.1 = p1 ∙ ap (λ (t : List Terminal). run 0 (Sym.a_name ∷ Sym.mark marks.Semicolon ∷ last) t) (sym e2) in
-            bind_reads (ReadsMark marks.Semicolon n.1) G (λ b. collections_at b >>= λ cs. rules_at cs.1 >>= λ rs. end_at rs.1 >>= λ z. Ok (form_from n.0 cs.0 rs.0)) (mark_at marks.Semicolon n.1) (mark_reads marks.Semicolon n.1)
-              (λ b e3.
-                let p3 : run 0 whole ts ≡ run 0 last b = p2 ∙ ap (λ (t : List Terminal). run 0 (Sym.mark marks.Semicolon ∷ last) t) (sym e3) in
-                bind_reads (ReadsMany collection_kind Sym.collections Sym.rules b) G (λ cs. rules_at cs.1 >>= λ rs. end_at rs.1 >>= λ z. Ok (form_from n.0 cs.0 rs.0)) (collections_at b) (collections_reads b)
-                  (λ cs h.
-                    let p4 : run 0 whole ts ≡ run (h.next 0) (Sym.rules ∷ []) cs.1 = p3 ∙ h.goes 0 [] in
-                    bind_reads (ReadsMany rule_kind Sym.rules Sym.the_end cs.1) G (λ rs. end_at rs.1 >>= λ z. Ok (form_from n.0 cs.0 rs.0)) (rules_at cs.1) (rules_reads cs.1)
-                      (λ rs g.
-                        let p5 : run 0 whole ts ≡ run (g.next (h.next 0)) (Sym.the_end ∷ []) rs.1 = p4 ∙ g.goes (h.next 0) [] in
-                        bind_reads (ReadsEnd rs.1) G (λ z. Ok (form_from n.0 cs.0 rs.0)) (end_at rs.1) (end_reads rs.1)
-                          (λ z e6.
-                            let tree : ModuleTree = record { name = n.0; collections = h.trees; rules = g.trees } in
-                            record {
-                              stands = record {
-                                tree = tree;
-                                fits = g.fits;
-                                text = flat_module tree ∙ ap (λ (t : List Terminal). word words.Module ∷ t) (ap (λ (t : List Terminal). terminals.Name n.0 ∷ t) (ap (λ (t : List Terminal). mark marks.Semicolon ∷ t) (ap (λ (t : List Terminal). flat_map collection_text h.trees ++ t) (ap (λ (t : List Terminal). flat_map rule_text g.trees ++ t) e6 ∙ g.texts) ∙ h.texts) ∙ e3) ∙ e2) ∙ e1;
-                                means = ap (λ (c : List Collection). form_from n.0 c (map tree_rule g.trees)) h.means ∙ ap (λ (r : List RuleForm). form_from n.0 cs.0 r) g.means;
-                              };
-                              left = g.next (h.next 0);
-                              runs = p5 ∙ ap (λ (t : List Terminal). run (g.next (h.next 0)) (Sym.the_end ∷ []) t) (sym e6);
-                            })
-                          (λ i j. p5 ∙ j (g.next (h.next 0))))
-                      (λ i j. p4 ∙ j (h.next 0) []))
-                  (λ i j. p3 ∙ j 0 []))
-              (λ i j. p2 ∙ j 0 last))
-          (λ i j. p1 ∙ j 0 (Sym.mark marks.Semicolon ∷ last)))
-      (λ i j. j 0 (Sym.a_name ∷ Sym.mark marks.Semicolon ∷ last))
+    (λ w e1.
+    let p1 : run 0 whole ts ≡ run 0 (Sym.a_name ∷ Sym.mark marks.Semicolon ∷ last) w = ap (λ (t : List Terminal). run 0 whole t) (sym e1) in
+    bind_reads (ReadsName w) G (λ n. mark_at marks.Semicolon n.1 >>= λ b. collections_at b >>= λ cs. rules_at cs.1 >>= λ rs. end_at rs.1 >>= λ z. Ok (form_from n.0 cs.0 rs.0)) (name_at w) (name_reads w)
+    (λ n e2.
+    let p2 : run 0 whole ts ≡ run 0 (Sym.mark marks.Semicolon ∷ last) n.1 = p1 ∙ ap (λ (t : List Terminal). run 0 (Sym.a_name ∷ Sym.mark marks.Semicolon ∷ last) t) (sym e2) in
+    bind_reads (ReadsMark marks.Semicolon n.1) G (λ b. collections_at b >>= λ cs. rules_at cs.1 >>= λ rs. end_at rs.1 >>= λ z. Ok (form_from n.0 cs.0 rs.0)) (mark_at marks.Semicolon n.1) (mark_reads marks.Semicolon n.1)
+    (λ b e3.
+    let p3 : run 0 whole ts ≡ run 0 last b = p2 ∙ ap (λ (t : List Terminal). run 0 (Sym.mark marks.Semicolon ∷ last) t) (sym e3) in
+    bind_reads (ReadsMany collection_kind Sym.collections Sym.rules b) G (λ cs. rules_at cs.1 >>= λ rs. end_at rs.1 >>= λ z. Ok (form_from n.0 cs.0 rs.0)) (collections_at b) (collections_reads b)
+    (λ cs h.
+    let p4 : run 0 whole ts ≡ run (h.next 0) (Sym.rules ∷ []) cs.1 = p3 ∙ h.goes 0 [] in
+    bind_reads (ReadsMany rule_kind Sym.rules Sym.the_end cs.1) G (λ rs. end_at rs.1 >>= λ z. Ok (form_from n.0 cs.0 rs.0)) (rules_at cs.1) (rules_reads cs.1)
+    (λ rs g.
+    let p5 : run 0 whole ts ≡ run (g.next (h.next 0)) (Sym.the_end ∷ []) rs.1 = p4 ∙ g.goes (h.next 0) [] in
+    bind_reads (ReadsEnd rs.1) G (λ z. Ok (form_from n.0 cs.0 rs.0)) (end_at rs.1) (end_reads rs.1)
+    (λ z e6.
+    let tree : ModuleTree = record { name = n.0; collections = h.trees; rules = g.trees } in
+    record {
+      stands = record {
+        tree = tree;
+        fits = g.fits;
+        text = flat_module tree ∙ ap (λ (t : List Terminal). word words.Module ∷ t) (ap (λ (t : List Terminal). terminals.Name n.0 ∷ t) (ap (λ (t : List Terminal). mark marks.Semicolon ∷ t) (ap (λ (t : List Terminal). flat_map collection_text h.trees ++ t) (ap (λ (t : List Terminal). flat_map rule_text g.trees ++ t) e6 ∙ g.texts) ∙ h.texts) ∙ e3) ∙ e2) ∙ e1;
+        means = ap (λ (c : List Collection). form_from n.0 c (map tree_rule g.trees)) h.means ∙ ap (λ (r : List RuleForm). form_from n.0 cs.0 r) g.means;
+      };
+      left = g.next (h.next 0);
+      runs = p5 ∙ ap (λ (t : List Terminal). run (g.next (h.next 0)) (Sym.the_end ∷ []) t) (sym e6);
+    })
+    (λ i j. p5 ∙ j (g.next (h.next 0))))
+    (λ i j. p4 ∙ j (h.next 0) []))
+    (λ i j. p3 ∙ j 0 []))
+    (λ i j. p2 ∙ j 0 last))
+    (λ i j. p1 ∙ j 0 (Sym.mark marks.Semicolon ∷ last)))
+    (λ i j. j 0 (Sym.a_name ∷ Sym.mark marks.Semicolon ∷ last))
+
+-- one more rule
+pub one_more_rule : (rules : List Rule) (r : Rule) → rule_forms (rules ++ r ∷ []) ≡ rule_forms rules ++ rule_form r ∷ []
+one_more_rule [] r = refl
+one_more_rule (first ∷ rules) r = ap (λ (t : List RuleForm). rule_form first ∷ t) (one_more_rule rules r)

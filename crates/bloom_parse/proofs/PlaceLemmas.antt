@@ -5,6 +5,8 @@ use Rattle.bloom_ast.specs.Form.{Form}
 use Rattle.bloom_parse.specs.declared.terminal.Terminal.{Terminal}
 use Rattle.bloom_parse.specs.ReadingModules.{module_at}
 use Rattle.bloom_parse.specs.Places.{IsModuleText, Begins, NoneGoesOn, IsFault}
+use Rattle.bloom_parse.specs.declared.read_fault.ReadFault.TheVariants as faults
+use Rattle.bloom_parse.specs.ReadPlaces.{IsPlace}
 use Rattle.bloom_parse.proofs.Machine.{Sym, State, step, run, closing, closes}
 use Rattle.bloom_parse.proofs.ModuleLemmas.{whole, IsRead, ReadsModule, module_reads}
 use Rattle.bloom_parse.proofs.ModuleAgain.{text_again}
@@ -36,8 +38,16 @@ stop_at : (k : ℕ) (st : List Sym) (t : Terminal) (ts : List Terminal) (n : ℕ
     → run k st (t ∷ ts) ≡ Err n → Stop k st (t ∷ ts) n
 stop_at k st t ts n None e rec f =
     let now : (more : List Terminal) → run k st (t ∷ more) ≡ Err (length (t ∷ more)) = λ more. ap (λ (o : Option State). elim o as (λ s. Result State ℕ) [ None ↦ Err (length (t ∷ more)) | Some s ↦ run s.0 s.1 more ]) e in
-    record { front = []; behind = t ∷ ts; left = k; state = st; parts = refl; many = err_is (run k st (t ∷ ts)) (length (t ∷ ts)) n (now ts) f; goes = λ more. refl;
-      dead = λ more left g. not_both (run k st (t ∷ more)) (length (t ∷ more)) (left, []) (now more) g }
+    record {
+      front = [];
+      behind = t ∷ ts;
+      left = k;
+      state = st;
+      parts = refl;
+      many = err_is (run k st (t ∷ ts)) (length (t ∷ ts)) n (now ts) f;
+      goes = λ more. refl;
+      dead = λ more left g. not_both (run k st (t ∷ more)) (length (t ∷ more)) (left, []) (now more) g;
+    }
 stop_at k st t ts n (Some s) e rec f =
     let now : (more : List Terminal) → run k st (t ∷ more) ≡ run s.0 s.1 more = λ more. ap (λ (o : Option State). elim o as (λ s. Result State ℕ) [ None ↦ Err (length (t ∷ more)) | Some s ↦ run s.0 s.1 more ]) e in
     let r = rec s (sym (now ts) ∙ f) in
@@ -83,3 +93,6 @@ read_is_text ts m e = let r : IsRead ts m = subst (ReadsModule ts) e (module_rea
 
 pub fault_is_first : (ts : List Terminal) (n : ℕ) → module_at ts ≡ Err n → IsFault ts n
 fault_is_first ts n e = stop_is_fault ts n (subst (ReadsModule ts) e (module_reads ts))
+
+pub place_is_first : (ts : List Terminal) (n : ℕ) → module_at ts ≡ Err n → IsPlace ts (faults.Left n)
+place_is_first ts n e = fault_is_first ts n e

@@ -76,20 +76,24 @@ OrsAgain o = (room left after : ℕ) (rest : List Terminal) → OrsFit room o �
 and_turn : (u : UnitTree) → UnitAgain u → (room turns mid here after : ℕ) (sum : Option Formula) (product : Formula) (rest : List Terminal) → mid ≡ suc here → mid ≤ turns → here ≤ 31 → UnitFits room u → suc here ≡ unit_size u + after
     → Goes room (chain_at (unit_at room) turns mid sum product (word words.And ∷ (unit_text u ++ rest))) after sum (both product (unit_formula u)) rest
 and_turn u again room zero mid here after sum product rest is le few fits size = absurd (omega (arith, is, le))
-and_turn u again room (suc t) mid here after sum product rest is le few fits size =
-    (t, omega (arith, is, le, size, unit_some u),
-      ap (λ m. chain_at (unit_at room) (suc t) m sum product (word words.And ∷ (unit_text u ++ rest))) is
+and_turn u again room (suc t) mid here after sum product rest is le few fits size = (
+  t,
+  omega (arith, is, le, size, unit_some u),
+  ap (λ m. chain_at (unit_at room) (suc t) m sum product (word words.And ∷ (unit_text u ++ rest))) is
       ∙ chain_and (unit_at room) t here sum product (unit_text u ++ rest)
-      ∙ ap (λ (r : Read). r >>= λ u. chain_at (unit_at room) t u.1 sum (both product u.0) u.2) (again room here after rest fits size few))
+      ∙ ap (λ (r : Read). r >>= λ u. chain_at (unit_at room) t u.1 sum (both product u.0) u.2) (again room here after rest fits size few),
+)
 
 or_turn : (a : AndsTree) → AndsAgain a → (room turns mid here after : ℕ) (sum : Option Formula) (product : Formula) (rest : List Terminal) → mid ≡ suc here → mid ≤ turns → here ≤ 31 → AndsFit room a → suc here ≡ ands_size a + after
     → Goes room (chain_at (unit_at room) turns mid sum product (word words.Or ∷ (ands_text a ++ rest))) after (Some (summed_of sum product)) (ands_formula a) rest
 or_turn a again room zero mid here after sum product rest is le few fits size = absurd (omega (arith, is, le))
 or_turn a again room (suc t) mid here after sum product rest is le few fits size =
-    let g = again room t here after (Some (summed_of sum product)) rest fits size (omega (arith, is, le)) few in
-    (g.0, g.1,
+    let g = again room t here after (Some (summed_of sum product)) rest fits size (omega (arith, is, le)) few in (
+      g.0,
+      g.1,
       ap (λ m. chain_at (unit_at room) (suc t) m sum product (word words.Or ∷ (ands_text a ++ rest))) is
-      ∙ chain_or (unit_at room) t here sum product (ands_text a ++ rest) ∙ g.2)
+          ∙ chain_or (unit_at room) t here sum product (ands_text a ++ rest) ∙ g.2,
+    )
 
 pub pred_ends : (o : OrsTree) (room left after : ℕ) (rest : List Terminal) → Goes room (enter (unit_at room) None 31 left (ors_text o ++ mark marks.Close ∷ rest)) after (sum_of o) (last_of o) (mark marks.Close ∷ rest) → pred_by (unit_at room) left (ors_text o ++ mark marks.Close ∷ rest) ≡ Ok (ors_formula o, after, mark marks.Close ∷ rest)
 unfolding pred_by

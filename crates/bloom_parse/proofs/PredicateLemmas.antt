@@ -42,10 +42,10 @@ Behind l room left ts (Err n) = (st : List Sym) → run left (Sym.a_sign ∷ Sym
 behind : (l : Term) (room left : ℕ) (ts : List Terminal) → Behind l room left ts (sign_at ts >>= λ o. operand_at o.1 >>= λ r. Ok (compare l o.0 r.0, left, r.1))
 behind l room left ts =
     bind_reads (ReadsSign ts) (Behind l room left ts) (λ o. operand_at o.1 >>= λ r. Ok (compare l o.0 r.0, left, r.1)) (sign_at ts) (sign_reads ts)
-      (λ o e. bind_reads (ReadsOperand o.1) (Behind l room left ts) (λ r. Ok (compare l o.0 r.0, left, r.1)) (operand_at o.1) (operand_reads o.1)
-        (λ r f. record { tree = UnitTree.comparison l o.0 r.0; fits = tt; size = omega arith; text = ap (λ (t : List Terminal). term_token l ∷ t) (ap (λ (t : List Terminal). terminals.Sign o.0 ∷ t) f ∙ e); means = refl })
-        (λ n h st. ap (λ (t : List Terminal). run left (Sym.a_sign ∷ Sym.an_operand ∷ st) t) (sym e) ∙ h left st))
-      (λ n h st. h left (Sym.an_operand ∷ st))
+    (λ o e. bind_reads (ReadsOperand o.1) (Behind l room left ts) (λ r. Ok (compare l o.0 r.0, left, r.1)) (operand_at o.1) (operand_reads o.1)
+    (λ r f. record { tree = UnitTree.comparison l o.0 r.0; fits = tt; size = omega arith; text = ap (λ (t : List Terminal). term_token l ∷ t) (ap (λ (t : List Terminal). terminals.Sign o.0 ∷ t) f ∙ e); means = refl })
+    (λ n h st. ap (λ (t : List Terminal). run left (Sym.a_sign ∷ Sym.an_operand ∷ st) t) (sym e) ∙ h left st))
+    (λ n h st. h left (Sym.an_operand ∷ st))
 
 first_goes : (l : Term) (room left : ℕ) (st : List Sym) (ts : List Terminal) → run left (Sym.unit room ∷ st) (term_token l ∷ ts) ≡ run left (Sym.a_sign ∷ Sym.an_operand ∷ st) ts
 first_goes (Column n) room left st ts = refl
@@ -185,31 +185,31 @@ ended_chain : (room : ℕ) (unit : ℕ → List Terminal → Read) → Chains ro
 unfolding chain_at
 ended_chain room unit left ts zero sum product rest p le =
     by_link_reads (ReadsPred room left ts) 0 (λ left rest. Err 0) (λ left rest. Err 0) (λ ts. Ok (summed_of sum product, zero, ts)) rest
-      (λ more e st. so_far_goes room left ts zero sum product rest st p ∙ ap (λ (t : List Terminal). run zero (Sym.tail room ∷ st) t) (sym e))
-      (λ more e st. so_far_goes room left ts zero sum product rest st p ∙ ap (λ (t : List Terminal). run zero (Sym.tail room ∷ st) t) (sym e))
-      (λ stops. so_far_ends room left ts zero sum product rest p stops)
+    (λ more e st. so_far_goes room left ts zero sum product rest st p ∙ ap (λ (t : List Terminal). run zero (Sym.tail room ∷ st) t) (sym e))
+    (λ more e st. so_far_goes room left ts zero sum product rest st p ∙ ap (λ (t : List Terminal). run zero (Sym.tail room ∷ st) t) (sym e))
+    (λ stops. so_far_ends room left ts zero sum product rest p stops)
 ended_chain room unit left ts (suc now) sum product rest p le = absurd (omega (arith, le))
 
 longer_chain : (room : ℕ) (unit : ℕ → List Terminal → Read) (turns : ℕ) → Units room unit → Chains room unit turns → Chains room unit (suc turns)
 unfolding chain_at
 longer_chain room unit turns units chains left ts zero sum product rest p le =
     by_link_reads (ReadsPred room left ts) zero (λ left rest. unit left rest >>= λ u. chain_at unit turns u.1 sum (both product u.0) u.2) (λ left rest. unit left rest >>= λ u. chain_at unit turns u.1 (Some (summed_of sum product)) u.0 u.2) (λ ts. Ok (summed_of sum product, zero, ts)) rest
-      (λ more e st. so_far_goes room left ts zero sum product rest st p ∙ ap (λ (t : List Terminal). run zero (Sym.tail room ∷ st) t) (sym e))
-      (λ more e st. so_far_goes room left ts zero sum product rest st p ∙ ap (λ (t : List Terminal). run zero (Sym.tail room ∷ st) t) (sym e))
-      (λ stops. so_far_ends room left ts zero sum product rest p stops)
+    (λ more e st. so_far_goes room left ts zero sum product rest st p ∙ ap (λ (t : List Terminal). run zero (Sym.tail room ∷ st) t) (sym e))
+    (λ more e st. so_far_goes room left ts zero sum product rest st p ∙ ap (λ (t : List Terminal). run zero (Sym.tail room ∷ st) t) (sym e))
+    (λ stops. so_far_ends room left ts zero sum product rest p stops)
 longer_chain room unit turns units chains left ts (suc now) sum product rest p le =
     by_link_reads (ReadsPred room left ts) (suc now) (λ left rest. unit left rest >>= λ u. chain_at unit turns u.1 sum (both product u.0) u.2) (λ left rest. unit left rest >>= λ u. chain_at unit turns u.1 (Some (summed_of sum product)) u.0 u.2) (λ ts. Ok (summed_of sum product, suc now, ts)) rest
-      (λ more e.
-        let q : SoFar room left ts (suc now) sum product (word words.And ∷ more) = subst (λ t. SoFar room left ts (suc now) sum product t) (sym e) p in
-        subst (ReadsPred room left ts) (sym (spend_more now (λ left rest. unit left rest >>= λ u. chain_at unit turns u.1 sum (both product u.0) u.2) (word words.And) more)) (bind_reads (ReadsUnit room now more) (ReadsPred room left ts) (λ u. chain_at unit turns u.1 sum (both product u.0) u.2) (unit now more) (units now more (omega (arith, p.few, p.size, Rattle.bloom_parse.proofs.Forward.ors_some (joined p.before p.last))))
-          (λ u h. chains left ts u.1 sum (both product u.0) u.2 (anded room left ts now sum product more u q h) (omega (arith, le, h.size, Rattle.bloom_parse.proofs.Forward.unit_some h.tree)))
-          (λ n h st. so_far_goes room left ts (suc now) sum product (word words.And ∷ more) st q ∙ h (Sym.tail room ∷ st))))
-      (λ more e.
-        let q : SoFar room left ts (suc now) sum product (word words.Or ∷ more) = subst (λ t. SoFar room left ts (suc now) sum product t) (sym e) p in
-        subst (ReadsPred room left ts) (sym (spend_more now (λ left rest. unit left rest >>= λ u. chain_at unit turns u.1 (Some (summed_of sum product)) u.0 u.2) (word words.Or) more)) (bind_reads (ReadsUnit room now more) (ReadsPred room left ts) (λ u. chain_at unit turns u.1 (Some (summed_of sum product)) u.0 u.2) (unit now more) (units now more (omega (arith, p.few, p.size, Rattle.bloom_parse.proofs.Forward.ors_some (joined p.before p.last))))
-          (λ u h. chains left ts u.1 (Some (summed_of sum product)) u.0 u.2 (ored room left ts now sum product more u q h) (omega (arith, le, h.size, Rattle.bloom_parse.proofs.Forward.unit_some h.tree)))
-          (λ n h st. so_far_goes room left ts (suc now) sum product (word words.Or ∷ more) st q ∙ h (Sym.tail room ∷ st))))
-      (λ stops. so_far_ends room left ts (suc now) sum product rest p stops)
+    (λ more e.
+    let q : SoFar room left ts (suc now) sum product (word words.And ∷ more) = subst (λ t. SoFar room left ts (suc now) sum product t) (sym e) p in
+    subst (ReadsPred room left ts) (sym (spend_more now (λ left rest. unit left rest >>= λ u. chain_at unit turns u.1 sum (both product u.0) u.2) (word words.And) more)) (bind_reads (ReadsUnit room now more) (ReadsPred room left ts) (λ u. chain_at unit turns u.1 sum (both product u.0) u.2) (unit now more) (units now more (omega (arith, p.few, p.size, Rattle.bloom_parse.proofs.Forward.ors_some (joined p.before p.last))))
+    (λ u h. chains left ts u.1 sum (both product u.0) u.2 (anded room left ts now sum product more u q h) (omega (arith, le, h.size, Rattle.bloom_parse.proofs.Forward.unit_some h.tree)))
+    (λ n h st. so_far_goes room left ts (suc now) sum product (word words.And ∷ more) st q ∙ h (Sym.tail room ∷ st))))
+    (λ more e.
+    let q : SoFar room left ts (suc now) sum product (word words.Or ∷ more) = subst (λ t. SoFar room left ts (suc now) sum product t) (sym e) p in
+    subst (ReadsPred room left ts) (sym (spend_more now (λ left rest. unit left rest >>= λ u. chain_at unit turns u.1 (Some (summed_of sum product)) u.0 u.2) (word words.Or) more)) (bind_reads (ReadsUnit room now more) (ReadsPred room left ts) (λ u. chain_at unit turns u.1 (Some (summed_of sum product)) u.0 u.2) (unit now more) (units now more (omega (arith, p.few, p.size, Rattle.bloom_parse.proofs.Forward.ors_some (joined p.before p.last))))
+    (λ u h. chains left ts u.1 (Some (summed_of sum product)) u.0 u.2 (ored room left ts now sum product more u q h) (omega (arith, le, h.size, Rattle.bloom_parse.proofs.Forward.unit_some h.tree)))
+    (λ n h st. so_far_goes room left ts (suc now) sum product (word words.Or ∷ more) st q ∙ h (Sym.tail room ∷ st))))
+    (λ stops. so_far_ends room left ts (suc now) sum product rest p stops)
 
 chain_reads : (room : ℕ) (unit : ℕ → List Terminal → Read) (turns : ℕ) → Units room unit → Chains room unit turns
 chain_reads room unit zero units = ended_chain room unit
@@ -220,26 +220,26 @@ pub pred_reads : (room : ℕ) (unit : ℕ → List Terminal → Read) → Units 
 unfolding pred_by
 pred_reads room unit units left ts le =
     bind_reads (ReadsUnit room left ts) (ReadsPred room left ts) (λ u. chain_at unit 31 u.1 None u.0 u.2) (unit left ts) (units left ts le)
-      (λ u h. chain_reads room unit 31 units left ts u.1 None u.0 u.2
-        (record { few = le; before = None; last = AndsTree.one_unit h.tree; fits = h.fits; size = h.size; text = h.text; sum_means = refl; last_means = h.means })
-        (omega (arith, le, h.size, Rattle.bloom_parse.proofs.Forward.unit_some h.tree)))
-      (λ n h st. h (Sym.tail room ∷ st))
+    (λ u h. chain_reads room unit 31 units left ts u.1 None u.0 u.2
+    (record { few = le; before = None; last = AndsTree.one_unit h.tree; fits = h.fits; size = h.size; text = h.text; sum_means = refl; last_means = h.means })
+    (omega (arith, le, h.size, Rattle.bloom_parse.proofs.Forward.unit_some h.tree)))
+    (λ n h st. h (Sym.tail room ∷ st))
 
 -- ---- units
 
 inner_reads : (room : ℕ) → Units room (unit_at room) → (left : ℕ) (rest : List Terminal) → left ≤ 31 → ReadsUnit (suc room) left (mark marks.Open ∷ rest) (pred_by (unit_at room) left rest >>= λ p. mark_at marks.Close p.2 >>= λ after. Ok (p.0, p.1, after))
 inner_reads room units left rest le =
     bind_reads (ReadsPred room left rest) (ReadsUnit (suc room) left (mark marks.Open ∷ rest)) (λ p. mark_at marks.Close p.2 >>= λ after. Ok (p.0, p.1, after)) (pred_by (unit_at room) left rest) (pred_reads room (unit_at room) units left rest le)
-      (λ p h. bind_reads (ReadsMark marks.Close p.2) (ReadsUnit (suc room) left (mark marks.Open ∷ rest)) (λ after. Ok (p.0, p.1, after)) (mark_at marks.Close p.2) (mark_reads marks.Close p.2)
-        (λ after e. record { tree = UnitTree.in_parens h.tree; fits = h.fits; size = h.size; text = ap (λ (t : List Terminal). mark marks.Open ∷ t) (append_assoc (ors_text h.tree) (mark marks.Close ∷ []) after ∙ ap (λ (t : List Terminal). ors_text h.tree ++ t) e ∙ h.text); means = h.means })
-        (λ n g st. pred_goes room left rest p st h ∙ g p.1 st))
-      (λ n h st. h st)
+    (λ p h. bind_reads (ReadsMark marks.Close p.2) (ReadsUnit (suc room) left (mark marks.Open ∷ rest)) (λ after. Ok (p.0, p.1, after)) (mark_at marks.Close p.2) (mark_reads marks.Close p.2)
+    (λ after e. record { tree = UnitTree.in_parens h.tree; fits = h.fits; size = h.size; text = ap (λ (t : List Terminal). mark marks.Open ∷ t) (append_assoc (ors_text h.tree) (mark marks.Close ∷ []) after ∙ ap (λ (t : List Terminal). ors_text h.tree ++ t) e ∙ h.text); means = h.means })
+    (λ n g st. pred_goes room left rest p st h ∙ g p.1 st))
+    (λ n h st. h st)
 
 not_reads : (room : ℕ) → Units room (unit_at room) → (left : ℕ) (rest : List Terminal) → left ≤ 31 → ReadsUnit (suc room) left (word words.Not ∷ rest) (unit_at room left rest >>= λ u. Ok (not_so u.0, u.1, u.2))
 not_reads room units left rest le =
     bind_reads (ReadsUnit room left rest) (ReadsUnit (suc room) left (word words.Not ∷ rest)) (λ u. Ok (not_so u.0, u.1, u.2)) (unit_at room left rest) (units left rest le)
-      (λ u h. record { tree = UnitTree.not_tree h.tree; fits = h.fits; size = h.size; text = ap (λ (t : List Terminal). word words.Not ∷ t) h.text; means = ap not_so h.means })
-      (λ n h st. h st)
+    (λ u h. record { tree = UnitTree.not_tree h.tree; fits = h.fits; size = h.size; text = ap (λ (t : List Terminal). word words.Not ∷ t) h.text; means = ap not_so h.means })
+    (λ n h st. h st)
 
 pub unit_reads : (room : ℕ) → Units room (unit_at room)
 unfolding unit_at unit_by comparison_at

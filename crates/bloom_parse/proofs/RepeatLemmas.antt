@@ -59,17 +59,17 @@ many_cases : {X T : Type 0} (kind : Kind X T) (more last : Sym) (starts : List T
 many_cases kind more last starts one listed turns rec ts le false e = none_more kind more last starts one listed ts (λ k st. listed.stop k st ts e)
 many_cases kind more last starts one listed turns rec ts le true e =
     bind_reads (ReadsOne kind more ts) (ReadsMany kind more last ts) (λ x. many_at starts one turns x.1 >>= λ xs. Ok (x.0 ∷ xs.0, xs.1)) (one ts) (listed.reads ts e)
-      (λ x h. bind_reads (ReadsMany kind more last x.1) (ReadsMany kind more last ts) (λ xs. Ok (x.0 ∷ xs.0, xs.1)) (many_at starts one turns x.1) (rec x.1 (omega (arith, h.shorter, le)))
-        (λ xs g. record {
-          trees = h.tree ∷ g.trees;
-          fits = All-cons kind.Fits h.tree g.trees h.fits g.fits;
-          means = ap (λ y. y ∷ map kind.view g.trees) h.means ∙ ap (λ ys. x.0 ∷ ys) g.means;
-          texts = ap (λ (t : List Terminal). t ++ xs.1) (listed.cons h.tree g.trees) ∙ append_assoc (kind.text h.tree) (kind.all_text g.trees) xs.1 ∙ ap (λ (t : List Terminal). kind.text h.tree ++ t) g.texts ∙ h.texts;
-          next = λ k. g.next (h.next k);
-          goes = λ k st. h.goes k st ∙ g.goes (h.next k) st;
-        })
-        (λ n g k st. h.goes k st ∙ g (h.next k) st))
-      (λ n h. h)
+    (λ x h. bind_reads (ReadsMany kind more last x.1) (ReadsMany kind more last ts) (λ xs. Ok (x.0 ∷ xs.0, xs.1)) (many_at starts one turns x.1) (rec x.1 (omega (arith, h.shorter, le)))
+    (λ xs g. record {
+      trees = h.tree ∷ g.trees;
+      fits = All-cons kind.Fits h.tree g.trees h.fits g.fits;
+      means = ap (λ y. y ∷ map kind.view g.trees) h.means ∙ ap (λ ys. x.0 ∷ ys) g.means;
+      texts = ap (λ (t : List Terminal). t ++ xs.1) (listed.cons h.tree g.trees) ∙ append_assoc (kind.text h.tree) (kind.all_text g.trees) xs.1 ∙ ap (λ (t : List Terminal). kind.text h.tree ++ t) g.texts ∙ h.texts;
+      next = λ k. g.next (h.next k);
+      goes = λ k st. h.goes k st ∙ g.goes (h.next k) st;
+    })
+    (λ n g k st. h.goes k st ∙ g (h.next k) st))
+    (λ n h. h)
 
 pub many_reads : {X T : Type 0} (kind : Kind X T) (more last : Sym) (starts : List Terminal → Bool) (one : List Terminal → Result (X × List Terminal) ℕ) (listed : Listed kind more last starts one) (turns : ℕ) (ts : List Terminal) → length ts ≤ turns → starts [] ≡ false → ReadsMany kind more last ts (many_at starts one turns ts)
 unfolding many_at
@@ -134,7 +134,7 @@ turns_again kind starts one rest r (t ∷ ts) zero fits le = absurd (omega (arit
 turns_again kind starts one rest r (t ∷ ts) (suc turns) fits le =
     ap (λ (x : List Terminal). many_at starts one (suc turns) x) (flat_cons kind starts one rest r t ts)
     ∙ next_again kind starts one rest r t ts turns (All-head kind.Fits t ts fits)
-      (turns_again kind starts one rest r ts turns (All-tail kind.Fits t ts fits) (omega (arith, le, ap (λ (x : List Terminal). length x) (flat_cons kind starts one rest r t ts), r.longer t (kind.all_text ts ++ rest))))
+    (turns_again kind starts one rest r ts turns (All-tail kind.Fits t ts fits) (omega (arith, le, ap (λ (x : List Terminal). length x) (flat_cons kind starts one rest r t ts), r.longer t (kind.all_text ts ++ rest))))
 
 pub many_again : {X T : Type 0} (kind : Kind X T) (starts : List Terminal → Bool) (one : List Terminal → Result (X × List Terminal) ℕ) (rest : List Terminal) (r : ReadAgain kind starts one rest) (ts : List T) → All kind.Fits ts
     → many_at starts one (length (kind.all_text ts ++ rest)) (kind.all_text ts ++ rest) ≡ listed (map kind.view ts) rest

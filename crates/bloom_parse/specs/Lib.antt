@@ -6,3 +6,4 @@ pub mod ReadingPredicates
 pub mod ReadingLists
 pub mod ReadingExprs
 pub mod ReadingModules
+pub mod ReadPlaces

@@ -2,9 +2,13 @@
 #![tactic(auto)]
 
 mod expressions;
+mod laws;
 mod lists;
 mod predicates;
 mod read_fault;
+mod reader;
+mod single;
 mod terminal;
 
+pub use laws::one_module_law;
 pub use terminal::{Mark, Terminal, Word};

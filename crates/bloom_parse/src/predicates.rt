@@ -1,6 +1,7 @@
 //! Predicates at the front of a list of terminals.
 ghost use Rattle.std.specs.Prelude.{◌≡◌, None, Ok};
 ghost use Rattle.bloom_ast.specs.Form.{formula_of};
+ghost use Rattle.bloom_ast.specs.Query.Formula.{both};
 ghost use Rattle.bloom_parse.specs.ReadingSingle.{Gives};
 ghost use Rattle.bloom_parse.specs.ReadingPredicates.{opening_of, link_of, unit_by, summed_of, formulas, comparison_at, chain_at, pred_by, unit_at};
 
@@ -106,6 +107,12 @@ pub(crate) fn pred(alloc: Global, room: u32, left: u32, terminals: &[Terminal]) 
     chain(alloc, room, left, first, rest)
 }
 
+fn anded(alloc: Global, product: Pred, part: Pred) -> Result<Pred, ReadFault>
+    ensures { Gives (λ x. formula_of x) result (Ok (both (formula_of product) (formula_of part))) }
+{
+    Ok(Pred::And(Box::new(alloc, product)?, Box::new(alloc, part)?))
+}
+
 fn summed(alloc: Global, sum: Option<Pred>, product: Pred) -> Result<Pred, ReadFault>
     ensures { Gives (λ x. formula_of x) result (Ok (summed_of (formulas sum) (formula_of product))) }
 {
@@ -131,7 +138,7 @@ fn chain(alloc: Global, room: u32, left: u32, first: Pred, terminals: &[Terminal
                     return Err(ReadFault::Left(rest.len()));
                 }
                 let (part, now, after) = unit(alloc, room, left - 1, behind_first(rest))?;
-                product = Pred::And(Box::new(alloc, product)?, Box::new(alloc, part)?);
+                product = anded(alloc, product, part)?;
                 left = now;
                 rest = after;
             }

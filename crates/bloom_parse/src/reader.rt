@@ -127,13 +127,13 @@ fn whole(alloc: Global, terminals: &[Terminal]) -> Result<Module, ReadFault>
     let rest = module_word(terminals)?;
     let (named, rest) = name(alloc, rest)?;
     let rest = mark(Mark::Semicolon, rest)?;
-    let (collections, rest) = collections(alloc, rest)?;
-    let (rules, rest) = rules(alloc, rest)?;
+    let (declared, rest) = collections(alloc, rest)?;
+    let (written, rest) = rules(alloc, rest)?;
     end(rest)?;
     Ok(Module {
         name: named,
-        collections: Items::from_vec(collections),
-        rules: Items::from_vec(rules),
+        collections: Items::from_vec(declared),
+        rules: Items::from_vec(written),
     })
 }
 

@@ -1,6 +1,5 @@
 //! Single terminals at the front of a list.
 ghost use Rattle.std.specs.Prelude.{◌≡◌, drop};
-ghost use Rattle.bloom_parse.specs.Marks.{mark_number};
 ghost use Rattle.bloom_parse.specs.ReadingSingle.{Gives, mark_at, name_at, operand_at, sign_at, equals_at, arrow_at, as_at, module_word_at, bound_at, has_comma, has_close_keys, has_as, has_name};
 
 use crate::read_fault::ReadFault;
@@ -9,25 +8,12 @@ use bloom_ast::Term;
 use blz_value::{Op, Str, Value};
 use std::alloc::Global;
 
-fn number(mark: Mark) -> u8
-    ensures { result ≡ mark_number mark }
-{
-    match mark {
-        Mark::Semicolon => 0,
-        Mark::Comma => 1,
-        Mark::Open => 2,
-        Mark::Close => 3,
-        Mark::OpenKeys => 4,
-        Mark::CloseKeys => 5,
-    }
-}
-
 /// The terminals behind this mark.
 pub(crate) fn mark(wanted: Mark, terminals: &[Terminal]) -> Result<&[Terminal], ReadFault>
     ensures { Gives (λ x. x.now) result (mark_at wanted terminals.now) }
 {
     match terminals {
-        [Terminal::Mark(found), rest @ ..] if number(wanted) == number(*found) => Ok(rest),
+        [Terminal::Mark(found), rest @ ..] if wanted == *found => Ok(rest),
         _ => Err(ReadFault::Left(terminals.len())),
     }
 }

@@ -11,3 +11,4 @@ pub mod ExprAgain
 pub mod ModuleLemmas
 pub mod ModuleAgain
 pub mod PlaceLemmas
+pub mod PlainLemmas

@@ -16,7 +16,7 @@ use Rattle.bloom_parse.specs.ReadingLists.{many_at, with_front, past, item_at, p
 use Rattle.bloom_parse.proofs.Machine.{Sym, State, step, run}
 use Rattle.bloom_parse.proofs.Flat.{flat_keys}
 use Rattle.bloom_parse.proofs.SingleLemmas.{bind_reads, Stuck, ReadsMark, mark_reads, ReadsName, name_reads, ReadsEquals, equals_reads}
-use Rattle.bloom_parse.proofs.RepeatLemmas.{Kind, IsOne, ReadsOne, IsMany, ReadsMany, Listed, many_reads, ReadsMore, more_reads, ReadAgain, listed, many_again}
+use Rattle.bloom_parse.proofs.RepeatLemmas.{Repeated, IsOne, ReadsOne, IsMany, ReadsMany, Listed, many_reads, ReadsMore, more_reads, ReadAgain, listed, many_again}
 
 pub map_itself : {X : Type 0} (xs : List X) → map (λ x. x) xs ≡ xs
 map_itself [] = refl
@@ -26,14 +26,14 @@ pub all_fit : {T : Type 0} (ts : List T) → All (λ t. Unit {0}) ts
 all_fit ts = λ k d lt. tt
 
 -- a thing behind its comma
-by_comma : {X T : Type 0} (kind : Kind X T) (more : Sym) (one : List Terminal → Result (X × List Terminal) ℕ) → ((rest : List Terminal) → ReadsOne kind more (mark marks.Comma ∷ rest) (one rest)) → (ts : List Terminal) → has_comma ts ≡ true → ReadsOne kind more ts (past one ts)
+by_comma : {X T : Type 0} (kind : Repeated X T) (more : Sym) (one : List Terminal → Result (X × List Terminal) ℕ) → ((rest : List Terminal) → ReadsOne kind more (mark marks.Comma ∷ rest) (one rest)) → (ts : List Terminal) → has_comma ts ≡ true → ReadsOne kind more ts (past one ts)
 by_comma kind more one reads [] e = absurd cc
 by_comma kind more one reads (terminals.Mark marks.Comma ∷ rest) e = reads rest
 by_comma kind more one reads (t ∷ rest) e = absurd cc
 
 -- ---- names
 
-abbrev pub name_kind : Kind Name Name
+abbrev pub name_kind : Repeated Name Name
 name_kind = record { view = λ n. n; text = λ n. mark marks.Comma ∷ terminals.Name n ∷ []; Fits = λ n. Unit {0}; all_text = more_names_text }
 
 names_cases : (more : Sym) → ((k : ℕ) (st : List Sym) (rest : List Terminal) → run k (more ∷ st) (mark marks.Comma ∷ rest) ≡ run k (Sym.a_name ∷ more ∷ st) rest) → (rest : List Terminal) (r : Result (Name × List Terminal) ℕ) → ReadsName rest r → ReadsOne name_kind more (mark marks.Comma ∷ rest) r
@@ -237,7 +237,7 @@ item_reads ts =
     (λ n e. subst (λ t. ReadsItem t (behind_name n.0 n.1)) e (item_with n.0 n.1 (behind_name n.0 n.1) (item_behind n.0 n.1)))
     (λ m h k st. h k (Sym.item_end ∷ st))
 
-abbrev pub item_kind : Kind (Name × Name) Item
+abbrev pub item_kind : Repeated (Name × Name) Item
 item_kind = record { view = item_pair; text = λ i. mark marks.Comma ∷ item_text i; Fits = λ i. Unit {0}; all_text = more_items_text }
 
 item_cases : (rest : List Terminal) (r : Result ((Name × Name) × List Terminal) ℕ) → ReadsItem rest r → ReadsOne item_kind Sym.more_items (mark marks.Comma ∷ rest) r
@@ -276,7 +276,7 @@ items_again first items rest = ap (λ (r : Result (List (Name × Name) × List T
 
 -- ---- pairs
 
-abbrev pub pair_kind : Kind (Name × Name) (Name × Name)
+abbrev pub pair_kind : Repeated (Name × Name) (Name × Name)
 pair_kind = record { view = λ p. p; text = λ p. mark marks.Comma ∷ terminals.Name p.0 ∷ terminals.Sign Eq ∷ terminals.Name p.1 ∷ []; Fits = λ p. Unit {0}; all_text = more_pairs_text }
 
 pair_reads : (ts : List Terminal) → ReadsOne pair_kind Sym.more_pairs (mark marks.Comma ∷ ts) (pair_at ts)

@@ -22,7 +22,7 @@ use Rattle.bloom_parse.specs.ReadingModules.{kind_at, has_kind, collection_of, d
 use Rattle.bloom_parse.proofs.Machine.{Sym, State, step, run, in_collection, in_rule}
 use Rattle.bloom_parse.proofs.Flat.{flat_collection, flat_rule, flat_module}
 use Rattle.bloom_parse.proofs.SingleLemmas.{bind_reads, Stuck, ReadsMark, mark_reads, ReadsName, name_reads, ReadsArrow, arrow_reads, ReadsModuleWord, module_word_reads}
-use Rattle.bloom_parse.proofs.RepeatLemmas.{Kind as Repeated, ReadsOne, ReadsMany, Listed, many_reads, ReadsMore}
+use Rattle.bloom_parse.proofs.RepeatLemmas.{Repeated, ReadsOne, ReadsMany, Listed, many_reads, ReadsMore}
 use Rattle.bloom_parse.proofs.ListLemmas.{map_itself, name_kind, names_reads}
 use Rattle.bloom_parse.proofs.ExprLemmas.{ReadsExpr, expr_reads}
 

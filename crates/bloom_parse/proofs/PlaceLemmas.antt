@@ -27,7 +27,7 @@ record Stop (k : ℕ) (st : List Sym) (ts : List Terminal) (n : ℕ) : Type 0 wh
   goes : (more : List Terminal) → run k st (front ++ more) ≡ run left state more
   dead : Dead left state behind
 
-not_both : {A : Type 0} (r : Result A ℕ) (n : ℕ) (x : A) → r ≡ Err n → r ≡ Ok x → ⊥
+pub not_both : {A : Type 0} (r : Result A ℕ) (n : ℕ) (x : A) → r ≡ Err n → r ≡ Ok x → ⊥
 not_both r n x e f = cc
 
 err_is : (r : Result State ℕ) (m n : ℕ) → r ≡ Err m → r ≡ Err n → m ≡ n
@@ -61,7 +61,7 @@ stops (t ∷ ts) k st n e = stop_at k st t ts n (step k st t) refl (λ s f. stop
 -- ---- whole texts
 
 -- the machine takes each text
-text_goes : (ts : List Terminal) (m : Form) → IsModuleText ts m → (left : ℕ) × (run 0 whole ts ≡ Ok (left, []))
+pub text_goes : (ts : List Terminal) (m : Form) → IsModuleText ts m → (left : ℕ) × (run 0 whole ts ≡ Ok (left, []))
 text_goes ts m h = let r : IsRead ts m = subst (ReadsModule ts) (text_again ts m h) (module_reads ts) in (r.left, r.runs)
 
 accepted_as : (ts : List Terminal) (left : ℕ) (r : Result Form ℕ) → ReadsModule ts r → run 0 whole ts ≡ Ok (left, []) → (m : Form) × IsModuleText ts m
@@ -69,7 +69,7 @@ accepted_as ts left (Ok m) h e = (m, h.stands)
 accepted_as ts left (Err n) h e = absurd (not_both (run 0 whole ts) n (left, []) h e)
 
 -- the machine takes just the texts
-accepted : (ts : List Terminal) (left : ℕ) → run 0 whole ts ≡ Ok (left, []) → (m : Form) × IsModuleText ts m
+pub accepted : (ts : List Terminal) (left : ℕ) → run 0 whole ts ≡ Ok (left, []) → (m : Form) × IsModuleText ts m
 accepted ts left e = accepted_as ts left (module_at ts) (module_reads ts) e
 
 none_goes_on : (front behind : List Terminal) (left : ℕ) (state : List Sym) → ((more : List Terminal) → run 0 whole (front ++ more) ≡ run left state more) → Dead left state behind → NoneGoesOn front behind

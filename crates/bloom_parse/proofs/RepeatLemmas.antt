@@ -10,15 +10,15 @@ use Rattle.bloom_parse.proofs.SingleLemmas.{bind_reads}
 
 -- ---- what is read
 
--- how trees of one kind read: what each means, its text, what holds of it, and the text of many
-pub record Kind (X T : Type 0) : Type 1 where
+-- trees of one kind that stand one behind the other: what each means, its text, what holds of it, and the text of many
+pub record Repeated (X T : Type 0) : Type 1 where
   pub view : T → X
   pub text : T → List Terminal
   pub Fits : T → Type 0
   pub all_text : List T → List Terminal
 
 -- what one thing of a list reads, where more may come behind it as before it
-pub record IsOne {X T : Type 0} (kind : Kind X T) (more : Sym) (ts : List Terminal) (x : X × List Terminal) : Type 0 where
+pub record IsOne {X T : Type 0} (kind : Repeated X T) (more : Sym) (ts : List Terminal) (x : X × List Terminal) : Type 0 where
   pub tree : T
   pub fits : kind.Fits tree
   pub means : kind.view tree ≡ x.0
@@ -27,11 +27,11 @@ pub record IsOne {X T : Type 0} (kind : Kind X T) (more : Sym) (ts : List Termin
   pub goes : (k : ℕ) (st : List Sym) → run k (more ∷ st) ts ≡ run (next k) (more ∷ st) x.1
   pub shorter : length x.1 < length ts
 
-abbrev pub ReadsOne : {X T : Type 0} → Kind X T → Sym → List Terminal → Result (X × List Terminal) ℕ → Type 0
+abbrev pub ReadsOne : {X T : Type 0} → Repeated X T → Sym → List Terminal → Result (X × List Terminal) ℕ → Type 0
 ReadsOne kind more ts (Ok x) = IsOne kind more ts x
 ReadsOne kind more ts (Err n) = (k : ℕ) (st : List Sym) → run k (more ∷ st) ts ≡ Err n
 
-pub record IsMany {X T : Type 0} (kind : Kind X T) (more last : Sym) (ts : List Terminal) (x : List X × List Terminal) : Type 0 where
+pub record IsMany {X T : Type 0} (kind : Repeated X T) (more last : Sym) (ts : List Terminal) (x : List X × List Terminal) : Type 0 where
   pub trees : List T
   pub fits : All kind.Fits trees
   pub means : map kind.view trees ≡ x.0
@@ -39,21 +39,21 @@ pub record IsMany {X T : Type 0} (kind : Kind X T) (more last : Sym) (ts : List 
   pub next : ℕ → ℕ
   pub goes : (k : ℕ) (st : List Sym) → run k (more ∷ st) ts ≡ run (next k) (last ∷ st) x.1
 
-abbrev pub ReadsMany : {X T : Type 0} → Kind X T → Sym → Sym → List Terminal → Result (List X × List Terminal) ℕ → Type 0
+abbrev pub ReadsMany : {X T : Type 0} → Repeated X T → Sym → Sym → List Terminal → Result (List X × List Terminal) ℕ → Type 0
 ReadsMany kind more last ts (Ok x) = IsMany kind more last ts x
 ReadsMany kind more last ts (Err n) = (k : ℕ) (st : List Sym) → run k (more ∷ st) ts ≡ Err n
 
 -- what { one } needs of its one thing
-pub record Listed {X T : Type 0} (kind : Kind X T) (more last : Sym) (starts : List Terminal → Bool) (one : List Terminal → Result (X × List Terminal) ℕ) : Type 0 where
+pub record Listed {X T : Type 0} (kind : Repeated X T) (more last : Sym) (starts : List Terminal → Bool) (one : List Terminal → Result (X × List Terminal) ℕ) : Type 0 where
   pub nil : kind.all_text [] ≡ []
   pub cons : (t : T) (ts : List T) → kind.all_text (t ∷ ts) ≡ kind.text t ++ kind.all_text ts
   pub stop : (k : ℕ) (st : List Sym) (ts : List Terminal) → starts ts ≡ false → run k (more ∷ st) ts ≡ run k (last ∷ st) ts
   pub reads : (ts : List Terminal) → starts ts ≡ true → ReadsOne kind more ts (one ts)
 
-none_more : {X T : Type 0} (kind : Kind X T) (more last : Sym) (starts : List Terminal → Bool) (one : List Terminal → Result (X × List Terminal) ℕ) (listed : Listed kind more last starts one) (ts : List Terminal) → ((k : ℕ) (st : List Sym) → run k (more ∷ st) ts ≡ run k (last ∷ st) ts) → IsMany kind more last ts ([], ts)
+none_more : {X T : Type 0} (kind : Repeated X T) (more last : Sym) (starts : List Terminal → Bool) (one : List Terminal → Result (X × List Terminal) ℕ) (listed : Listed kind more last starts one) (ts : List Terminal) → ((k : ℕ) (st : List Sym) → run k (more ∷ st) ts ≡ run k (last ∷ st) ts) → IsMany kind more last ts ([], ts)
 none_more kind more last starts one listed ts stop = record { trees = []; fits = All-nil kind.Fits; means = refl; texts = ap (λ (t : List Terminal). t ++ ts) listed.nil; next = λ k. k; goes = stop }
 
-many_cases : {X T : Type 0} (kind : Kind X T) (more last : Sym) (starts : List Terminal → Bool) (one : List Terminal → Result (X × List Terminal) ℕ) (listed : Listed kind more last starts one) (turns : ℕ)
+many_cases : {X T : Type 0} (kind : Repeated X T) (more last : Sym) (starts : List Terminal → Bool) (one : List Terminal → Result (X × List Terminal) ℕ) (listed : Listed kind more last starts one) (turns : ℕ)
     → ((ts : List Terminal) → length ts ≤ turns → ReadsMany kind more last ts (many_at starts one turns ts))
     → (ts : List Terminal) → length ts ≤ suc turns → (b : Bool) → starts ts ≡ b → ReadsMany kind more last ts (cond b (one ts >>= λ x. many_at starts one turns x.1 >>= λ xs. Ok (x.0 ∷ xs.0, xs.1)) (Ok ([], ts)))
 many_cases kind more last starts one listed turns rec ts le false e = none_more kind more last starts one listed ts (λ k st. listed.stop k st ts e)
@@ -71,14 +71,14 @@ many_cases kind more last starts one listed turns rec ts le true e =
     (λ n g k st. h.goes k st ∙ g (h.next k) st))
     (λ n h. h)
 
-pub many_reads : {X T : Type 0} (kind : Kind X T) (more last : Sym) (starts : List Terminal → Bool) (one : List Terminal → Result (X × List Terminal) ℕ) (listed : Listed kind more last starts one) (turns : ℕ) (ts : List Terminal) → length ts ≤ turns → starts [] ≡ false → ReadsMany kind more last ts (many_at starts one turns ts)
+pub many_reads : {X T : Type 0} (kind : Repeated X T) (more last : Sym) (starts : List Terminal → Bool) (one : List Terminal → Result (X × List Terminal) ℕ) (listed : Listed kind more last starts one) (turns : ℕ) (ts : List Terminal) → length ts ≤ turns → starts [] ≡ false → ReadsMany kind more last ts (many_at starts one turns ts)
 unfolding many_at
 many_reads kind more last starts one listed zero [] le none = none_more kind more last starts one listed [] (λ k st. listed.stop k st [] none)
 many_reads kind more last starts one listed zero (t ∷ ts) le none = absurd (omega (arith, le))
 many_reads kind more last starts one listed (suc turns) ts le none = many_cases kind more last starts one listed turns (λ ts le. many_reads kind more last starts one listed turns ts le none) ts le (starts ts) refl
 
 -- a first thing, and what is behind it
-pub record IsMore {X T : Type 0} (kind : Kind X T) (more last : Sym) (first : X) (ts : List Terminal) (x : List X × List Terminal) : Type 0 where
+pub record IsMore {X T : Type 0} (kind : Repeated X T) (more last : Sym) (first : X) (ts : List Terminal) (x : List X × List Terminal) : Type 0 where
   pub trees : List T
   pub fits : All kind.Fits trees
   pub means : first ∷ map kind.view trees ≡ x.0
@@ -86,17 +86,17 @@ pub record IsMore {X T : Type 0} (kind : Kind X T) (more last : Sym) (first : X)
   pub next : ℕ → ℕ
   pub goes : (k : ℕ) (st : List Sym) → run k (more ∷ st) ts ≡ run (next k) (last ∷ st) x.1
 
-abbrev pub ReadsMore : {X T : Type 0} → Kind X T → Sym → Sym → X → List Terminal → Result (List X × List Terminal) ℕ → Type 0
+abbrev pub ReadsMore : {X T : Type 0} → Repeated X T → Sym → Sym → X → List Terminal → Result (List X × List Terminal) ℕ → Type 0
 ReadsMore kind more last first ts (Ok x) = IsMore kind more last first ts x
 ReadsMore kind more last first ts (Err n) = (k : ℕ) (st : List Sym) → run k (more ∷ st) ts ≡ Err n
 
-pub more_reads : {X T : Type 0} (kind : Kind X T) (more last : Sym) (first : X) (ts : List Terminal) (r : Result (List X × List Terminal) ℕ) → ReadsMany kind more last ts r → ReadsMore kind more last first ts (with_front (first ∷ []) r)
+pub more_reads : {X T : Type 0} (kind : Repeated X T) (more last : Sym) (first : X) (ts : List Terminal) (r : Result (List X × List Terminal) ℕ) → ReadsMany kind more last ts r → ReadsMore kind more last first ts (with_front (first ∷ []) r)
 more_reads kind more last first ts (Ok x) h = record { trees = h.trees; fits = h.fits; means = ap (λ ys. first ∷ ys) h.means; texts = h.texts; next = h.next; goes = h.goes }
 more_reads kind more last first ts (Err n) h = h
 
 -- ---- each list is read again
 
-pub record ReadAgain {X T : Type 0} (kind : Kind X T) (starts : List Terminal → Bool) (one : List Terminal → Result (X × List Terminal) ℕ) (rest : List Terminal) : Type 0 where
+pub record ReadAgain {X T : Type 0} (kind : Repeated X T) (starts : List Terminal → Bool) (one : List Terminal → Result (X × List Terminal) ℕ) (rest : List Terminal) : Type 0 where
   pub nil : kind.all_text [] ≡ []
   pub cons : (t : T) (ts : List T) → kind.all_text (t ∷ ts) ≡ kind.text t ++ kind.all_text ts
   pub begins : (t : T) (more : List Terminal) → starts (kind.text t ++ more) ≡ true
@@ -116,7 +116,7 @@ many_goes_on : {X : Type 0} (starts : List Terminal → Bool) (one : List Termin
 unfolding many_at
 many_goes_on {X} starts one turns ts e = ap (λ (b : Bool). cond {A = Result (List X × List Terminal) ℕ} b (one ts >>= λ x. many_at starts one turns x.1 >>= λ xs. Ok (x.0 ∷ xs.0, xs.1)) (Ok ([], ts))) e
 
-next_again : {X T : Type 0} (kind : Kind X T) (starts : List Terminal → Bool) (one : List Terminal → Result (X × List Terminal) ℕ) (rest : List Terminal) (r : ReadAgain kind starts one rest) (t : T) (ts : List T) (turns : ℕ) → kind.Fits t
+next_again : {X T : Type 0} (kind : Repeated X T) (starts : List Terminal → Bool) (one : List Terminal → Result (X × List Terminal) ℕ) (rest : List Terminal) (r : ReadAgain kind starts one rest) (t : T) (ts : List T) (turns : ℕ) → kind.Fits t
     → many_at starts one turns (kind.all_text ts ++ rest) ≡ listed (map kind.view ts) rest
     → many_at starts one (suc turns) (kind.text t ++ (kind.all_text ts ++ rest)) ≡ listed (kind.view t ∷ map kind.view ts) rest
 next_again {X} kind starts one rest r t ts turns fits others =
@@ -124,10 +124,10 @@ next_again {X} kind starts one rest r t ts turns fits others =
     ∙ ap (λ (y : Result (X × List Terminal) ℕ). y >>= λ x. many_at starts one turns x.1 >>= λ xs. listed (x.0 ∷ xs.0) xs.1) (r.again t ts fits)
     ∙ ap (λ (y : Result (List X × List Terminal) ℕ). y >>= λ xs. listed (kind.view t ∷ xs.0) xs.1) others
 
-flat_cons : {X T : Type 0} (kind : Kind X T) (starts : List Terminal → Bool) (one : List Terminal → Result (X × List Terminal) ℕ) (rest : List Terminal) (r : ReadAgain kind starts one rest) (t : T) (ts : List T) → kind.all_text (t ∷ ts) ++ rest ≡ kind.text t ++ (kind.all_text ts ++ rest)
+flat_cons : {X T : Type 0} (kind : Repeated X T) (starts : List Terminal → Bool) (one : List Terminal → Result (X × List Terminal) ℕ) (rest : List Terminal) (r : ReadAgain kind starts one rest) (t : T) (ts : List T) → kind.all_text (t ∷ ts) ++ rest ≡ kind.text t ++ (kind.all_text ts ++ rest)
 flat_cons kind starts one rest r t ts = ap (λ (x : List Terminal). x ++ rest) (r.cons t ts) ∙ append_assoc (kind.text t) (kind.all_text ts) rest
 
-turns_again : {X T : Type 0} (kind : Kind X T) (starts : List Terminal → Bool) (one : List Terminal → Result (X × List Terminal) ℕ) (rest : List Terminal) (r : ReadAgain kind starts one rest) (ts : List T) (turns : ℕ) → All kind.Fits ts → length (kind.all_text ts ++ rest) ≤ turns
+turns_again : {X T : Type 0} (kind : Repeated X T) (starts : List Terminal → Bool) (one : List Terminal → Result (X × List Terminal) ℕ) (rest : List Terminal) (r : ReadAgain kind starts one rest) (ts : List T) (turns : ℕ) → All kind.Fits ts → length (kind.all_text ts ++ rest) ≤ turns
     → many_at starts one turns (kind.all_text ts ++ rest) ≡ listed (map kind.view ts) rest
 turns_again kind starts one rest r [] turns fits le = ap (λ (x : List Terminal). many_at starts one turns (x ++ rest)) r.nil ∙ many_stops starts one turns rest r.ends
 turns_again kind starts one rest r (t ∷ ts) zero fits le = absurd (omega (arith, le, ap (λ (x : List Terminal). length x) (flat_cons kind starts one rest r t ts), r.longer t (kind.all_text ts ++ rest)))
@@ -136,7 +136,7 @@ turns_again kind starts one rest r (t ∷ ts) (suc turns) fits le =
     ∙ next_again kind starts one rest r t ts turns (All-head kind.Fits t ts fits)
     (turns_again kind starts one rest r ts turns (All-tail kind.Fits t ts fits) (omega (arith, le, ap (λ (x : List Terminal). length x) (flat_cons kind starts one rest r t ts), r.longer t (kind.all_text ts ++ rest))))
 
-pub many_again : {X T : Type 0} (kind : Kind X T) (starts : List Terminal → Bool) (one : List Terminal → Result (X × List Terminal) ℕ) (rest : List Terminal) (r : ReadAgain kind starts one rest) (ts : List T) → All kind.Fits ts
+pub many_again : {X T : Type 0} (kind : Repeated X T) (starts : List Terminal → Bool) (one : List Terminal → Result (X × List Terminal) ℕ) (rest : List Terminal) (r : ReadAgain kind starts one rest) (ts : List T) → All kind.Fits ts
     → many_at starts one (length (kind.all_text ts ++ rest)) (kind.all_text ts ++ rest) ≡ listed (map kind.view ts) rest
 many_again kind starts one rest r ts fits = turns_again kind starts one rest r ts (length (kind.all_text ts ++ rest)) fits (omega arith)
 

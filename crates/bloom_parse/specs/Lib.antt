@@ -7,3 +7,4 @@ pub mod ReadingLists
 pub mod ReadingExprs
 pub mod ReadingModules
 pub mod ReadPlaces
+pub mod Plain

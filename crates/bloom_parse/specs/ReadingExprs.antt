@@ -12,6 +12,7 @@ use Rattle.bloom_parse.specs.ReadingSingle.{◌>>=◌, mark_at, name_at, as_at, 
 use Rattle.bloom_parse.specs.ReadingPredicates.{pred_by, unit_at}
 use Rattle.bloom_parse.specs.ReadingLists.{item_at, items_at, pairs_at, keys_at, agg_at}
 
+-- an expression, and what is behind it
 abbrev pub ReadQuery : Type 0
 ReadQuery = Result (Query × List Terminal) ℕ
 
@@ -23,6 +24,7 @@ opened_by inner ts = do
   after ← mark_at marks.Comma e.1
   Ok (e.0, after)
 
+-- a select behind its word
 unfoldable pub select_by : (List Terminal → ReadQuery) → ℕ → List Terminal → ReadQuery
 select_by inner room ts = do
   e ← opened_by inner ts
@@ -30,6 +32,7 @@ select_by inner room ts = do
   after ← mark_at marks.Close p.2
   Ok (select e.0 p.0, after)
 
+-- a project behind its word
 unfoldable pub project_by : (List Terminal → ReadQuery) → List Terminal → ReadQuery
 project_by inner ts = do
   e ← opened_by inner ts
@@ -55,6 +58,7 @@ keyed_by inner ts = do
   after ← mark_at marks.Comma keys.1
   Ok (e.0, keys.0, after)
 
+-- a group behind its word
 unfoldable pub group_by : (List Terminal → ReadQuery) → List Terminal → ReadQuery
 group_by inner ts = do
   e ← keyed_by inner ts
@@ -64,6 +68,7 @@ group_by inner ts = do
   after ← mark_at marks.Close name.1
   Ok (group e.0 e.1 agg.0 name.0, after)
 
+-- an atleast behind its word
 unfoldable pub at_least_by : (List Terminal → ReadQuery) → List Terminal → ReadQuery
 at_least_by inner ts = do
   e ← keyed_by inner ts
@@ -81,9 +86,11 @@ operator_of (terminals.Word words.Group ∷ rest) = operators.Group
 operator_of (terminals.Word words.AtLeast ∷ rest) = operators.AtLeast
 operator_of ts = operators.Plain
 
+-- the name of a collection
 abbrev pub base_at : List Terminal → ReadQuery
 base_at ts = name_at ts >>= λ n. Ok (base n.0, n.1)
 
+-- an expression by the word before it, where one more level may open
 abbrev pub by_operator : (List Terminal → ReadQuery) → ℕ → Operator → List Terminal → ReadQuery
 by_operator inner room operators.Select ts = select_by inner room (drop 1 ts)
 by_operator inner room operators.Project ts = project_by inner (drop 1 ts)

@@ -25,9 +25,11 @@ with_front front (Err n) = Err n
 abbrev pub past : {X : Type 0} → (List Terminal → Result (X × List Terminal) ℕ) → List Terminal → Result (X × List Terminal) ℕ
 past one ts = one (drop 1 ts)
 
+-- name [ "as" name ]
 unfoldable pub item_at : List Terminal → Result ((Name × Name) × List Terminal) ℕ
 item_at ts = name_at ts >>= λ n. if has_as n.1 then (name_at (drop 1 n.1) >>= λ m. Ok ((n.0, m.0), m.1)) else Ok ((n.0, n.0), n.1)
 
+-- name "=" name
 unfoldable pub pair_at : List Terminal → Result ((Name × Name) × List Terminal) ℕ
 pair_at ts = do
   a ← name_at ts
@@ -55,6 +57,7 @@ key_names_at ts = do
   after ← mark_at marks.CloseKeys names.1
   Ok (names.0, after)
 
+-- "[" [ name { "," name } ] "]"
 unfoldable pub keys_at : List Terminal → Result (List Name × List Terminal) ℕ
 keys_at ts = mark_at marks.OpenKeys ts >>= λ o. if has_close_keys o then Ok ([], drop 1 o) else key_names_at o
 
@@ -66,6 +69,7 @@ measure_of (terminals.Word words.Min ∷ rest) = measures.Min
 measure_of (terminals.Word words.Max ∷ rest) = measures.Max
 measure_of ts = measures.Other
 
+-- "(" name ")"
 unfoldable pub column_at : List Terminal → Result (Name × List Terminal) ℕ
 column_at ts = do
   open_ ← mark_at marks.Open ts
@@ -73,6 +77,7 @@ column_at ts = do
   after ← mark_at marks.Close column.1
   Ok (column.0, after)
 
+-- an aggregate by what it begins with
 abbrev pub by_measure : Measure → List Terminal → Result (NamedAgg × List Terminal) ℕ
 by_measure measures.Count ts = Ok (Count, drop 1 ts)
 by_measure measures.Sum ts = column_at (drop 1 ts) >>= λ c. Ok (Sum c.0, c.1)
@@ -80,5 +85,6 @@ by_measure measures.Min ts = column_at (drop 1 ts) >>= λ c. Ok (Min c.0, c.1)
 by_measure measures.Max ts = column_at (drop 1 ts) >>= λ c. Ok (Max c.0, c.1)
 by_measure measures.Other ts = Err (length ts)
 
+-- an aggregate
 abbrev pub agg_at : List Terminal → Result (NamedAgg × List Terminal) ℕ
 agg_at ts = by_measure (measure_of ts) ts

@@ -21,9 +21,11 @@ kind_at (terminals.Word words.Table ∷ rest) = Some Table
 kind_at (terminals.Word words.Scratch ∷ rest) = Some Scratch
 kind_at ts = None
 
+-- whether the word for a kind comes first
 abbrev pub has_kind : List Terminal → Bool
 has_kind ts = is_some (kind_at ts)
 
+-- the collection with these parts
 abbrev pub collection_of : Kind → Name → List Name → Collection
 collection_of kind name columns = record { kind = kind; name = name; columns = columns }
 
@@ -38,13 +40,16 @@ declared_at kind ts = do
   after ← mark_at marks.Semicolon close
   Ok (collection_of kind name.0 columns.0, after)
 
+-- a collection by the kind whose word comes first
 abbrev pub by_kind : Option Kind → List Terminal → Result (Collection × List Terminal) ℕ
 by_kind (Some kind) ts = declared_at kind (drop 1 ts)
 by_kind None ts = Err (length ts)
 
+-- a collection
 unfoldable pub collection_at : List Terminal → Result (Collection × List Terminal) ℕ
 collection_at ts = by_kind (kind_at ts) ts
 
+-- name "<=" expr ";"
 unfoldable pub rule_at : List Terminal → Result (RuleForm × List Terminal) ℕ
 rule_at ts = do
   head ← name_at ts
@@ -53,9 +58,11 @@ rule_at ts = do
   after ← mark_at marks.Semicolon body.1
   Ok ((head.0, body.0), after)
 
+-- { collection }
 abbrev pub collections_at : List Terminal → Result (List Collection × List Terminal) ℕ
 collections_at ts = many_at has_kind collection_at (length ts) ts
 
+-- { rule }
 abbrev pub rules_at : List Terminal → Result (List RuleForm × List Terminal) ℕ
 rules_at ts = many_at has_name rule_at (length ts) ts
 
@@ -66,9 +73,11 @@ end_at (terminals.End ∷ []) = Ok []
 end_at (terminals.End ∷ t ∷ rest) = Err (length (t ∷ rest))
 end_at (t ∷ rest) = Err (length (t ∷ rest))
 
+-- the module with these parts
 abbrev pub form_from : Name → List Collection → List RuleForm → Form
 form_from name collections rules = record { name = name; collections = collections; rules = rules }
 
+-- the module of a whole text
 unfoldable pub module_at : List Terminal → Result Form ℕ
 module_at ts = do
   word ← module_word_at ts

@@ -10,5 +10,5 @@ mod reader;
 mod single;
 mod terminal;
 
-pub use laws::one_module_law;
+pub use laws::{one_module_law, plain_end_law};
 pub use terminal::{Mark, Terminal, Word};

@@ -13,7 +13,7 @@ use Rattle.bloom_parse.specs.declared.terminal.Mark.TheVariants as marks
 use Rattle.bloom_parse.specs.Trees.{UnitTree, AndsTree, OrsTree, word, mark, term_token, unit_text, ands_text, ors_text, unit_size, ands_size, ors_size, UnitFits, AndsFit, OrsFit, unit_formula, ands_formula, ors_formula}
 use Rattle.bloom_parse.specs.ReadingSingle.{◌>>=◌, mark_at, operand_at, sign_at}
 use Rattle.bloom_parse.specs.ReadingPredicates.{Read, comparison_at, summed_of, chain_at, pred_by, unit_by, unit_at}
-use Rattle.bloom_parse.proofs.Forward.{pred, pred_is, unit_some, ands_some}
+use Rattle.bloom_parse.proofs.Forward.{pred, pred_is, unit_some, ands_some, ors_some}
 use Rattle.bloom_parse.proofs.PredicateLemmas.{spend_more}
 
 abbrev done : Formula × ℕ × List Terminal → Read
@@ -109,6 +109,20 @@ not_again : (u : UnitTree) (room left after : ℕ) (rest : List Terminal) → un
 unfolding unit_at unit_by
 not_again u room left after rest e = ap (λ (r : Read). r >>= λ u. done (not_so u.0, u.1, u.2)) e
 
+-- one more unit behind and
+and_joined : (a : AndsTree) (u : UnitTree) (room turns left mid after : ℕ) (sum : Option Formula) (rest : List Terminal)
+    → (g : Goes room (enter (unit_at room) sum turns left (ands_text a ++ word words.And ∷ (unit_text u ++ rest))) mid sum (ands_formula a) (word words.And ∷ (unit_text u ++ rest)))
+    → Goes room (chain_at (unit_at room) g.0 mid sum (ands_formula a) (word words.And ∷ (unit_text u ++ rest))) after sum (both (ands_formula a) (unit_formula u)) rest
+    → Goes room (enter (unit_at room) sum turns left ((ands_text a ++ word words.And ∷ unit_text u) ++ rest)) after sum (both (ands_formula a) (unit_formula u)) rest
+and_joined a u room turns left mid after sum rest g h = (h.0, h.1, ap (λ (t : List Terminal). enter (unit_at room) sum turns left t) (append_assoc (ands_text a) (word words.And ∷ unit_text u) rest) ∙ g.2 ∙ h.2)
+
+-- one more product behind or
+or_joined : (o : OrsTree) (a : AndsTree) (room left mid after : ℕ) (rest : List Terminal)
+    → (g : Goes room (enter (unit_at room) None 31 left (ors_text o ++ word words.Or ∷ (ands_text a ++ rest))) mid (sum_of o) (last_of o) (word words.Or ∷ (ands_text a ++ rest)))
+    → Goes room (chain_at (unit_at room) g.0 mid (sum_of o) (last_of o) (word words.Or ∷ (ands_text a ++ rest))) after (Some (summed_of (sum_of o) (last_of o))) (ands_formula a) rest
+    → Goes room (enter (unit_at room) None 31 left ((ors_text o ++ word words.Or ∷ ands_text a) ++ rest)) after (Some (ors_formula o)) (ands_formula a) rest
+or_joined o a room left mid after rest g h = (h.0, h.1, ap (λ (t : List Terminal). enter (unit_at room) None 31 left t) (append_assoc (ors_text o) (word words.Or ∷ ands_text a) rest) ∙ g.2 ∙ h.2 ∙ ap (λ f. chain_at (unit_at room) h.0 after (Some f) (ands_formula a) rest) (whole_of o))
+
 mutual
   pub unit_again : (u : UnitTree) → UnitAgain u
   unit_again (UnitTree.not_tree u) zero left after rest fits size few = absurd fits
@@ -124,8 +138,7 @@ mutual
       let mid = unit_size u + after in
       let is = pred_is mid (omega (arith, unit_some u)) in
       let g = ands_again a room turns left mid sum (word words.And ∷ (unit_text u ++ rest)) fits.0 (omega (arith, size)) le few in
-      let h = and_turn u (unit_again u) room g.0 mid (pred mid) after sum (ands_formula a) rest is g.1 (omega (arith, is, size, few, ands_some a)) fits.1 (sym is) in
-      (h.0, h.1, ap (λ (t : List Terminal). enter (unit_at room) sum turns left t) (append_assoc (ands_text a) (word words.And ∷ unit_text u) rest) ∙ g.2 ∙ h.2)
+      and_joined a u room turns left mid after sum rest g (and_turn u (unit_again u) room g.0 mid (pred mid) after sum (ands_formula a) rest is g.1 (omega (arith, is, size, few, ands_some a)) fits.1 (sym is))
 
   pub ors_again : (o : OrsTree) → OrsAgain o
   ors_again (OrsTree.one_ands a) room left after rest fits size few = ands_again a room 31 left after None rest fits size few few
@@ -133,5 +146,4 @@ mutual
       let mid = ands_size a + after in
       let is = pred_is mid (omega (arith, ands_some a)) in
       let g = ors_again o room left mid (word words.Or ∷ (ands_text a ++ rest)) fits.0 (omega (arith, size)) few in
-      let h = or_turn a (ands_again a) room g.0 mid (pred mid) after (sum_of o) (last_of o) rest is g.1 (omega (arith, is, size, few, Rattle.bloom_parse.proofs.Forward.ors_some o)) fits.1 (sym is) in
-      (h.0, h.1, ap (λ (t : List Terminal). enter (unit_at room) None 31 left t) (append_assoc (ors_text o) (word words.Or ∷ ands_text a) rest) ∙ g.2 ∙ h.2 ∙ ap (λ f. chain_at (unit_at room) h.0 after (Some f) (ands_formula a) rest) (whole_of o))
+      or_joined o a room left mid after rest g (or_turn a (ands_again a) room g.0 mid (pred mid) after (sum_of o) (last_of o) rest is g.1 (omega (arith, is, size, few, ors_some o)) fits.1 (sym is))

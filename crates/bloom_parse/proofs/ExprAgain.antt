@@ -1,9 +1,7 @@
 -- Each expression of the grammar is read as what it means.
-use Rattle.std.proofs.Common.{◌≡◌, ℕ, zero, suc, ◌+◌, ◌-◌, ◌<◌, ◌≤◌, Bool, true, false, cond, List, [], ◌∷◌, ◌++◌, map, length, drop, flat_map, All, Option, Some, None, Result, Ok, Err, refl, sym, ap, subst, ◌∙◌, append_assoc, arith}
+use Rattle.std.proofs.Common.{◌≡◌, ℕ, zero, suc, ◌-◌, ◌≤◌, List, ◌∷◌, ◌++◌, map, Result, Ok, refl, ap, ◌∙◌, arith}
 use Rattle.std.specs.Prelude.{ℤ, pos, ◌≤ℤ◌}
-use Rattle.blz_value.specs.declared.test.Op.{Op}
-use Rattle.blz_value.specs.declared.test.Op.TheVariants.{Eq, Le}
-use Rattle.bloom_ast.specs.Query.{Name, Formula, Query}
+use Rattle.bloom_ast.specs.Query.{Name, Query}
 use Rattle.bloom_parse.specs.declared.terminal.Terminal.{Terminal}
 use Rattle.bloom_parse.specs.declared.terminal.Terminal.TheVariants as terminals
 use Rattle.bloom_parse.specs.declared.terminal.Word.TheVariants as words

@@ -1,20 +1,17 @@
 -- What is read as an expression is one, and a fault is where the machine stops.
-use Rattle.std.proofs.Common.{◌≡◌, ℕ, zero, suc, ◌+◌, ◌-◌, ◌<◌, ◌≤◌, Bool, true, false, cond, List, [], ◌∷◌, ◌++◌, map, length, drop, flat_map, All, Option, Some, None, Result, Ok, Err, refl, sym, ap, subst, ◌∙◌, append_assoc, arith}
-use Rattle.std.specs.Prelude.{ℤ, pos, ◌≤ℤ◌}
-use Rattle.blz_value.specs.declared.test.Op.{Op}
-use Rattle.blz_value.specs.declared.test.Op.TheVariants.{Eq, Le}
-use Rattle.bloom_ast.specs.Query.{Name, Formula, Query}
+use Rattle.std.proofs.Common.{◌≡◌, ℕ, zero, suc, List, [], ◌∷◌, ◌++◌, map, Result, Ok, Err, refl, sym, ap, ◌∙◌, arith}
+use Rattle.bloom_ast.specs.Query.{Name, Query}
 use Rattle.bloom_parse.specs.declared.terminal.Terminal.{Terminal}
 use Rattle.bloom_parse.specs.declared.terminal.Terminal.TheVariants as terminals
 use Rattle.bloom_parse.specs.declared.terminal.Word.TheVariants as words
 use Rattle.bloom_parse.specs.declared.terminal.Mark.TheVariants as marks
-use Rattle.bloom_ast.specs.Query.Query.{base, select, project, join, notin, group, at_least}
-use Rattle.bloom_parse.specs.Trees.{OrsTree, word, mark, ors_text, OrsFit, ors_formula, Item, ExprTree, item_text, item_pair, more_items_text, more_pairs_text, keys_text, agg_text, expr_text, expr_query, ExprFits}
+use Rattle.bloom_ast.specs.Query.Query.{select, project, join, notin, group, at_least}
+use Rattle.bloom_parse.specs.Trees.{word, mark, ors_text, ors_formula, ExprTree, item_text, item_pair, more_items_text, more_pairs_text, keys_text, agg_text, expr_text, expr_query, ExprFits}
 use Rattle.bloom_parse.specs.ReadingSingle.{◌>>=◌, mark_at, name_at, as_at, bound_at}
 use Rattle.bloom_parse.specs.ReadingPredicates.{pred_by, unit_at}
 use Rattle.bloom_parse.specs.ReadingLists.{item_at, items_at, pairs_at, keys_at, agg_at}
-use Rattle.bloom_parse.specs.ReadingExprs.{ReadQuery, opened_by, select_by, project_by, parts_by, keyed_by, group_by, at_least_by, operator_of, base_at, by_operator, expr_at}
-use Rattle.bloom_parse.proofs.Machine.{Sym, State, step, run}
+use Rattle.bloom_parse.specs.ReadingExprs.{ReadQuery, opened_by, select_by, project_by, parts_by, keyed_by, group_by, at_least_by, expr_at}
+use Rattle.bloom_parse.proofs.Machine.{Sym, run}
 use Rattle.bloom_parse.proofs.Flat.{flat_select, flat_project, flat_join, flat_notin, flat_group, flat_at_least}
 use Rattle.bloom_parse.proofs.SingleLemmas.{bind_reads, Stuck, ReadsMark, mark_reads, ReadsName, name_reads, ReadsAs, as_reads, ReadsBound, bound_reads, bound_goes}
 use Rattle.bloom_parse.proofs.PredicateLemmas.{ReadsPred, pred_reads, unit_reads, pred_goes}

@@ -1,9 +1,8 @@
 -- The text of each tree with what comes behind it, without nested parentheses.
-use Rattle.std.proofs.Common.{◌≡◌, ℕ, zero, suc, ◌+◌, ◌-◌, ◌<◌, ◌≤◌, Bool, true, false, cond, List, [], ◌∷◌, ◌++◌, map, length, drop, flat_map, All, Option, Some, None, Result, Ok, Err, refl, sym, ap, subst, ◌∙◌, append_assoc, arith}
-use Rattle.std.specs.Prelude.{ℤ, pos, ◌≤ℤ◌}
-use Rattle.blz_value.specs.declared.test.Op.{Op}
-use Rattle.blz_value.specs.declared.test.Op.TheVariants.{Eq, Le}
-use Rattle.bloom_ast.specs.Query.{Name, Formula, Query}
+use Rattle.std.proofs.Common.{◌≡◌, List, [], ◌∷◌, ◌++◌, flat_map, ap, ◌∙◌, append_assoc}
+use Rattle.std.specs.Prelude.{ℤ}
+use Rattle.blz_value.specs.declared.test.Op.TheVariants.{Le}
+use Rattle.bloom_ast.specs.Query.{Name}
 use Rattle.bloom_parse.specs.declared.terminal.Terminal.{Terminal}
 use Rattle.bloom_parse.specs.declared.terminal.Terminal.TheVariants as terminals
 use Rattle.bloom_parse.specs.declared.terminal.Word.TheVariants as words

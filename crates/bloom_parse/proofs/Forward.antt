@@ -1,5 +1,5 @@
 -- The machine takes each text of the grammar.
-use Rattle.std.proofs.Common.{◌≡◌, ℕ, zero, suc, ◌+◌, ◌<◌, ◌≤◌, Bool, true, false, cond, List, [], ◌∷◌, ◌++◌, length, Option, Some, None, Result, Ok, Err, refl, sym, ap, ◌∙◌, append_assoc, arith}
+use Rattle.std.proofs.Common.{◌≡◌, ℕ, zero, suc, ◌+◌, ◌<◌, List, [], ◌∷◌, ◌++◌, refl, sym, ap, ◌∙◌, append_assoc, arith}
 use Rattle.bloom_ast.specs.declared.expr.Term.{Term}
 use Rattle.bloom_ast.specs.declared.expr.Term.TheVariants.{Column, Literal}
 use Rattle.blz_value.specs.declared.test.Op.{Op}
@@ -9,7 +9,7 @@ use Rattle.bloom_parse.specs.declared.terminal.Terminal.TheVariants as terminals
 use Rattle.bloom_parse.specs.declared.terminal.Word.TheVariants as words
 use Rattle.bloom_parse.specs.declared.terminal.Mark.TheVariants as marks
 use Rattle.bloom_parse.specs.Trees.{UnitTree, AndsTree, OrsTree, word, mark, term_token, unit_text, ands_text, ors_text, unit_size, ands_size, ors_size, UnitFits, AndsFit, OrsFit}
-use Rattle.bloom_parse.proofs.Machine.{Sym, State, step, run}
+use Rattle.bloom_parse.proofs.Machine.{Sym, run}
 
 operand_goes : (t : Term) (k : ℕ) (st : List Sym) (rest : List Terminal) → run k (Sym.an_operand ∷ st) (term_token t ∷ rest) ≡ run k st rest
 operand_goes (Column n) k st rest = refl

@@ -1,11 +1,9 @@
 -- A machine that reads token by token, and what may still come.
-use Rattle.std.proofs.Common.{◌≡◌, ℕ, zero, suc, ◌+◌, Bool, true, false, cond, List, [], ◌∷◌, ◌++◌, length, Option, Some, None, Result, Ok, Err, refl, sym, ap, ◌∙◌, append_assoc, arith}
-use Rattle.std.specs.Prelude.{ℤ, pos, int_le}
-use Rattle.blz_value.specs.declared.test.Op.{Op}
+use Rattle.std.proofs.Common.{◌≡◌, ℕ, zero, suc, cond, List, [], ◌∷◌, length, Option, Some, None, Result, Ok, Err, refl, ◌∙◌}
+use Rattle.std.specs.Prelude.{pos, int_le}
 use Rattle.blz_value.specs.declared.test.Op.TheVariants.{Eq, Le}
 use Rattle.bloom_parse.specs.declared.terminal.Terminal.{Terminal}
 use Rattle.bloom_parse.specs.declared.terminal.Terminal.TheVariants as terminals
-use Rattle.bloom_parse.specs.declared.terminal.Word.{Word}
 use Rattle.bloom_parse.specs.declared.terminal.Word.TheVariants as words
 use Rattle.bloom_parse.specs.declared.terminal.Mark.{Mark}
 use Rattle.bloom_parse.specs.declared.terminal.Mark.TheVariants as marks

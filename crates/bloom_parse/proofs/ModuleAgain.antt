@@ -1,12 +1,8 @@
 -- Each module of the grammar is read as what it means.
-use Rattle.std.proofs.Common.{◌≡◌, ℕ, zero, suc, ◌+◌, ◌-◌, ◌<◌, ◌≤◌, Bool, true, false, cond, List, [], ◌∷◌, ◌++◌, map, length, drop, flat_map, All, Option, Some, None, Result, Ok, Err, refl, sym, ap, subst, ◌∙◌, append_assoc, arith}
-use Rattle.std.specs.Prelude.{ℤ, pos, ◌≤ℤ◌}
-use Rattle.blz_value.specs.declared.test.Op.{Op}
-use Rattle.blz_value.specs.declared.test.Op.TheVariants.{Eq, Le}
-use Rattle.bloom_ast.specs.Query.{Name, Formula, Query}
+use Rattle.std.proofs.Common.{◌≡◌, ℕ, true, false, List, [], ◌∷◌, ◌++◌, map, flat_map, Option, Some, Result, Ok, refl, sym, ap, subst, ◌∙◌}
+use Rattle.bloom_ast.specs.Query.{Name, Query}
 use Rattle.bloom_parse.specs.declared.terminal.Terminal.{Terminal}
 use Rattle.bloom_parse.specs.declared.terminal.Terminal.TheVariants as terminals
-use Rattle.bloom_parse.specs.declared.terminal.Word.TheVariants as words
 use Rattle.bloom_parse.specs.declared.terminal.Mark.TheVariants as marks
 use Rattle.bloom_ast.specs.declared.module.Kind.{Kind}
 use Rattle.bloom_ast.specs.declared.module.Kind.TheVariants.{Input, Output, Table, Scratch}
@@ -14,12 +10,11 @@ use Rattle.bloom_ast.specs.declared.module.Collection.{Collection}
 use Rattle.bloom_ast.specs.declared.module.Module.{Module}
 use Rattle.bloom_ast.specs.Form.{RuleForm, Form, form_of}
 use Rattle.bloom_parse.specs.declared.read_fault.ReadFault.{ReadFault}
-use Rattle.bloom_parse.specs.Trees.{word, mark, more_names_text, expr_text, expr_query, ExprFits, kind_word, CollectionTree, collection_text, collection_form, RuleTree, rule_text, tree_rule, ModuleTree, ModuleFits, module_text, module_form}
+use Rattle.bloom_parse.specs.Trees.{word, mark, more_names_text, expr_query, ExprFits, kind_word, CollectionTree, collection_text, collection_form, RuleTree, rule_text, ModuleTree, ModuleFits, module_text, module_form}
 use Rattle.bloom_parse.specs.Places.{IsModuleText}
-use Rattle.bloom_parse.specs.ReadingSingle.{◌>>=◌, Gives, mark_at, name_at, arrow_at, module_word_at, has_name}
-use Rattle.bloom_parse.specs.ReadingLists.{names_at}
-use Rattle.bloom_parse.specs.ReadingExprs.{ReadQuery, expr_at}
-use Rattle.bloom_parse.specs.ReadingModules.{kind_at, has_kind, collection_of, declared_at, by_kind, collection_at, rule_at, collections_at, rules_at, end_at, form_from, module_at}
+use Rattle.bloom_parse.specs.ReadingSingle.{◌>>=◌, Gives, mark_at, has_name}
+use Rattle.bloom_parse.specs.ReadingExprs.{ReadQuery}
+use Rattle.bloom_parse.specs.ReadingModules.{kind_at, has_kind, collection_of, declared_at, by_kind, collection_at, rule_at, rules_at, end_at, form_from, module_at}
 use Rattle.bloom_parse.proofs.Flat.{flat_collection, flat_rule, flat_module}
 use Rattle.bloom_parse.proofs.RepeatLemmas.{ReadAgain, many_again}
 use Rattle.bloom_parse.proofs.ListLemmas.{names_again, all_fit}

@@ -1,9 +1,7 @@
 -- What is read as a module is one, and a fault is where the machine stops.
-use Rattle.std.proofs.Common.{◌≡◌, ℕ, zero, suc, ◌+◌, ◌-◌, ◌<◌, ◌≤◌, Bool, true, false, cond, List, [], ◌∷◌, ◌++◌, map, length, drop, flat_map, All, Option, Some, None, Result, Ok, Err, refl, sym, ap, subst, ◌∙◌, append_assoc, arith}
-use Rattle.std.specs.Prelude.{ℤ, pos, ◌≤ℤ◌}
-use Rattle.blz_value.specs.declared.test.Op.{Op}
-use Rattle.blz_value.specs.declared.test.Op.TheVariants.{Eq, Le}
-use Rattle.bloom_ast.specs.Query.{Name, Formula, Query}
+use Rattle.std.proofs.Common.{◌≡◌, ℕ, ◌<◌, ◌≤◌, true, false, List, [], ◌∷◌, ◌++◌, map, length, flat_map, Result, Ok, Err, refl, sym, ap, ◌∙◌, arith}
+use Rattle.blz_value.specs.declared.test.Op.TheVariants.{Le}
+use Rattle.bloom_ast.specs.Query.{Name, Query}
 use Rattle.bloom_parse.specs.declared.terminal.Terminal.{Terminal}
 use Rattle.bloom_parse.specs.declared.terminal.Terminal.TheVariants as terminals
 use Rattle.bloom_parse.specs.declared.terminal.Word.TheVariants as words
@@ -13,13 +11,13 @@ use Rattle.bloom_ast.specs.declared.module.Kind.TheVariants.{Input, Output, Tabl
 use Rattle.bloom_ast.specs.declared.module.Collection.{Collection}
 use Rattle.bloom_ast.specs.declared.module.Rule.{Rule}
 use Rattle.bloom_ast.specs.Form.{RuleForm, Form, rule_form, rule_forms}
-use Rattle.bloom_parse.specs.Trees.{word, mark, more_names_text, expr_text, expr_query, ExprFits, kind_word, CollectionTree, collection_text, collection_form, RuleTree, rule_text, tree_rule, ModuleTree, module_text, module_form}
+use Rattle.bloom_parse.specs.Trees.{word, mark, more_names_text, expr_text, ExprFits, kind_word, CollectionTree, collection_text, collection_form, RuleTree, rule_text, tree_rule, ModuleTree}
 use Rattle.bloom_parse.specs.Places.{IsModuleText}
 use Rattle.bloom_parse.specs.ReadingSingle.{◌>>=◌, mark_at, name_at, arrow_at, module_word_at, has_name}
-use Rattle.bloom_parse.specs.ReadingLists.{many_at, names_at}
+use Rattle.bloom_parse.specs.ReadingLists.{names_at}
 use Rattle.bloom_parse.specs.ReadingExprs.{expr_at}
-use Rattle.bloom_parse.specs.ReadingModules.{kind_at, has_kind, collection_of, declared_at, by_kind, collection_at, rule_at, collections_at, rules_at, end_at, form_from, module_at}
-use Rattle.bloom_parse.proofs.Machine.{Sym, State, step, run, in_collection, in_rule}
+use Rattle.bloom_parse.specs.ReadingModules.{has_kind, collection_of, declared_at, collection_at, rule_at, collections_at, rules_at, end_at, form_from, module_at}
+use Rattle.bloom_parse.proofs.Machine.{Sym, run, in_collection, in_rule}
 use Rattle.bloom_parse.proofs.Flat.{flat_collection, flat_rule, flat_module}
 use Rattle.bloom_parse.proofs.SingleLemmas.{bind_reads, Stuck, ReadsMark, mark_reads, ReadsName, name_reads, ReadsArrow, arrow_reads, ReadsModuleWord, module_word_reads}
 use Rattle.bloom_parse.proofs.RepeatLemmas.{Repeated, ReadsOne, ReadsMany, Listed, many_reads, ReadsMore}

@@ -4,7 +4,7 @@ use Rattle.std.proofs.lemmas.List.{append-nil}
 use Rattle.bloom_ast.specs.Form.{Form}
 use Rattle.bloom_parse.specs.declared.terminal.Terminal.{Terminal}
 use Rattle.bloom_parse.specs.ReadingModules.{module_at}
-use Rattle.bloom_parse.specs.Places.{IsModuleText, Begins, NoneGoesOn, IsFault}
+use Rattle.bloom_parse.specs.Places.{IsModuleText, NoneGoesOn, IsFault}
 use Rattle.bloom_parse.specs.declared.read_fault.ReadFault.TheVariants as faults
 use Rattle.bloom_parse.specs.ReadPlaces.{IsPlace}
 use Rattle.bloom_parse.proofs.Machine.{Sym, State, step, run, closing, closes}

@@ -1,5 +1,5 @@
 -- Each predicate of the grammar is read as what it means.
-use Rattle.std.proofs.Common.{◌≡◌, ℕ, zero, suc, ◌+◌, ◌<◌, ◌≤◌, List, [], ◌∷◌, ◌++◌, Option, Some, None, Result, Ok, Err, refl, sym, ap, ◌∙◌, append_assoc, arith}
+use Rattle.std.proofs.Common.{◌≡◌, ℕ, zero, suc, ◌+◌, ◌≤◌, List, [], ◌∷◌, ◌++◌, Option, Some, None, Result, Ok, refl, sym, ap, ◌∙◌, append_assoc, arith}
 use Rattle.bloom_ast.specs.declared.expr.Term.{Term}
 use Rattle.bloom_ast.specs.declared.expr.Term.TheVariants.{Column, Literal}
 use Rattle.blz_value.specs.declared.test.Op.{Op}
@@ -11,7 +11,7 @@ use Rattle.bloom_parse.specs.declared.terminal.Terminal.TheVariants as terminals
 use Rattle.bloom_parse.specs.declared.terminal.Word.TheVariants as words
 use Rattle.bloom_parse.specs.declared.terminal.Mark.TheVariants as marks
 use Rattle.bloom_parse.specs.Trees.{UnitTree, AndsTree, OrsTree, word, mark, term_token, unit_text, ands_text, ors_text, unit_size, ands_size, ors_size, UnitFits, AndsFit, OrsFit, unit_formula, ands_formula, ors_formula}
-use Rattle.bloom_parse.specs.ReadingSingle.{◌>>=◌, mark_at, operand_at, sign_at}
+use Rattle.bloom_parse.specs.ReadingSingle.{◌>>=◌, mark_at, operand_at}
 use Rattle.bloom_parse.specs.ReadingPredicates.{Read, comparison_at, summed_of, chain_at, pred_by, unit_by, unit_at}
 use Rattle.bloom_parse.proofs.Forward.{pred, pred_is, unit_some, ands_some, ors_some}
 use Rattle.bloom_parse.proofs.PredicateLemmas.{spend_more}

@@ -1,25 +1,24 @@
 -- What is read as a predicate is one, and a fault is where the machine stops.
-use Rattle.std.proofs.Common.{◌≡◌, ℕ, zero, suc, ◌+◌, ◌-◌, ◌<◌, ◌≤◌, Bool, true, false, cond, List, [], ◌∷◌, ◌++◌, length, drop, Option, Some, None, Result, Ok, Err, refl, sym, ap, subst, ◌∙◌, append_assoc, arith}
+use Rattle.std.proofs.Common.{◌≡◌, ℕ, zero, suc, ◌+◌, ◌-◌, ◌<◌, ◌≤◌, Bool, cond, List, [], ◌∷◌, ◌++◌, length, drop, Option, Some, None, Ok, Err, refl, sym, ap, subst, ◌∙◌, append_assoc, arith}
 use Rattle.std.proofs.Math.Dec.{eqb-suc-zero}
 use Rattle.std.proofs.lemmas.Bool.{ne_eqb}
 use Rattle.bloom_parse.specs.declared.predicates.Link.{Link}
 use Rattle.bloom_parse.specs.declared.predicates.Link.TheVariants as links
 use Rattle.bloom_ast.specs.declared.expr.Term.{Term}
 use Rattle.bloom_ast.specs.declared.expr.Term.TheVariants.{Column, Literal}
-use Rattle.blz_value.specs.declared.test.Op.{Op}
 use Rattle.blz_value.specs.declared.value.Value.TheVariants.{Int, Text}
 use Rattle.bloom_ast.specs.Query.{Formula}
-use Rattle.bloom_ast.specs.Query.Formula.{compare, both, either, not_so}
+use Rattle.bloom_ast.specs.Query.Formula.{compare, both, not_so}
 use Rattle.bloom_parse.specs.declared.terminal.Terminal.{Terminal}
 use Rattle.bloom_parse.specs.declared.terminal.Terminal.TheVariants as terminals
 use Rattle.bloom_parse.specs.declared.terminal.Word.TheVariants as words
 use Rattle.bloom_parse.specs.declared.terminal.Mark.TheVariants as marks
-use Rattle.bloom_parse.specs.Trees.{UnitTree, AndsTree, OrsTree, word, mark, term_token, unit_text, ands_text, ors_text, unit_size, ands_size, ors_size, UnitFits, AndsFit, OrsFit, unit_formula, ands_formula, ors_formula}
+use Rattle.bloom_parse.specs.Trees.{UnitTree, AndsTree, OrsTree, word, mark, term_token, unit_text, ands_text, ors_text, unit_size, ors_size, UnitFits, OrsFit, unit_formula, ands_formula, ors_formula}
 use Rattle.bloom_parse.specs.ReadingSingle.{◌>>=◌, mark_at, operand_at, sign_at}
 use Rattle.bloom_parse.specs.ReadingPredicates.{Read, comparison_at, summed_of, spend, link_of, by_link, unit_by, chain_at, pred_by, unit_at}
-use Rattle.bloom_parse.proofs.Machine.{Sym, State, step, run}
-use Rattle.bloom_parse.proofs.Forward.{unit_goes, ands_go, ors_go}
-use Rattle.bloom_parse.proofs.SingleLemmas.{bind_reads, Stuck, ReadsMark, mark_reads, ReadsSign, sign_reads, ReadsOperand, operand_reads}
+use Rattle.bloom_parse.proofs.Machine.{Sym, run}
+use Rattle.bloom_parse.proofs.Forward.{ors_go, unit_some, ors_some}
+use Rattle.bloom_parse.proofs.SingleLemmas.{bind_reads, ReadsMark, mark_reads, ReadsSign, sign_reads, ReadsOperand, operand_reads}
 
 -- ---- one unit
 
@@ -201,13 +200,13 @@ longer_chain room unit turns units chains left ts (suc now) sum product rest p l
     by_link_reads (ReadsPred room left ts) (suc now) (λ left rest. unit left rest >>= λ u. chain_at unit turns u.1 sum (both product u.0) u.2) (λ left rest. unit left rest >>= λ u. chain_at unit turns u.1 (Some (summed_of sum product)) u.0 u.2) (λ ts. Ok (summed_of sum product, suc now, ts)) rest
     (λ more e.
     let q : SoFar room left ts (suc now) sum product (word words.And ∷ more) = subst (λ t. SoFar room left ts (suc now) sum product t) (sym e) p in
-    subst (ReadsPred room left ts) (sym (spend_more now (λ left rest. unit left rest >>= λ u. chain_at unit turns u.1 sum (both product u.0) u.2) (word words.And) more)) (bind_reads (ReadsUnit room now more) (ReadsPred room left ts) (λ u. chain_at unit turns u.1 sum (both product u.0) u.2) (unit now more) (units now more (omega (arith, p.few, p.size, Rattle.bloom_parse.proofs.Forward.ors_some (joined p.before p.last))))
-    (λ u h. chains left ts u.1 sum (both product u.0) u.2 (anded room left ts now sum product more u q h) (omega (arith, le, h.size, Rattle.bloom_parse.proofs.Forward.unit_some h.tree)))
+    subst (ReadsPred room left ts) (sym (spend_more now (λ left rest. unit left rest >>= λ u. chain_at unit turns u.1 sum (both product u.0) u.2) (word words.And) more)) (bind_reads (ReadsUnit room now more) (ReadsPred room left ts) (λ u. chain_at unit turns u.1 sum (both product u.0) u.2) (unit now more) (units now more (omega (arith, p.few, p.size, ors_some (joined p.before p.last))))
+    (λ u h. chains left ts u.1 sum (both product u.0) u.2 (anded room left ts now sum product more u q h) (omega (arith, le, h.size, unit_some h.tree)))
     (λ n h st. so_far_goes room left ts (suc now) sum product (word words.And ∷ more) st q ∙ h (Sym.tail room ∷ st))))
     (λ more e.
     let q : SoFar room left ts (suc now) sum product (word words.Or ∷ more) = subst (λ t. SoFar room left ts (suc now) sum product t) (sym e) p in
-    subst (ReadsPred room left ts) (sym (spend_more now (λ left rest. unit left rest >>= λ u. chain_at unit turns u.1 (Some (summed_of sum product)) u.0 u.2) (word words.Or) more)) (bind_reads (ReadsUnit room now more) (ReadsPred room left ts) (λ u. chain_at unit turns u.1 (Some (summed_of sum product)) u.0 u.2) (unit now more) (units now more (omega (arith, p.few, p.size, Rattle.bloom_parse.proofs.Forward.ors_some (joined p.before p.last))))
-    (λ u h. chains left ts u.1 (Some (summed_of sum product)) u.0 u.2 (ored room left ts now sum product more u q h) (omega (arith, le, h.size, Rattle.bloom_parse.proofs.Forward.unit_some h.tree)))
+    subst (ReadsPred room left ts) (sym (spend_more now (λ left rest. unit left rest >>= λ u. chain_at unit turns u.1 (Some (summed_of sum product)) u.0 u.2) (word words.Or) more)) (bind_reads (ReadsUnit room now more) (ReadsPred room left ts) (λ u. chain_at unit turns u.1 (Some (summed_of sum product)) u.0 u.2) (unit now more) (units now more (omega (arith, p.few, p.size, ors_some (joined p.before p.last))))
+    (λ u h. chains left ts u.1 (Some (summed_of sum product)) u.0 u.2 (ored room left ts now sum product more u q h) (omega (arith, le, h.size, unit_some h.tree)))
     (λ n h st. so_far_goes room left ts (suc now) sum product (word words.Or ∷ more) st q ∙ h (Sym.tail room ∷ st))))
     (λ stops. so_far_ends room left ts (suc now) sum product rest p stops)
 
@@ -222,7 +221,7 @@ pred_reads room unit units left ts le =
     bind_reads (ReadsUnit room left ts) (ReadsPred room left ts) (λ u. chain_at unit 31 u.1 None u.0 u.2) (unit left ts) (units left ts le)
     (λ u h. chain_reads room unit 31 units left ts u.1 None u.0 u.2
     (record { few = le; before = None; last = AndsTree.one_unit h.tree; fits = h.fits; size = h.size; text = h.text; sum_means = refl; last_means = h.means })
-    (omega (arith, le, h.size, Rattle.bloom_parse.proofs.Forward.unit_some h.tree)))
+    (omega (arith, le, h.size, unit_some h.tree)))
     (λ n h st. h (Sym.tail room ∷ st))
 
 -- ---- units

@@ -1,14 +1,12 @@
 -- What single tokens read, and where the machine stops.
-use Rattle.std.proofs.Common.{◌≡◌, ℕ, zero, suc, ◌+◌, ◌<◌, ◌≤◌, Bool, true, false, cond, List, [], ◌∷◌, ◌++◌, length, Option, Some, None, Result, Ok, Err, refl, sym, ap, subst, ◌∙◌, append_assoc, arith}
+use Rattle.std.proofs.Common.{◌≡◌, ℕ, zero, suc, Bool, true, false, cond, List, [], ◌∷◌, length, Option, Some, None, Result, Ok, Err, refl, sym, ap, ◌∙◌, arith}
 use Rattle.std.proofs.lemmas.Bool.{eqb-true}
 use Rattle.bloom_ast.specs.declared.expr.Term.{Term}
-use Rattle.bloom_ast.specs.declared.expr.Term.TheVariants.{Column, Literal}
 use Rattle.std.specs.Prelude.{ℤ, pos, ◌≤ℤ◌, int_le}
 use Rattle.std.proofs.lemmas.Int.{ints}
 use Rattle.blz_value.specs.declared.test.Op.{Op}
 use Rattle.blz_value.specs.declared.test.Op.TheVariants.{Eq, Le}
 use Rattle.bloom_parse.specs.declared.terminal.Word.TheVariants as words
-use Rattle.blz_value.specs.declared.value.Value.TheVariants.{Int, Text}
 use Rattle.bloom_ast.specs.Query.{Name}
 use Rattle.bloom_parse.specs.declared.terminal.Terminal.{Terminal}
 use Rattle.bloom_parse.specs.declared.terminal.Terminal.TheVariants as terminals
@@ -17,7 +15,7 @@ use Rattle.bloom_parse.specs.declared.terminal.Mark.TheVariants.{Semicolon, Comm
 use Rattle.bloom_parse.specs.Marks.{mark_number, is_same_mark}
 use Rattle.bloom_parse.specs.Trees.{mark, term_token}
 use Rattle.bloom_parse.specs.ReadingSingle.{◌>>=◌, mark_at, name_at, operand_at, sign_at, equals_at, arrow_at, as_at, module_word_at, bound_at}
-use Rattle.bloom_parse.proofs.Machine.{Sym, State, step, run}
+use Rattle.bloom_parse.proofs.Machine.{Sym, State, run}
 
 -- what holds of each outcome of a step holds of what comes of it
 pub bind_reads : {A B : Type 0} (P : Result A ℕ → Type 0) (G : Result B ℕ → Type 0) (f : A → Result B ℕ) (r : Result A ℕ) → P r → ((x : A) → P (Ok x) → G (f x)) → ((n : ℕ) → P (Err n) → G (Err n)) → G (r >>= f)

@@ -1,5 +1,5 @@
 -- Reading expressions.
-use Rattle.std.specs.Prelude.{ℕ, zero, suc, List, [], ◌∷◌, drop, Result, Ok, Err}
+use Rattle.std.specs.Prelude.{ℕ, zero, suc, List, ◌∷◌, drop, Result, Ok}
 use Rattle.bloom_ast.specs.Query.{Name, Query}
 use Rattle.bloom_ast.specs.Query.Query.{base, select, project, join, notin, group, at_least}
 use Rattle.bloom_parse.specs.declared.terminal.Terminal.{Terminal}

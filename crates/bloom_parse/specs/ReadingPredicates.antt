@@ -1,5 +1,5 @@
 -- Reading predicates.
-use Rattle.std.specs.Prelude.{ℕ, zero, suc, ◌-◌, ◌==◌, List, [], ◌∷◌, length, drop, Option, Some, None, Result, Ok, Err, if◌then◌else◌}
+use Rattle.std.specs.Prelude.{ℕ, zero, suc, ◌-◌, ◌==◌, List, ◌∷◌, length, drop, Option, Some, None, Result, Ok, Err, if◌then◌else◌}
 use Rattle.bloom_ast.specs.declared.expr.Pred.{Pred}
 use Rattle.bloom_ast.specs.Form.{formula_of}
 use Rattle.bloom_ast.specs.Query.{Formula}

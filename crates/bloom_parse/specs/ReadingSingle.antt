@@ -1,5 +1,5 @@
 -- Reading single terminals. A fault is the number of terminals that are left at it.
-use Rattle.std.specs.Prelude.{◌≡◌, ℕ, ℤ, pos, int_le, List, [], ◌∷◌, length, Option, Some, None, Result, Ok, Err, Bool, true, false, if◌then◌else◌}
+use Rattle.std.specs.Prelude.{◌≡◌, ℕ, ℤ, pos, int_le, List, [], ◌∷◌, length, Result, Ok, Err, Bool, true, false, if◌then◌else◌}
 use Rattle.blz_value.specs.declared.test.Op.{Op}
 use Rattle.blz_value.specs.declared.test.Op.TheVariants.{Eq, Le}
 use Rattle.blz_value.specs.declared.value.Value.TheVariants.{Int, Text}

@@ -1,5 +1,5 @@
 -- Levels go down.
-use Rattle.std.proofs.Common.{◌≡◌, ℕ, ◌+◌, ◌*◌}
+use Rattle.std.proofs.Common.{◌+◌, ◌*◌}
 use Rattle.bloom_parse.proofs.expressions.+expressions.Given as goal
 
 abbrev pub decreases-expr : goal.decreases-expr

@@ -1,5 +1,5 @@
 -- Levels go down, and what is left reads as the whole.
-use Rattle.std.proofs.Common.{◌≡◌, None, ℕ, ◌+◌, ◌-◌, ◌*◌}
+use Rattle.std.proofs.Common.{◌≡◌, None, ◌+◌, ◌-◌, ◌*◌}
 use Rattle.bloom_ast.specs.Form.{formula_of}
 use Rattle.bloom_parse.specs.ReadingPredicates.{formulas, chain_at, unit_at}
 use Rattle.bloom_parse.proofs.predicates.+predicates.Given as goal

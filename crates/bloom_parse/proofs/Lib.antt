@@ -1,0 +1,14 @@
+pub mod Machine
+pub mod Forward
+pub mod SingleLemmas
+pub mod PredicateLemmas
+pub mod PredicateAgain
+pub mod RepeatLemmas
+pub mod Flat
+pub mod ListLemmas
+pub mod ExprLemmas
+pub mod ExprAgain
+pub mod ModuleLemmas
+pub mod ModuleAgain
+pub mod PlaceLemmas
+pub mod PlainLemmas

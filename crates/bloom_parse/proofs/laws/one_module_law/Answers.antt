@@ -1,0 +1,5 @@
+use Rattle.bloom_parse.proofs.ModuleAgain.{one_module}
+use Rattle.bloom_parse.proofs.laws.one_module_law.Goals as goal
+
+pub returns : goal.returns
+returns c = record { one = one_module }

@@ -1,0 +1,5 @@
+mod RunLemmas
+mod ByteLemmas
+mod NumberLemmas
+mod ShorterLemmas
+mod LexLemmas

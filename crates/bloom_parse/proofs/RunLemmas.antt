@@ -1,13 +1,15 @@
 -- Longest runs at the front of a text, and what they are in UTF-8.
-use Rattle.std.proofs.Common.{◌≡◌, ℕ, ◌+◌, ◌<◌, Bool, true, false, cond, ◌&&◌, List, [], ◌∷◌, take, refl, ap, ◌∙◌, sym, subst, arith}
+use Rattle.std.proofs.Common.{◌≡◌, ℕ, ◌+◌, ◌<◌, Bool, true, false, cond, ◌&&◌, List, [], ◌∷◌, take, refl, ap, ◌∙◌, sym, arith, length, get_or, not, ◌-◌, ◌==◌}
+use Rattle.std.proofs.lemmas.List.Sums.{suffix_len-take_no, suffix_len-take_yes}
 use Rattle.std.proofs.Math.Numerals.{one-add}
 use Rattle.std.proofs.lemmas.Bool.Decides.{nat_tests}
 use Rattle.std.proofs.lemmas.Str.{IsUtf8-from_ascii}
 use Rattle.std.proofs.lemmas.Str.Ascii.{IsAscii-from_all}
 use Rattle.std.proofs.lemmas.List.Elements.{All-from_recursion}
-use Rattle.std.specs.List.{prefix_len, list_all, AllByRecursion}
+use Rattle.std.specs.List.{prefix_len, suffix_len, list_all, AllByRecursion}
 use Rattle.std.specs.Str.{IsUtf8}
 use Rattle.blz_value.specs.Name.{is_name_byte}
+use Rattle.bloom_parse.specs.Tokens.{column_behind}
 
 run_step : {X : Type 0} (p : X → Bool) (x : X) (xs : List X) → list_all p (take (prefix_len p xs) xs) ≡ true → (b : Bool) → p x ≡ b → list_all p (take (cond b (1 + prefix_len p xs) 0) (x ∷ xs)) ≡ true
 run_step p x xs h true e = rw (one-add, e) h
@@ -35,3 +37,19 @@ name_byte_small b h = grind (arith, nat_tests)
 
 pub utf8_of_name_bytes : (bs : List ℕ) → list_all is_name_byte bs ≡ true → IsUtf8 bs
 utf8_of_name_bytes = utf8_of_all is_name_byte name_byte_small
+
+column_test : (bytes : List ℕ) (i : ℕ) → i < length bytes → (b : Bool) → get_or bytes i 0 == 10 ≡ b → cond b 1 (column_behind (take i bytes) + 1) ≡ column_behind (take (i + 1) bytes)
+column_test bytes i h true e =
+    let p : ℕ → Bool = λ byte. not (byte == 10) in
+    let back : i + 1 - 1 ≡ i = omega arith in
+    ap (λ n. n + 1) (sym (suffix_len-take_no p bytes (i + 1) 0 (omega arith) (omega arith) (ap (λ k. p (get_or bytes k 0)) back ∙ ap not e)))
+column_test bytes i h false e =
+    let p : ℕ → Bool = λ byte. not (byte == 10) in
+    let back : i + 1 - 1 ≡ i = omega arith in
+    let one = suffix_len-take_yes p bytes (i + 1) 0 (omega arith) (omega arith) (ap (λ k. p (get_or bytes k 0)) back ∙ ap not e) in
+    let same : suffix_len p (take (i + 1 - 1) bytes) ≡ suffix_len p (take i bytes) = ap (λ k. suffix_len p (take k bytes)) back in
+    omega arith
+
+-- the column behind one byte more
+pub column_next : (bytes : List ℕ) (i : ℕ) → i < length bytes → cond (get_or bytes i 0 == 10) 1 (column_behind (take i bytes) + 1) ≡ column_behind (take (i + 1) bytes)
+column_next bytes i h = column_test bytes i h (get_or bytes i 0 == 10) refl

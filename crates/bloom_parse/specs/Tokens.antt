@@ -1,7 +1,7 @@
 -- The tokens of a text.
-use Rattle.std.specs.Prelude.{◌≡◌, ◌≢◌, ◌+◌, ◌-◌, ◌*◌, ◌^◌, ◌==◌, ◌&&◌, ◌||◌, ℕ, zero, suc, ℤ, pos, negsuc, nat_le, nat_lt, Bool, true, false, not, if◌then◌else◌, List, [], ◌∷◌, ◌++◌, Option, Some, None, length, take, drop, count_by, reverse}
+use Rattle.std.specs.Prelude.{◌≡◌, ◌≢◌, ◌+◌, ◌-◌, ◌*◌, ◌^◌, ◌==◌, ◌&&◌, ◌||◌, ℕ, zero, suc, ℤ, pos, negsuc, nat_le, nat_lt, Bool, true, false, not, if◌then◌else◌, List, [], ◌∷◌, ◌++◌, Option, Some, None, length, take, drop, count_by}
 use Rattle.std.specs.Char.{is_ascii_digit}
-use Rattle.std.specs.List.{prefix_len}
+use Rattle.std.specs.List.{prefix_len, suffix_len}
 use Rattle.std.specs.Option.{option_map, option_map_or, option_and_then}
 use Rattle.std.specs.Str.{is_utf8, all_ascii_digits}
 use Rattle.std.specs.Str.Parse.{without_leading_sign, signed_digits_value}
@@ -213,7 +213,7 @@ abbrev pub line_behind : List ℕ → ℕ
 line_behind bytes = count_by (λ byte. byte == 10) bytes + 1
 
 abbrev pub column_behind : List ℕ → ℕ
-column_behind bytes = prefix_len (λ byte. not (byte == 10)) (reverse bytes) + 1
+column_behind bytes = suffix_len (λ byte. not (byte == 10)) bytes + 1
 
 -- the place in a text from which on so many bytes are left
 abbrev pub place_of : List ℕ → ℕ → TextFault

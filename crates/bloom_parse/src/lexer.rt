@@ -69,11 +69,16 @@ fn line_behind(bytes: &[u8]) -> u32
     bytes.iter().filter(|byte| **byte == b'\n').count() as u32 + 1
 }
 
+#[tactic(auto, using(crate::proofs::RunLemmas::column_next))]
 fn column_behind(bytes: &[u8]) -> u32
     requires { length bytes.now < 2 ^ 32 - 1 }
     ensures { result ≡ spec.column_behind bytes.now }
 {
-    bytes.iter().rev().take_while(|byte| **byte != b'\n').count() as u32 + 1
+    let mut column = 1;
+    for byte in bytes {
+        column = if *byte == b'\n' { 1 } else { column + 1 };
+    }
+    column
 }
 
 /// The place in a text from which on so many bytes are left.

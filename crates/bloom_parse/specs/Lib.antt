@@ -2,3 +2,4 @@ pub mod Trees
 pub mod Places
 pub mod Spelling
 pub mod Tokens
+pub mod Layout

@@ -4,6 +4,7 @@
 mod fault;
 mod front;
 mod lexer;
+mod print;
 mod terminal;
 mod token;
 

@@ -3,3 +3,4 @@ mod ByteLemmas
 mod NumberLemmas
 mod ShorterLemmas
 mod LexLemmas
+mod PrintLemmas

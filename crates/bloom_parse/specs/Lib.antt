@@ -3,3 +3,4 @@ pub mod Places
 pub mod Spelling
 pub mod Tokens
 pub mod Layout
+pub mod Printing

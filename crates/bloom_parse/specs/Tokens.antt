@@ -15,9 +15,9 @@ use Rattle.bloom_parse.specs.declared.terminal.Mark.TheVariants as marks
 use Rattle.bloom_parse.specs.declared.token.Token.{Token}
 use Rattle.bloom_parse.specs.declared.token.Class.{Class}
 use Rattle.bloom_parse.specs.declared.token.Class.TheVariants as classes
-use Rattle.bloom_parse.specs.declared.fault.ParseFault.{ParseFault}
-use Rattle.bloom_parse.specs.declared.fault.ParseFault.TheVariants as faults
-use Rattle.bloom_parse.specs.declared.fault.TextFault.{TextFault}
+use Rattle.bloom_parse.specs.declared.refusal.ParseFault.{ParseFault}
+use Rattle.bloom_parse.specs.declared.refusal.ParseFault.TheVariants as faults
+use Rattle.bloom_parse.specs.declared.refusal.TextFault.{TextFault}
 use Rattle.bloom_parse.specs.Spelling.{word_of}
 
 -- ---- between tokens

@@ -3,7 +3,7 @@ ghost use Rattle.std.specs.Prelude.{◌≡◌, ◌≤◌, ◌<◌, ◌+◌, ◌-
 ghost use Rattle.std.specs.List.{prefix_len};
 ghost use Rattle.bloom_parse.specs.Tokens as spec;
 
-use crate::fault::{ParseFault, TextFault};
+use crate::refusal::{ParseFault, TextFault};
 use crate::front::{behind_blanks, front};
 use crate::terminal::Terminal;
 use crate::token::{Class, Token};

@@ -1,14 +1,15 @@
 //! Module text: its tokens, its grammar, the reader and the printer.
 #![tactic(auto)]
 
-mod fault;
+mod refusal;
 mod front;
 mod lexer;
-mod print;
+mod printer;
 mod terminal;
 mod token;
 
 pub use lexer::tokens;
-pub use fault::{ParseFault, TextFault};
+pub use printer::print;
+pub use refusal::{ParseFault, TextFault};
 pub use terminal::{Mark, Terminal, Word};
 pub use token::{Class, Token};

@@ -1,6 +1,6 @@
 //! Why a text has no tokens or is no module text.
 ghost use Rattle.std.specs.Prelude.{◌≡◌};
-ghost use Rattle.bloom_parse.specs.declared.fault.ParseFault.TheVariants.{NoMemory};
+ghost use Rattle.bloom_parse.specs.declared.refusal.ParseFault.TheVariants.{NoMemory};
 
 use std::alloc::{AllocError, AllocFailed};
 use thiserror::Error;

@@ -4,3 +4,5 @@ mod NumberLemmas
 mod ShorterLemmas
 mod LexLemmas
 mod PrintLemmas
+mod SpelledLemmas
+mod LaidLemmas

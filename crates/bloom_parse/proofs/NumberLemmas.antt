@@ -16,7 +16,7 @@ use Rattle.bloom_parse.specs.declared.terminal.Terminal.TheVariants as terminals
 use Rattle.bloom_parse.specs.Tokens.{numbered, is_i64}
 use Rattle.bloom_parse.proofs.RunLemmas.{and_true}
 
-model : IsNumeralModel (λ ds. all_ascii_digits ds ≡ true) (digits_value 10)
+pub model : IsNumeralModel (λ ds. all_ascii_digits ds ≡ true) (digits_value 10)
 model = numerals_by_value (λ ds. all_ascii_digits ds ≡ true) tells_all_ascii_digits
 
 pub fits_of_test : (z : ℤ) → is_i64 z ≡ true → FitsSigned w64 z
@@ -32,7 +32,7 @@ pub number_read : (run : List ℕ) → IsNumeral 10 (without_leading_sign run) �
 number_read run digits fits =
     rw (lt-ltb 0 (length (without_leading_sign run)) digits.0, model.from (without_leading_sign run) digits.1, test_of_fits (signed_digits_value 10 run) fits) refl
 
-numeral_of : (digits : List ℕ) (z : ℤ) → nat_lt 0 (length digits) && (all_ascii_digits digits && is_i64 z) ≡ true → IsNumeral 10 digits × FitsSigned w64 z
+pub numeral_of : (digits : List ℕ) (z : ℤ) → nat_lt 0 (length digits) && (all_ascii_digits digits && is_i64 z) ≡ true → IsNumeral 10 digits × FitsSigned w64 z
 numeral_of digits z h =
     let first = and_true (nat_lt 0 (length digits)) (all_ascii_digits digits && is_i64 z) h in
     let second = and_true (all_ascii_digits digits) (is_i64 z) first.1 in

@@ -56,10 +56,11 @@ is_i64 (pos n) = nat_lt n (2 ^ 63)
 is_i64 (negsuc n) = nat_lt n (2 ^ 63)
 
 -- an optional `-` and digits whose value is an i64
+abbrev pub is_number : List ℕ → Bool
+is_number run = let digits = without_leading_sign run in nat_lt 0 (length digits) && (all_ascii_digits digits && is_i64 (signed_digits_value 10 run))
+
 abbrev pub numbered : List ℕ → Option Terminal
-numbered run =
-    let digits = without_leading_sign run in let value = signed_digits_value 10 run in
-    if nat_lt 0 (length digits) && (all_ascii_digits digits && is_i64 value) then Some (terminals.Integer value) else None
+numbered run = if is_number run then Some (terminals.Integer (signed_digits_value 10 run)) else None
 
 -- how many bytes an optional `-` and the longest run of digits behind it take
 abbrev pub number_size : List ℕ → ℕ

@@ -6,3 +6,4 @@ mod LexLemmas
 mod PrintLemmas
 mod SpelledLemmas
 mod LaidLemmas
+mod ApartLemmas

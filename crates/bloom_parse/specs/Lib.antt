@@ -4,3 +4,4 @@ pub mod Spelling
 pub mod Tokens
 pub mod Layout
 pub mod Printing
+pub mod Printable

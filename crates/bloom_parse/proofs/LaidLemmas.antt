@@ -4,7 +4,7 @@ use Rattle.std.specs.Prelude.{ℤ, pos, negsuc, FitsSigned}
 use Rattle.std.specs.Int.{w64}
 use Rattle.std.specs.Char.{is_ascii_digit}
 use Rattle.std.specs.Fmt.{signed_decimal, decimal}
-use Rattle.std.specs.List.{list_all}
+use Rattle.std.specs.List.{AllByRecursion, list_all}
 use Rattle.std.proofs.lemmas.Bool.Decides.{nat_tests}
 use Rattle.blz_value.specs.declared.test.Op.{Op}
 use Rattle.blz_value.specs.declared.test.Op.TheVariants.{Eq, Ne, Lt, Le, Gt, Ge}
@@ -187,10 +187,6 @@ abbrev pub AreApart : List Terminal → Type 0
 AreApart [] = Unit {0}
 AreApart (t ∷ ts) = IsFree t (text_of ts) × AreApart ts
 
-abbrev pub AreTerminal : List Terminal → Type 0
-AreTerminal [] = Unit {0}
-AreTerminal (t ∷ ts) = IsTerminal t × AreTerminal ts
-
 left_of : (t : Terminal) (ts : List Terminal) → IsTerminal t → behind_blanks false (text_of (t ∷ ts)) ≡ spelled t ++ (behind t ++ text_of ts)
 left_of t ts h =
     ap (behind_blanks false) (append_assoc (before t) (spelled t ++ behind t) (text_of ts))
@@ -198,7 +194,7 @@ left_of t ts h =
     ∙ ap (behind_blanks false) (append_assoc (spelled t) (behind t) (text_of ts))
     ∙ solid t (behind t ++ text_of ts) h
 
-pub lexes_laid : (size : ℕ) (ts : List Terminal) → AreTerminal ts → AreApart ts → (tokens : List Token) × Lexes size (behind_blanks false (text_of ts)) tokens (ts ++ terminals.End ∷ []) []
+pub lexes_laid : (size : ℕ) (ts : List Terminal) → AllByRecursion IsTerminal ts → AreApart ts → (tokens : List Token) × Lexes size (behind_blanks false (text_of ts)) tokens (ts ++ terminals.End ∷ []) []
 unfolding front
 lexes_laid size [] h a = ([], (refl, refl, refl))
 lexes_laid size (t ∷ ts) h a =

@@ -7,3 +7,4 @@ mod PrintLemmas
 mod SpelledLemmas
 mod LaidLemmas
 mod ApartLemmas
+mod MeaningLemmas

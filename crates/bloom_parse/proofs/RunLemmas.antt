@@ -1,5 +1,7 @@
 -- Longest runs at the front of a text, and what they are in UTF-8.
-use Rattle.std.proofs.Common.{◌≡◌, ℕ, ◌+◌, ◌<◌, Bool, true, false, cond, ◌&&◌, List, [], ◌∷◌, take, refl, ap, ◌∙◌, sym, arith, length, get_or, not, ◌-◌, ◌==◌}
+use Rattle.std.proofs.Common.{◌≡◌, ℕ, ◌+◌, ◌<◌, Bool, true, false, cond, ◌&&◌, List, [], ◌∷◌, take, refl, ap, ◌∙◌, sym, arith, length, get_or, not, ◌-◌, ◌==◌, ◌≤◌, ◌⊎◌, inl, inr, min}
+use Rattle.std.proofs.lemmas.List.{take_all}
+use Rattle.std.proofs.lemmas.Bool.{cases_lt}
 use Rattle.std.proofs.lemmas.List.Sums.{suffix_len-take_no, suffix_len-take_yes}
 use Rattle.std.proofs.Math.Numerals.{one-add}
 use Rattle.std.proofs.lemmas.Bool.Decides.{nat_tests}
@@ -53,3 +55,11 @@ column_test bytes i h false e =
 -- the column behind one byte more
 pub column_next : (bytes : List ℕ) (i : ℕ) → i < length bytes → cond (get_or bytes i 0 == 10) 1 (column_behind (take i bytes) + 1) ≡ column_behind (take (i + 1) bytes)
 column_next bytes i h = column_test bytes i h (get_or bytes i 0 == 10) refl
+
+within_by : (n : ℕ) (text : List ℕ) → (n < length text) ⊎ (length text ≤ n) → take (min n (length text)) text ≡ take n text
+within_by n text (inl h) = let e : min n (length text) ≡ n = omega arith in ap (λ k. take k text) e
+within_by n text (inr h) = let e : min n (length text) ≡ length text = omega arith in ap (λ k. take k text) e ∙ take_all (length text) text (omega arith) ∙ sym (take_all n text h)
+
+-- a front that is cut at the end is the front
+pub take_within : (n : ℕ) (text : List ℕ) → take (min n (length text)) text ≡ take n text
+take_within n text = within_by n text (cases_lt n (length text))

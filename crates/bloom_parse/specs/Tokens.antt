@@ -1,5 +1,5 @@
 -- The tokens of a text.
-use Rattle.std.specs.Prelude.{◌≡◌, ◌≢◌, ◌+◌, ◌-◌, ◌*◌, ◌^◌, ◌==◌, ◌&&◌, ◌||◌, ℕ, zero, suc, ℤ, pos, negsuc, nat_le, nat_lt, Bool, true, false, not, if◌then◌else◌, List, [], ◌∷◌, ◌++◌, Option, Some, None, length, take, drop, count_by}
+use Rattle.std.specs.Prelude.{◌≡◌, ◌≢◌, ◌+◌, ◌-◌, ◌*◌, ◌^◌, ◌==◌, ◌&&◌, ◌||◌, ℕ, zero, suc, ℤ, pos, negsuc, nat_le, nat_lt, Bool, true, false, not, if◌then◌else◌, List, [], ◌∷◌, ◌++◌, Option, Some, None, length, take, drop, slice_get, count_by}
 use Rattle.std.specs.Char.{is_ascii_digit}
 use Rattle.std.specs.List.{prefix_len, suffix_len}
 use Rattle.std.specs.Option.{option_map, option_map_or, option_and_then}
@@ -216,13 +216,17 @@ line_behind bytes = count_by (λ byte. byte == 10) bytes + 1
 abbrev pub column_behind : List ℕ → ℕ
 column_behind bytes = suffix_len (λ byte. not (byte == 10)) bytes + 1
 
--- the place in a text from which on so many bytes are left
+-- the place in a text of the byte with this number, counted from 0
 abbrev pub place_of : List ℕ → ℕ → TextFault
-place_of text left = let before = take (length text - left) text in record { line = line_behind before; column = column_behind before }
+place_of text number = let before = take number text in record { line = line_behind before; column = column_behind before }
+
+-- the number of the first byte of the terminal from which on so many terminals are left, in a text of so many bytes with these tokens and rest left behind them
+abbrev pub start_of : ℕ → List Token → List ℕ → ℕ → ℕ
+start_of size tokens rest left = option_map_or (λ token. token.from) (slice_get tokens (length tokens + 1 - left)) (size - length rest)
 
 -- behind some tokens a text has a bad one, here
 abbrev pub IsBadAt : List ℕ → TextFault → Type 0
-IsBadAt text fault = (tokens : List Token) × (ts : List Terminal) × (rest : List ℕ) × HasTokens text tokens ts rest × (rest ≢ []) × (fault ≡ place_of text (length rest))
+IsBadAt text fault = (tokens : List Token) × (ts : List Terminal) × (rest : List ℕ) × HasTokens text tokens ts rest × (rest ≢ []) × (fault ≡ place_of text (length text - length rest))
 
 -- a fault that is none of memory is at the first bad token
 abbrev pub IsBadFault : List ℕ → ParseFault → Type 0

@@ -81,16 +81,30 @@ fn column_behind(bytes: &[u8]) -> u32
     column
 }
 
-/// The place in a text from which on so many bytes are left.
-pub(crate) fn place_of(text: &[u8], left: usize) -> TextFault
+// The place of the byte with this number.
+#[tactic(auto, using(crate::proofs::RunLemmas::take_within))]
+fn place_of(text: &[u8], number: usize) -> TextFault
     requires { length text.now < 2 ^ 32 - 1 }
-    ensures { result ≡ spec.place_of text.now left }
+    ensures { result ≡ spec.place_of text.now number }
 {
-    let before = &text[..text.len().saturating_sub(left)];
+    let before = &text[..number.min(text.len())];
     TextFault {
         line: line_behind(before),
         column: column_behind(before),
     }
+}
+
+/// The place of the terminal from which on so many terminals are left, in a text with these tokens
+/// and with this rest left behind them.
+pub(crate) fn place_at(text: &[u8], tokens: &[Token], rest: &[u8], left: usize) -> TextFault
+    requires { length text.now < 2 ^ 32 - 1 }
+    ensures { result ≡ spec.place_of text.now (spec.start_of (length text.now) tokens.now rest.now left) }
+{
+    let number = match tokens.get((tokens.len() + 1).saturating_sub(left)) {
+        Some(token) => token.from,
+        None => text.len().saturating_sub(rest.len()),
+    };
+    place_of(text, number)
 }
 
 /// The tokens of a text, in order. The fault is at the first bad token.
@@ -104,6 +118,7 @@ pub fn tokens(alloc: Global, text: &[u8]) -> Result<Vec<Token>, ParseFault>
     if rest.is_empty() {
         Ok(tokens)
     } else {
-        Err(ParseFault::Text(place_of(text, rest.len())))
+        let number = text.len().saturating_sub(rest.len());
+        Err(ParseFault::Text(place_of(text, number)))
     }
 }

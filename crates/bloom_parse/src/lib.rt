@@ -3,11 +3,13 @@
 
 mod refusal;
 mod front;
+mod laws;
 mod lexer;
 mod printer;
 mod terminal;
 mod token;
 
+pub use laws::{print_law, token_law};
 pub use lexer::tokens;
 pub use printer::print;
 pub use refusal::{ParseFault, TextFault};

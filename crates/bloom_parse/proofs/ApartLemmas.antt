@@ -70,9 +70,13 @@ items_apart (i ∷ items) rest a s =
 keys_apart : (keys : List Name) (rest : List Terminal) → AreApart rest → AreApart (keys_text keys ++ rest)
 keys_apart [] rest a = (tt, (tt, a))
 keys_apart (n ∷ names) rest a =
-    let more = names_apart names (mark marks.CloseKeys ∷ rest) (tt, a) refl in
-    (tt, (subst (λ (ts : List Terminal). Starts ts) (sym (append_assoc (more_names_text names) (mark marks.CloseKeys ∷ []) rest)) more.1,
-    regroup (more_names_text names) (mark marks.CloseKeys ∷ []) rest more.0))
+    let more = names_apart names (mark marks.CloseKeys ∷ rest) (tt, a) refl in (
+      tt,
+      (
+        subst (λ (ts : List Terminal). Starts ts) (sym (append_assoc (more_names_text names) (mark marks.CloseKeys ∷ []) rest)) more.1,
+        regroup (more_names_text names) (mark marks.CloseKeys ∷ []) rest more.0,
+      ),
+    )
 
 agg_apart : (agg : NamedAgg) (rest : List Terminal) → AreApart rest → Starts rest → AreApart (agg_text agg ++ rest)
 agg_apart Count rest a s = (s, a)
@@ -84,33 +88,65 @@ agg_apart (Max n) rest a s = (refl, (tt, (refl, (tt, a))))
 
 expr_apart : (e : ExprTree) (rest : List Terminal) → AreApart rest → Starts rest → AreApart (expr_text e ++ rest)
 expr_apart (ExprTree.of_base n) rest a s = (s, a)
-expr_apart (ExprTree.of_select e p) rest a s =
-    (refl, (tt, regroup (expr_text e) (mark marks.Comma ∷ (ors_text p ++ mark marks.Close ∷ [])) rest (expr_apart e _
-        (tt, regroup (ors_text p) (mark marks.Close ∷ []) rest (ors_apart p (mark marks.Close ∷ rest) (tt, a) refl)) refl)))
+expr_apart (ExprTree.of_select e p) rest a s = (
+  refl,
+  (
+    tt,
+    regroup (expr_text e) (mark marks.Comma ∷ (ors_text p ++ mark marks.Close ∷ [])) rest (expr_apart e _
+        (tt, regroup (ors_text p) (mark marks.Close ∷ []) rest (ors_apart p (mark marks.Close ∷ rest) (tt, a) refl)) refl),
+  ),
+)
 expr_apart (ExprTree.of_project e i items) rest a s =
     let more = items_apart items (mark marks.Close ∷ rest) (tt, a) refl in
-    let regrouped = append_assoc (more_items_text items) (mark marks.Close ∷ []) rest in
-    (refl, (tt, regroup (expr_text e) (mark marks.Comma ∷ (item_text i ++ (more_items_text items ++ mark marks.Close ∷ []))) rest (expr_apart e _
-        (tt, regroup (item_text i) (more_items_text items ++ mark marks.Close ∷ []) rest (item_apart i _ (subst AreApart (sym regrouped) more.0) (subst (λ (ts : List Terminal). Starts ts) (sym regrouped) more.1))) refl)))
+    let regrouped = append_assoc (more_items_text items) (mark marks.Close ∷ []) rest in (
+      refl,
+      (
+        tt,
+        regroup (expr_text e) (mark marks.Comma ∷ (item_text i ++ (more_items_text items ++ mark marks.Close ∷ []))) rest (expr_apart e _
+            (tt, regroup (item_text i) (more_items_text items ++ mark marks.Close ∷ []) rest (item_apart i _ (subst AreApart (sym regrouped) more.0) (subst (λ (ts : List Terminal). Starts ts) (sym regrouped) more.1))) refl),
+      ),
+    )
 expr_apart (ExprTree.of_join x y pairs) rest a s =
     let more = pairs_apart pairs (mark marks.Close ∷ rest) (tt, a) refl in
-    let regrouped = append_assoc (more_pairs_text pairs) (mark marks.Close ∷ []) rest in
-    (refl, (tt, regroup (expr_text x) (mark marks.Comma ∷ (expr_text y ++ (more_pairs_text pairs ++ mark marks.Close ∷ []))) rest (expr_apart x _
-        (tt, regroup (expr_text y) (more_pairs_text pairs ++ mark marks.Close ∷ []) rest (expr_apart y _ (subst AreApart (sym regrouped) more.0) (subst (λ (ts : List Terminal). Starts ts) (sym regrouped) more.1))) refl)))
+    let regrouped = append_assoc (more_pairs_text pairs) (mark marks.Close ∷ []) rest in (
+      refl,
+      (
+        tt,
+        regroup (expr_text x) (mark marks.Comma ∷ (expr_text y ++ (more_pairs_text pairs ++ mark marks.Close ∷ []))) rest (expr_apart x _
+            (tt, regroup (expr_text y) (more_pairs_text pairs ++ mark marks.Close ∷ []) rest (expr_apart y _ (subst AreApart (sym regrouped) more.0) (subst (λ (ts : List Terminal). Starts ts) (sym regrouped) more.1))) refl),
+      ),
+    )
 expr_apart (ExprTree.of_notin x y pairs) rest a s =
     let more = pairs_apart pairs (mark marks.Close ∷ rest) (tt, a) refl in
-    let regrouped = append_assoc (more_pairs_text pairs) (mark marks.Close ∷ []) rest in
-    (refl, (tt, regroup (expr_text x) (mark marks.Comma ∷ (expr_text y ++ (more_pairs_text pairs ++ mark marks.Close ∷ []))) rest (expr_apart x _
-        (tt, regroup (expr_text y) (more_pairs_text pairs ++ mark marks.Close ∷ []) rest (expr_apart y _ (subst AreApart (sym regrouped) more.0) (subst (λ (ts : List Terminal). Starts ts) (sym regrouped) more.1))) refl)))
+    let regrouped = append_assoc (more_pairs_text pairs) (mark marks.Close ∷ []) rest in (
+      refl,
+      (
+        tt,
+        regroup (expr_text x) (mark marks.Comma ∷ (expr_text y ++ (more_pairs_text pairs ++ mark marks.Close ∷ []))) rest (expr_apart x _
+            (tt, regroup (expr_text y) (more_pairs_text pairs ++ mark marks.Close ∷ []) rest (expr_apart y _ (subst AreApart (sym regrouped) more.0) (subst (λ (ts : List Terminal). Starts ts) (sym regrouped) more.1))) refl),
+      ),
+    )
 expr_apart (ExprTree.of_group e keys agg n) rest a s =
-    let ending = word words.As ∷ terminals.Name n ∷ mark marks.Close ∷ [] in
-    (refl, (tt, regroup (expr_text e) (mark marks.Comma ∷ (keys_text keys ++ mark marks.Comma ∷ (agg_text agg ++ ending))) rest (expr_apart e _
-        (tt, regroup (keys_text keys) (mark marks.Comma ∷ (agg_text agg ++ ending)) rest (keys_apart keys _
-        (tt, regroup (agg_text agg) ending rest (agg_apart agg (ending ++ rest) (refl, (refl, (tt, a))) refl)))) refl)))
+    let ending = word words.As ∷ terminals.Name n ∷ mark marks.Close ∷ [] in (
+      refl,
+      (
+        tt,
+        regroup (expr_text e) (mark marks.Comma ∷ (keys_text keys ++ mark marks.Comma ∷ (agg_text agg ++ ending))) rest (expr_apart e _ (
+          tt,
+          regroup (keys_text keys) (mark marks.Comma ∷ (agg_text agg ++ ending)) rest (keys_apart keys _
+              (tt, regroup (agg_text agg) ending rest (agg_apart agg (ending ++ rest) (refl, (refl, (tt, a))) refl))),
+        ) refl),
+      ),
+    )
 expr_apart (ExprTree.of_at_least e keys bound) rest a s =
-    let ending = mark marks.Comma ∷ terminals.Integer bound ∷ mark marks.Close ∷ [] in
-    (refl, (tt, regroup (expr_text e) (mark marks.Comma ∷ (keys_text keys ++ ending)) rest (expr_apart e _
-        (tt, regroup (keys_text keys) ending rest (keys_apart keys (ending ++ rest) (tt, (refl, (tt, a))))) refl)))
+    let ending = mark marks.Comma ∷ terminals.Integer bound ∷ mark marks.Close ∷ [] in (
+      refl,
+      (
+        tt,
+        regroup (expr_text e) (mark marks.Comma ∷ (keys_text keys ++ ending)) rest (expr_apart e _
+            (tt, regroup (keys_text keys) ending rest (keys_apart keys (ending ++ rest) (tt, (refl, (tt, a))))) refl),
+      ),
+    )
 
 -- ---- modules
 

@@ -44,7 +44,7 @@ pub bytes_turn : (n : ℕ) (bytes text after : List ℕ) (b : ℕ) (whole : Opti
 bytes_turn n bytes text after b whole few unclosed next h =
     let left : 64 - n ≡ suc (64 - (n + 1)) = omega arith in
     let turned : bytes_front (64 - n) text ≡ with_bytes (b ∷ []) (bytes_front (64 - (n + 1)) after) =
-        ap (λ room. bytes_front room text) left ∙ bytes_more (64 - (n + 1)) text unclosed ∙ ap (option_and_then (λ (x : ℕ × List ℕ). with_bytes (x.0 ∷ []) (bytes_front (64 - (n + 1)) x.1))) next in
+    ap (λ room. bytes_front room text) left ∙ bytes_more (64 - (n + 1)) text unclosed ∙ ap (option_and_then (λ (x : ℕ × List ℕ). with_bytes (x.0 ∷ []) (bytes_front (64 - (n + 1)) x.1))) next in
     sym (with_bytes_twice bytes (b ∷ []) (bytes_front (64 - (n + 1)) after)) ∙ ap (with_bytes bytes) (sym turned) ∙ h
 
 -- a byte that can't stand in a text ends it
@@ -52,7 +52,7 @@ pub bytes_bad : (n : ℕ) (bytes text : List ℕ) (whole : Option (List ℕ × L
 bytes_bad n bytes text whole few unclosed next h =
     let left : 64 - n ≡ suc (64 - (n + 1)) = omega arith in
     let turned : bytes_front (64 - n) text ≡ None =
-        ap (λ room. bytes_front room text) left ∙ bytes_more (64 - (n + 1)) text unclosed ∙ ap (option_and_then (λ (x : ℕ × List ℕ). with_bytes (x.0 ∷ []) (bytes_front (64 - (n + 1)) x.1))) next in
+    ap (λ room. bytes_front room text) left ∙ bytes_more (64 - (n + 1)) text unclosed ∙ ap (option_and_then (λ (x : ℕ × List ℕ). with_bytes (x.0 ∷ []) (bytes_front (64 - (n + 1)) x.1))) next in
     sym (sym h ∙ ap (with_bytes bytes) turned)
 
 -- the closing quote ends it

@@ -201,6 +201,7 @@ lexes_laid size (t ∷ ts) h a =
     let more = lexes_laid size ts h.1 a.1 in
     let left = behind_blanks false (text_of (t ∷ ts)) in
     let after = behind t ++ text_of ts in
-    let found : front left ≡ Some (t, after) = ap front (left_of t ts h.0) ∙ terminal_again t (text_of ts) h.0 a.0 in
-    (token_at size (length left) (length after) t ∷ more.0,
-     (after, found, refl, subst (λ (xs : List ℕ). Lexes size xs more.0 (ts ++ terminals.End ∷ []) []) (sym (blank_behind t (text_of ts))) more.1))
+    let found : front left ≡ Some (t, after) = ap front (left_of t ts h.0) ∙ terminal_again t (text_of ts) h.0 a.0 in (
+      token_at size (length left) (length after) t ∷ more.0,
+      (after, found, refl, subst (λ (xs : List ℕ). Lexes size xs more.0 (ts ++ terminals.End ∷ []) []) (sym (blank_behind t (text_of ts))) more.1),
+    )

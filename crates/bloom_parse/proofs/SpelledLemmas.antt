@@ -142,7 +142,7 @@ digits_again (d ∷ ds) tail t h p e s =
     let both = and_true (is_ascii_digit d) (list_all is_ascii_digit ds) h in
     front_of_digit d (ds ++ tail) (digit_no_letter d both.0) both.0
     ∙ cut_off numbered (number_size (d ∷ (ds ++ tail))) (d ∷ ds) tail t
-        (ap (λ c. cond c (1 + prefix_len is_ascii_digit (ds ++ tail)) (prefix_len is_ascii_digit (d ∷ (ds ++ tail)))) (digit_no_sign d both.0) ∙ run_ends is_ascii_digit (d ∷ ds) tail h s) e
+    (ap (λ c. cond c (1 + prefix_len is_ascii_digit (ds ++ tail)) (prefix_len is_ascii_digit (d ∷ (ds ++ tail)))) (digit_no_sign d both.0) ∙ run_ends is_ascii_digit (d ∷ ds) tail h s) e
 
 minus_again : (ds tail : List ℕ) (t : Terminal) → list_all is_ascii_digit ds ≡ true → numbered (45 ∷ ds) ≡ Some t → Stops is_ascii_digit tail → front (45 ∷ (ds ++ tail)) ≡ Some (t, tail)
 unfolding front
@@ -227,7 +227,7 @@ bytes_again zero (b ∷ t) tail h = absurd (omega arith)
 bytes_again (suc room) (b ∷ t) tail h =
     let rest = escaped t ++ 34 ∷ tail in
     let step : option_and_then (λ (x : ℕ × List ℕ). with_bytes (x.0 ∷ []) (bytes_front room x.1)) (byte_front (escaped_byte b ++ rest)) ≡ with_bytes (b ∷ []) (bytes_front room rest) =
-        ap (option_and_then (λ (x : ℕ × List ℕ). with_bytes (x.0 ∷ []) (bytes_front room x.1))) (byte_again b rest) in
+    ap (option_and_then (λ (x : ℕ × List ℕ). with_bytes (x.0 ∷ []) (bytes_front room x.1))) (byte_again b rest) in
     ap (bytes_front (suc room)) (append_assoc (escaped_byte b) (escaped t) (34 ∷ tail))
     ∙ bytes_more room (escaped_byte b ++ rest) (not_closing b rest) ∙ step
     ∙ ap (with_bytes (b ∷ [])) (bytes_again room t tail (omega arith))

@@ -5,3 +5,4 @@ pub mod Tokens
 pub mod Layout
 pub mod Printing
 pub mod Printable
+pub mod Parsing

@@ -90,7 +90,7 @@ hex_front [] = None
 hex_front (high ∷ []) = None
 hex_front (high ∷ low ∷ rest) =
     option_and_then (λ h. option_and_then (λ l.
-        if is_control (16 * h + l) then Some (16 * h + l, rest) else None) (hex_value low)) (hex_value high)
+    if is_control (16 * h + l) then Some (16 * h + l, rest) else None) (hex_value low)) (hex_value high)
 
 -- behind a backslash stand `"`, a backslash, or `x` and two digits
 abbrev pub escape_front : List ℕ → Byte

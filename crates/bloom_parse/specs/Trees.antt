@@ -172,7 +172,6 @@ expr_text (ExprTree.of_base n) = terminals.Name n ∷ []
 expr_text (ExprTree.of_select e p) = word words.Select ∷ mark marks.Open ∷ (expr_text e ++ mark marks.Comma ∷ (ors_text p ++ mark marks.Close ∷ []))
 expr_text (ExprTree.of_project e i items) = word words.Project ∷ mark marks.Open ∷ (expr_text e ++ mark marks.Comma ∷ (item_text i ++ (more_items_text items ++ mark marks.Close ∷ [])))
 expr_text (ExprTree.of_join a b pairs) = word words.Join ∷ mark marks.Open ∷ (expr_text a ++ mark marks.Comma ∷ (expr_text b ++ (more_pairs_text pairs ++ mark marks.Close ∷ [])))
-
 expr_text (ExprTree.of_notin a b pairs) = word words.NotIn ∷ mark marks.Open ∷ (expr_text a ++ mark marks.Comma ∷ (expr_text b ++ (more_pairs_text pairs ++ mark marks.Close ∷ [])))
 expr_text (ExprTree.of_group e keys agg n) = word words.Group ∷ mark marks.Open ∷ (expr_text e ++ mark marks.Comma ∷ (keys_text keys ++ mark marks.Comma ∷ (agg_text agg ++ word words.As ∷ terminals.Name n ∷ mark marks.Close ∷ [])))
 expr_text (ExprTree.of_at_least e keys bound) = word words.AtLeast ∷ mark marks.Open ∷ (expr_text e ++ mark marks.Comma ∷ (keys_text keys ++ mark marks.Comma ∷ terminals.Integer bound ∷ mark marks.Close ∷ []))

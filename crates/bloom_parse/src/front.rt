@@ -29,7 +29,11 @@ pub(crate) fn behind_blanks(text: &[u8]) -> &[u8]
         if !(within || is_white(*byte) || *byte == b'#') {
             break;
         }
-        within = if within { *byte != b'\n' } else { *byte == b'#' };
+        within = if within {
+            *byte != b'\n'
+        } else {
+            *byte == b'#'
+        };
         rest = after;
     }
     rest
@@ -129,9 +133,7 @@ fn digits_size(text: &[u8]) -> usize
     ensures value { result ≡ prefix_len is_ascii_digit text.now }
     ensures within { result ≤ length text.now }
 {
-    text.iter()
-        .take_while(|byte| byte.is_ascii_digit())
-        .count()
+    text.iter().take_while(|byte| byte.is_ascii_digit()).count()
 }
 
 fn number_size(text: &[u8]) -> usize
@@ -175,7 +177,11 @@ fn hex_front(text: &[u8]) -> Option<(u8, &[u8])>
     match text {
         [high, low, rest @ ..] => {
             let byte = 16 * hex_value(*high)? + hex_value(*low)?;
-            if is_control(byte) { Some((byte, rest)) } else { None }
+            if is_control(byte) {
+                Some((byte, rest))
+            } else {
+                None
+            }
         }
         _ => None,
     }

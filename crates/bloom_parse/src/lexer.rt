@@ -3,8 +3,8 @@ ghost use Rattle.std.specs.Prelude.{◌≡◌, ◌≤◌, ◌<◌, ◌+◌, ◌-
 ghost use Rattle.std.specs.List.{prefix_len};
 ghost use Rattle.bloom_parse.specs.Tokens as spec;
 
-use crate::refusal::{ParseFault, TextFault};
 use crate::front::{behind_blanks, front};
+use crate::refusal::{ParseFault, TextFault};
 use crate::terminal::Terminal;
 use crate::token::{Class, Token};
 use std::alloc::{AllocError, Global};

@@ -1,11 +1,11 @@
 //! Module text: its tokens, its grammar, the reader and the printer.
 #![tactic(auto)]
 
-mod refusal;
 mod front;
 mod laws;
 mod lexer;
 mod printer;
+mod refusal;
 mod terminal;
 mod token;
 
@@ -15,3 +15,6 @@ pub use printer::print;
 pub use refusal::{ParseFault, TextFault};
 pub use terminal::{Mark, Terminal, Word};
 pub use token::{Class, Token};
+
+#[cfg(test)]
+mod tests;

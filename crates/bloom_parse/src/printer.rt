@@ -8,8 +8,8 @@ ghost use Rattle.bloom_parse.specs.Spelling as spelling;
 ghost use Rattle.bloom_parse.specs.Layout as spec;
 ghost use Rattle.bloom_parse.specs.Printing as printing;
 
-use blz_value::{Op, Str, Value, write_value};
 use bloom_ast::{Checked, Collection, Expr, Kind, NamedAgg, Pred, Rule, Term};
+use blz_value::{Op, Str, Value, write_value};
 use std::alloc::{AllocError, Global};
 
 // Which parentheses a predicate needs where it stands: none, none around `and`, or none around a
@@ -97,7 +97,7 @@ fn push_if(needed: bool, byte: u8, into: &mut Vec<u8>) -> Result<(), AllocError>
     Ok(())
 }
 
-fn push_pred(
+pub(crate) fn push_pred(
     alloc: Global,
     pred: &Pred,
     place: Place,
@@ -248,12 +248,7 @@ fn push_named_agg(
 }
 
 // The end of an atleast, behind its part.
-fn push_bound(
-    alloc: Global,
-    keys: &[Str],
-    bound: i64,
-    into: &mut Vec<u8>,
-) -> Result<(), AllocError>
+fn push_bound(alloc: Global, keys: &[Str], bound: i64, into: &mut Vec<u8>) -> Result<(), AllocError>
     ensures { OnOk result (into.new.items ≡ into.old.items ++ spec.text_of (printing.bound_text keys.now bound)) }
 {
     push_keys(keys, into)?;
@@ -262,7 +257,7 @@ fn push_bound(
     Ok(into.push(b')')?)
 }
 
-fn push_expr(alloc: Global, expr: &Expr, into: &mut Vec<u8>) -> Result<(), AllocError>
+pub(crate) fn push_expr(alloc: Global, expr: &Expr, into: &mut Vec<u8>) -> Result<(), AllocError>
     ensures { OnOk result (into.new.items ≡ into.old.items ++ spec.text_of (trees.expr_text (spec.tree_of (query_of expr.now)))) }
 {
     match expr {

@@ -12,3 +12,13 @@ pub mod ModuleLemmas
 pub mod ModuleAgain
 pub mod PlaceLemmas
 pub mod PlainLemmas
+mod RunLemmas
+mod ByteLemmas
+mod NumberLemmas
+mod ShorterLemmas
+mod LexLemmas
+mod PrintLemmas
+mod SpelledLemmas
+mod LaidLemmas
+mod ApartLemmas
+mod MeaningLemmas

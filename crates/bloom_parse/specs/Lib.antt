@@ -8,3 +8,9 @@ pub mod ReadingExprs
 pub mod ReadingModules
 pub mod ReadPlaces
 pub mod Plain
+pub mod Spelling
+pub mod Tokens
+pub mod Layout
+pub mod Printing
+pub mod Printable
+pub mod Parsing

@@ -1,10 +1,21 @@
-//! Laws of the grammar, each the contract of a function that does nothing.
-ghost use Rattle.std.specs.Prelude.{◌≡◌, ◌++◌, List};
+//! Laws of tokens, of the grammar and of what is printed, each the contract of a function that does
+//! nothing.
+ghost use Rattle.std.specs.Prelude.{◌≡◌, ◌++◌, ℕ, List};
 ghost use Rattle.std.specs.List.{All};
 ghost use Rattle.bloom_ast.specs.Form.{Form};
 ghost use Rattle.bloom_parse.specs.declared.terminal.Terminal.{Terminal};
+ghost use Rattle.bloom_parse.specs.declared.token.Token.{Token};
+ghost use Rattle.bloom_parse.specs.Layout.{printed};
+ghost use Rattle.bloom_parse.specs.Parsing.{IsTextOf};
 ghost use Rattle.bloom_parse.specs.Places.{IsModuleText, Begins};
 ghost use Rattle.bloom_parse.specs.Plain.{IsPlain};
+ghost use Rattle.bloom_parse.specs.Printable.{IsPrintable};
+ghost use Rattle.bloom_parse.specs.Tokens.{HasTokens};
+
+/// A text has one list of tokens and terminals.
+pub fn token_law()
+    ensures { (text : List ℕ) (ks ls : List Token) (ts us : List Terminal) (rest more : List ℕ) → HasTokens text ks ts rest → HasTokens text ls us more → (ks ≡ ls) × (ts ≡ us) × (rest ≡ more) }
+{}
 
 /// No two modules have one text.
 pub fn one_module_law()
@@ -14,4 +25,9 @@ pub fn one_module_law()
 /// What begins a module text is completed by plain terminals, which all can be spelled.
 pub fn plain_end_law()
     ensures completed { (front : List Terminal) → Begins front → (more : List Terminal) × All IsPlain more × ((m : Form) × IsModuleText (front ++ more) m) }
+{}
+
+/// What is printed of a module is a text of it.
+pub fn print_law()
+    ensures { (m : Form) → IsPrintable m → IsTextOf (printed m) m }
 {}

@@ -1,0 +1,17 @@
+-- Which module a text is of, and where it has the first fault.
+use Rattle.std.specs.Prelude.{◌≡◌, ℕ, List, length}
+use Rattle.bloom_ast.specs.Form.{Form}
+use Rattle.bloom_parse.specs.declared.refusal.TextFault.{TextFault}
+use Rattle.bloom_parse.specs.declared.terminal.Terminal.{Terminal}
+use Rattle.bloom_parse.specs.declared.token.Token.{Token}
+use Rattle.bloom_parse.specs.Places.{IsModuleText, IsFault}
+use Rattle.bloom_parse.specs.Tokens.{HasTokens, AreTerminals, place_of, start_of}
+
+-- the text is one of this module
+abbrev pub IsTextOf : List ℕ → Form → Type 0
+IsTextOf text m = (ts : List Terminal) × AreTerminals text ts × IsModuleText ts m
+
+-- the first token, or end, that no module text has there stands here
+abbrev pub IsFirstFault : List ℕ → TextFault → Type 0
+IsFirstFault text fault = (tokens : List Token) × (ts : List Terminal) × (rest : List ℕ) × (left : ℕ)
+    × HasTokens text tokens ts rest × IsFault ts left × (fault ≡ place_of text (start_of (length text) tokens rest left))

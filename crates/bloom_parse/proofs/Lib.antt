@@ -22,3 +22,4 @@ mod SpelledLemmas
 mod LaidLemmas
 mod ApartLemmas
 mod MeaningLemmas
+pub mod TextLemmas

@@ -1,6 +1,9 @@
 -- Which module a text is of, and where it has the first fault.
-use Rattle.std.specs.Prelude.{◌≡◌, ℕ, List, length}
-use Rattle.bloom_ast.specs.Form.{Form}
+use Rattle.std.specs.Prelude.{◌≡◌, ℕ, List, length, Result, Ok, Err}
+use Rattle.bloom_ast.specs.declared.module.Module.{Module}
+use Rattle.bloom_ast.specs.Form.{Form, form_of}
+use Rattle.bloom_parse.specs.declared.refusal.ParseFault.{ParseFault}
+use Rattle.bloom_parse.specs.declared.refusal.ParseFault.TheVariants.{Text, NoMemory}
 use Rattle.bloom_parse.specs.declared.refusal.TextFault.{TextFault}
 use Rattle.bloom_parse.specs.declared.terminal.Terminal.{Terminal}
 use Rattle.bloom_parse.specs.declared.token.Token.{Token}
@@ -15,3 +18,14 @@ IsTextOf text m = (ts : List Terminal) × AreTerminals text ts × IsModuleText t
 abbrev pub IsFirstFault : List ℕ → TextFault → Type 0
 IsFirstFault text fault = (tokens : List Token) × (ts : List Terminal) × (rest : List ℕ) × (left : ℕ)
     × HasTokens text tokens ts rest × IsFault ts left × (fault ≡ place_of text (start_of (length text) tokens rest left))
+
+-- a fault that is none of memory is the first
+abbrev pub IsParseFault : List ℕ → ParseFault → Type 0
+IsParseFault text (Text fault) = IsFirstFault text fault
+IsParseFault text NoMemory = Unit {0}
+
+-- the answer is this module, unless memory ran out
+abbrev pub GivesModule : Form → Result Module ParseFault → Type 0
+GivesModule m (Ok read) = form_of read ≡ m
+GivesModule m (Err (Text fault)) = ⊥
+GivesModule m (Err NoMemory) = Unit {0}

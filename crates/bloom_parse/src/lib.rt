@@ -6,6 +6,7 @@ mod front;
 mod laws;
 mod lexer;
 mod lists;
+mod parser;
 mod predicates;
 mod printer;
 mod read_fault;
@@ -17,6 +18,7 @@ mod token;
 
 pub use laws::{one_module_law, plain_end_law, print_law, token_law};
 pub use lexer::tokens;
+pub use parser::parse;
 pub use printer::print;
 pub use refusal::{ParseFault, TextFault};
 pub use terminal::{Mark, Terminal, Word};

@@ -1,0 +1,28 @@
+//! The module of a text.
+ghost use Rattle.std.specs.Prelude.{◌≡◌, ◌<◌, ◌-◌, ◌^◌, length, IfOk, IfErr};
+ghost use Rattle.bloom_ast.specs.Form.{Form, form_of};
+ghost use Rattle.bloom_parse.specs.Parsing.{IsTextOf, IsParseFault, GivesModule};
+
+use crate::lexer::{lexed, place_at};
+use crate::read_fault::ReadFault;
+use crate::reader::module_of;
+use crate::refusal::ParseFault;
+use bloom_ast::Module;
+use std::alloc::Global;
+
+/// The module whose text this is. The fault is at the first token that no module text has there, where
+/// the end of the text counts as a token.
+pub fn parse(alloc: Global, text: &[u8]) -> Result<Module, ParseFault>
+    requires { length text.now < 2 ^ 32 - 1 }
+    ensures read { IfOk result (λ read. IsTextOf text.now (form_of read)) }
+    // A text of a module is read as this one, unless memory runs out.
+    ensures only { (m : Form) → IsTextOf text.now m → GivesModule m result }
+    ensures fault { IfErr result (λ e. IsParseFault text.now e) }
+{
+    let (tokens, terminals, rest) = lexed(alloc, text)?;
+    match module_of(alloc, &terminals) {
+        Ok(module) => Ok(module),
+        Err(ReadFault::Left(left)) => Err(ParseFault::Text(place_at(text, &tokens, rest, left))),
+        Err(ReadFault::NoMemory) => Err(ParseFault::NoMemory),
+    }
+}

@@ -1,7 +1,8 @@
 //! The rows of expressions, with the names of their columns.
-ghost use Rattle.std.specs.Prelude.{◌≡◌, ◌≤◌, ◌∷◌, ◌++◌, [], length, map, IfOk};
+ghost use Rattle.std.specs.Prelude.{◌≡◌, ◌≤◌, ◌∷◌, ◌++◌, [], List, length, map, IfOk};
+ghost use Rattle.blz_value.specs.Record.{Row};
 ghost use Rattle.blz_value.specs.Sets.{set_of};
-ghost use Rattle.blz_value.specs.Operators.{is_paired, select_rows, project_rows, join_rows, notin_rows};
+ghost use Rattle.blz_value.specs.Operators.{is_paired, unpaired, select_rows, project_rows, join_rows, notin_rows};
 ghost use Rattle.blz_value.specs.Groups.{group_rows, at_least_rows};
 ghost use Rattle.blz_set.specs.Answers.{Gives};
 ghost use Rattle.bloom_ast.specs.Form.{formula_of};
@@ -9,6 +10,7 @@ ghost use Rattle.bloom_ast.specs.Columns as spec;
 ghost use Rattle.bloom_ast.specs.Rows as rows;
 ghost use Rattle.bloom_eval.specs.Parts.{rows_in, shown, AreWide};
 ghost use Rattle.bloom_eval.specs.Tests.{FormulaFits};
+ghost use Rattle.bloom_eval.specs.Evaluates.{GivesPart};
 
 use crate::columns::{column_numbers, item_numbers, numbered, pair_numbers, test};
 use blz_set::{RecordSet, SetFault};
@@ -42,89 +44,110 @@ pub(crate) struct Part<'a> {
     pub rows: Rows<'a>,
 }
 
-impl Part<'_> {
+impl<'a> Part<'a> {
     /// The rows for which a predicate holds.
-    pub(crate) fn select(&self, alloc: Global, pred: &Pred) -> Result<RecordSet, SetFault>
-        requires few { length self.now.columns.items ≤ 8 }
-        requires fits { FormulaFits (shown self.now.columns.items) (formula_of pred.now) }
-        requires wide { AreWide (length self.now.columns.items) (rows_in self.now.rows) }
-        ensures { Gives (set_of (select_rows (rows.formula_holds (shown self.now.columns.items) (formula_of pred.now)) (rows_in self.now.rows))) result }
+    pub(crate) fn select(self, alloc: Global, pred: &Pred) -> Result<Part<'a>, SetFault>
+        requires few { length self.columns.items ≤ 8 }
+        requires fits { FormulaFits (shown self.columns.items) (formula_of pred.now) }
+        requires wide { AreWide (length self.columns.items) (rows_in self.rows) }
+        ensures { GivesPart (shown self.entry.columns.items) (set_of (select_rows (rows.formula_holds (shown self.entry.columns.items) (formula_of pred.now)) (rows_in self.entry.rows))) result }
     {
         let test = test(alloc, pred, &self.columns)?;
-        self.rows.as_set().select(&test)
+        let rows = self.rows.as_set().select(&test);
+        owned(self.columns, rows)
     }
 
     /// The columns that items name.
     pub(crate) fn project(
-        &self,
+        self,
         alloc: Global,
-        items: &[(Str, Str)],
-    ) -> Result<RecordSet, SetFault>
-        requires { length self.now.columns.items ≤ 8 }
-        ensures { Gives (set_of (project_rows (rows.item_numbers (shown self.now.columns.items) items.now) (rows_in self.now.rows))) result }
+        items: &'a [(Str, Str)],
+    ) -> Result<Part<'a>, SetFault>
+        requires { length self.columns.items ≤ 8 }
+        ensures { GivesPart (map (λ item. item.1) items.now) (set_of (project_rows (rows.item_numbers (shown self.entry.columns.items) items.now) (rows_in self.entry.rows))) result }
     {
         let numbers = item_numbers(alloc, &self.columns, items)?;
-        self.rows.as_set().project(&numbers)
+        let rows = self.rows.as_set().project(&numbers);
+        owned(item_names(alloc, items)?, rows)
     }
 
     /// The joined rows of this part and another.
     pub(crate) fn join(
-        &self,
+        self,
         alloc: Global,
-        other: &Part<'_>,
+        other: Part<'a>,
         pairs: &[(Str, Str)],
-    ) -> Result<RecordSet, SetFault>
-        requires left { length self.now.columns.items ≤ 8 }
-        requires right { length other.now.columns.items ≤ 8 }
-        ensures { Gives (set_of (join_rows (spec.pair_numbers (shown self.now.columns.items) (shown other.now.columns.items) pairs.now) (rows_in self.now.rows) (rows_in other.now.rows))) result }
+    ) -> Result<Part<'a>, SetFault>
+        requires left { length self.columns.items ≤ 8 }
+        requires right { length other.columns.items ≤ 8 }
+        ensures { GivesPart (spec.joined_columns (shown self.entry.columns.items) (shown other.entry.columns.items) pairs.now) (set_of (join_rows (spec.pair_numbers (shown self.entry.columns.items) (shown other.entry.columns.items) pairs.now) (rows_in self.entry.rows) (rows_in other.entry.rows))) result }
     {
         let numbers = pair_numbers(alloc, &self.columns, &other.columns, pairs)?;
-        self.rows.as_set().join(other.rows.as_set(), &numbers)
+        let rows = self.rows.as_set().join(other.rows.as_set(), &numbers);
+        owned(joined_names(alloc, &self.columns, &other.columns, &numbers)?, rows)
     }
 
     /// The rows that agree with no row of another part.
     pub(crate) fn antijoin(
-        &self,
+        self,
         alloc: Global,
         other: &Part<'_>,
         pairs: &[(Str, Str)],
-    ) -> Result<RecordSet, SetFault>
-        requires left { length self.now.columns.items ≤ 8 }
+    ) -> Result<Part<'a>, SetFault>
+        requires left { length self.columns.items ≤ 8 }
         requires right { length other.now.columns.items ≤ 8 }
-        ensures { Gives (set_of (notin_rows (spec.pair_numbers (shown self.now.columns.items) (shown other.now.columns.items) pairs.now) (rows_in self.now.rows) (rows_in other.now.rows))) result }
+        ensures { GivesPart (shown self.entry.columns.items) (set_of (notin_rows (spec.pair_numbers (shown self.entry.columns.items) (shown other.now.columns.items) pairs.now) (rows_in self.entry.rows) (rows_in other.now.rows))) result }
     {
         let numbers = pair_numbers(alloc, &self.columns, &other.columns, pairs)?;
-        self.rows.as_set().antijoin(other.rows.as_set(), &numbers)
+        let rows = self.rows.as_set().antijoin(other.rows.as_set(), &numbers);
+        owned(self.columns, rows)
     }
 
-    /// Each key with the aggregate of its rows.
+    /// Each key with the aggregate of its rows under a name.
     pub(crate) fn group(
-        &self,
+        self,
         alloc: Global,
-        keys: &[Str],
+        keys: &'a [Str],
         agg: &NamedAgg,
-    ) -> Result<RecordSet, SetFault>
-        requires { length self.now.columns.items ≤ 8 }
-        ensures { Gives (set_of (group_rows (rows.column_numbers (shown self.now.columns.items) keys.now) (rows.numbered_agg (shown self.now.columns.items) agg.now) (rows_in self.now.rows))) result }
+        name: &'a Str,
+    ) -> Result<Part<'a>, SetFault>
+        requires { length self.columns.items ≤ 8 }
+        ensures { GivesPart (keys.now ++ name.now ∷ []) (set_of (group_rows (rows.column_numbers (shown self.entry.columns.items) keys.now) (rows.numbered_agg (shown self.entry.columns.items) agg.now) (rows_in self.entry.rows))) result }
     {
         let numbers = column_numbers(alloc, &self.columns, keys)?;
         let agg = numbered(agg, &self.columns);
-        self.rows.as_set().group(&numbers, agg)
+        let rows = self.rows.as_set().group(&numbers, agg);
+        owned(key_names(alloc, keys, name)?, rows)
     }
 
     /// The keys that occur in at least so many rows.
     pub(crate) fn at_least(
-        &self,
+        self,
         alloc: Global,
-        keys: &[Str],
+        keys: &'a [Str],
         bound: i64,
-    ) -> Result<RecordSet, SetFault>
-        requires { length self.now.columns.items ≤ 8 }
-        ensures { Gives (set_of (at_least_rows (rows.column_numbers (shown self.now.columns.items) keys.now) (rows.row_bound bound) (rows_in self.now.rows))) result }
+    ) -> Result<Part<'a>, SetFault>
+        requires { length self.columns.items ≤ 8 }
+        ensures { GivesPart keys.now (set_of (at_least_rows (rows.column_numbers (shown self.entry.columns.items) keys.now) (rows.row_bound bound) (rows_in self.entry.rows))) result }
     {
         let numbers = column_numbers(alloc, &self.columns, keys)?;
-        self.rows.as_set().at_least(&numbers, row_bound(bound))
+        let rows = self.rows.as_set().at_least(&numbers, row_bound(bound));
+        owned(names_of(alloc, keys)?, rows)
     }
+}
+
+// Rows with the names of their columns.
+#[tactic(auto, using(crate::proofs::Evaluation::gives_rows, crate::proofs::Evaluation::gives_fault))]
+fn owned<'a>(
+    columns: Vec<&'a Str>,
+    rows: Result<RecordSet, SetFault>,
+) -> Result<Part<'a>, SetFault>
+    ensures { (wanted : List Row) → Gives wanted rows → GivesPart (shown columns.entry.items) wanted result }
+{
+    Ok(Part {
+        columns,
+        rows: Rows::Own(rows?),
+    })
 }
 
 // A bound as a number of rows.
@@ -177,19 +200,16 @@ pub(crate) fn joined_names<'a>(
     alloc: Global,
     left: &[&'a Str],
     right: &[&'a Str],
-    pairs: &[(Str, Str)],
+    numbers: &[(u32, u32)],
 ) -> Result<Vec<&'a Str>, AllocError>
-    requires left { length left.now ≤ 8 }
-    requires right { length right.now ≤ 8 }
-    ensures { IfOk result (λ names. shown names.items ≡ spec.joined_columns (shown left.now) (shown right.now) pairs.now) }
+    ensures { IfOk result (λ names. shown names.items ≡ shown left.now ++ unpaired numbers.now (shown right.now)) }
 {
-    let numbers = pair_numbers(alloc, left, right, pairs)?;
     let mut names = Vec::new(alloc);
     for name in left {
         names.push(*name)?;
     }
     for (i, name) in right.iter().enumerate() {
-        if !is_paired(&numbers, i) {
+        if !is_paired(numbers, i) {
             names.push(*name)?;
         }
     }

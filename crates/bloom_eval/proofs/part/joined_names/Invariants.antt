@@ -9,4 +9,4 @@ abbrev pub invariant-loop-name : goal.invariant-loop-name
 invariant-loop-name l = shown l.names.items ≡ shown (take l.name-index l.left)
 
 abbrev pub invariant-loop-i : goal.invariant-loop-i
-invariant-loop-i l = shown l.names.items ++ unpaired_names l.numbers.items l.i (drop l.i l.right) ≡ shown l.left ++ unpaired l.numbers.items (shown l.right)
+invariant-loop-i l = shown l.names.items ++ unpaired_names l.numbers l.i (drop l.i l.right) ≡ shown l.left ++ unpaired l.numbers (shown l.right)

@@ -1,5 +1,5 @@
 -- Columns and their numbers.
-use Rattle.std.proofs.Common.{◌≡◌, ◌<◌, ◌+◌, ℕ, zero, suc, Bool, true, false, cond, List, [], ◌∷◌, length, drop, map, filter, not, Option, None, Some, refl, ap, ◌∙◌, sym, inl, inr, ◌⊎◌, arith, Bor, subst, slice_get}
+use Rattle.std.proofs.Common.{◌≡◌, ◌<◌, ◌+◌, ℕ, zero, suc, Bool, true, false, cond, List, [], ◌∷◌, length, drop, map, filter, not, Option, None, Some, refl, ap, ◌∙◌, sym, inl, inr, ◌⊎◌, arith, Bor, subst, slice_get, get_or}
 use Rattle.std.specs.Prelude.{unwrap_or, IfSome}
 use Rattle.std.specs.List.{position_from, enumerate_from}
 use Rattle.blz_value.specs.Operators.{Pairs, is_paired}
@@ -9,7 +9,11 @@ use Rattle.fd_closure.specs.Names.{place_of}
 use Rattle.fd_closure.proofs.Places.{place_of-get, place_of-none}
 use Rattle.bloom_ast.specs.Query.{Name}
 use Rattle.bloom_ast.specs.Columns.{column_number}
-use Rattle.bloom_ast.proofs.Numbers.{get-within}
+use Rattle.std.specs.Option.{option_map_or}
+use Rattle.std.proofs.lemmas.Option.{slice_get-get_or}
+use Rattle.bloom_ast.specs.declared.module.Collection.{Collection}
+use Rattle.bloom_ast.specs.Lookup.{is_named, collection_number, declared}
+use Rattle.bloom_ast.proofs.Numbers.{get-number, get-within}
 use Rattle.bloom_eval.specs.Parts.{shown}
 
 -- the number of a column that is there
@@ -30,3 +34,20 @@ number_from_start columns name = ap (unwrap_or (place_of (shown columns) name)) 
 -- the names from a column on whose columns stand in no pair
 abbrev pub unpaired_names : Pairs → ℕ → List (Bor Name) → List Name
 unpaired_names pairs column names = map (λ place. place.1) (filter (λ place. not (is_paired pairs place.0)) (enumerate_from column (shown names)))
+
+-- the columns of the collection at a place, which is the first of its name
+pub declared_there : (cs : List Collection) (name : Name) (number : ℕ) (c : Collection) → position_from (is_named name) 0 cs ≡ Some number → number < length cs → c ≡ get_or cs number c → declared cs name ≡ c.columns
+declared_there cs name number c found lt is =
+    let at : collection_number cs name ≡ number = ap (λ o. unwrap_or o (length cs)) found in
+    let there : slice_get cs number ≡ Some c = slice_get-get_or cs number c lt ∙ ap Some (sym is) in
+    ap (λ o. option_map_or (λ (d : Collection). d.columns) o []) (sym (get-number cs name) ∙ ap (slice_get cs) at ∙ there)
+
+-- a name that no collection has
+pub declared_nowhere : (cs : List Collection) (name : Name) → position_from (is_named name) 0 cs ≡ None → declared cs name ≡ []
+declared_nowhere cs name none =
+    let at : collection_number cs name ≡ length cs = ap (λ o. unwrap_or o (length cs)) none in
+    ap (λ o. option_map_or (λ (d : Collection). d.columns) o []) (sym (get-number cs name) ∙ ap (slice_get cs) at ∙ past cs)
+  where
+    past : (xs : List Collection) → slice_get xs (length xs) ≡ None
+    past [] = refl
+    past (x ∷ xs) = past xs

@@ -11,7 +11,7 @@ use Rattle.bloom_ast.specs.Columns.{columns_of}
 use Rattle.bloom_ast.specs.Rows.{rows_of}
 use Rattle.bloom_ast.specs.Step.{Sets}
 use Rattle.bloom_eval.specs.declared.part.Part.{Part}
-use Rattle.bloom_eval.specs.Parts.{rows_in, shown}
+use Rattle.bloom_eval.specs.Parts.{rows_in, shown, AreWide}
 use Rattle.bloom_eval.specs.Tests.{FormulaFits}
 
 -- an expression and its parts
@@ -54,8 +54,16 @@ GivesPart columns rows (Ok part) = (shown part.columns.items ≡ columns) × (ro
 GivesPart columns rows (Err TooManyRows) = row_limit < length rows
 GivesPart columns rows (Err NoMemory) = Unit {0}
 
--- the answer is the expression's columns and rows; TooManyRows comes exactly where a part has too many rows
+-- a part is the rows of an expression with its columns, which are few, and none of the expression's parts has too many rows
+pub record IsPartOf (columns : Name → List Name) (env : Name → List Row) (q : Query) (part : Part) : Type 0 where
+  pub names : shown part.columns.items ≡ columns_of columns q
+  pub rows : rows_in part.rows ≡ rows_of columns env q
+  pub few : length part.columns.items ≤ 8
+  pub wide : AreWide (length part.columns.items) (rows_in part.rows)
+  pub fit : AllFit (part_sets columns env q)
+
+-- the answer is the expression's rows; TooManyRows comes exactly where a part has too many rows
 abbrev pub Evaluates : (Name → List Name) → (Name → List Row) → Query → Result Part SetFault → Type 0
-Evaluates columns env q (Ok part) = (shown part.columns.items ≡ columns_of columns q) × (rows_in part.rows ≡ rows_of columns env q) × AllFit (part_sets columns env q)
+Evaluates columns env q (Ok part) = IsPartOf columns env q part
 Evaluates columns env q (Err TooManyRows) = SomeIsOver (part_sets columns env q)
 Evaluates columns env q (Err NoMemory) = Unit {0}

@@ -3,6 +3,7 @@
 #![tactic(auto)]
 
 mod columns;
+mod evaluate;
 mod fault;
 mod part;
 mod sets;

@@ -5,6 +5,7 @@ ghost use Rattle.blz_value.specs.Sets.{set_of};
 ghost use Rattle.blz_value.specs.Operators.{is_paired, unpaired, select_rows, project_rows, join_rows, notin_rows};
 ghost use Rattle.blz_value.specs.Groups.{group_rows, at_least_rows};
 ghost use Rattle.blz_set.specs.Answers.{Gives};
+ghost use Rattle.blz_set.specs.RecordSet.{IsRecordSet};
 ghost use Rattle.bloom_ast.specs.Form.{formula_of};
 ghost use Rattle.bloom_ast.specs.Columns as spec;
 ghost use Rattle.bloom_ast.specs.Rows as rows;
@@ -28,12 +29,15 @@ pub(crate) enum Rows<'a> {
 impl Rows<'_> {
     /// The set.
     pub(crate) fn as_set(&self) -> &RecordSet
-        ensures { result.now ≡ rows_in self.now }
+        ensures rows { result.now ≡ rows_in self.now }
+        ensures set { IsRecordSet (rows_in self.now) }
     {
-        match self {
-            Rows::Lent(set) => set,
+        let set = match self {
+            Rows::Lent(set) => *set,
             Rows::Own(set) => set,
-        }
+        };
+        let _rows = set.rows();
+        set
     }
 }
 

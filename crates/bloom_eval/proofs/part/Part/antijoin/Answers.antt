@@ -18,4 +18,4 @@ returns c =
     let names = shown c.args.self.columns.items in
     let others = shown c.args.other.now.columns.items in
     let numbers : c.in_ok-numbers.numbers.items ≡ pair_numbers names others c.args.pairs.now = c.in_ok-numbers.ensures ∙ (λ i. pair_numbers (shown (c.deref.ensures.value i)) (shown (c.deref-2.ensures.value i)) c.args.pairs.now) in
-    c.owned.ensures _ (subst (λ (rows : List Row). Gives rows c.antijoin-rows.result) (ap (λ pairs. set_of (notin_rows pairs c.as_set.result.now c.as_set-2.result.now)) (c.deref-3.ensures.value ∙ numbers) ∙ (λ i. set_of (notin_rows (pair_numbers names others c.args.pairs.now) (c.as_set.ensures i) (c.as_set-2.ensures i)))) c.antijoin-rows.ensures)
+    c.owned.ensures _ (subst (λ (rows : List Row). Gives rows c.antijoin-rows.result) (ap (λ pairs. set_of (notin_rows pairs c.as_set.result.now c.as_set-2.result.now)) (c.deref-3.ensures.value ∙ numbers) ∙ (λ i. set_of (notin_rows (pair_numbers names others c.args.pairs.now) (c.as_set.ensures.rows i) (c.as_set-2.ensures.rows i)))) c.antijoin-rows.ensures)

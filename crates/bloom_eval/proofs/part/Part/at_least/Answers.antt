@@ -19,4 +19,4 @@ returns c =
     let numbers : c.deref-2.result.now ≡ column_numbers names c.args.keys.now = c.deref-2.ensures.value ∙ c.in_ok-numbers.ensures ∙ ap (λ columns. column_numbers (shown columns) c.args.keys.now) c.deref.ensures.value in
     let bound : c.row_bound.result ≡ row_bound c.args.bound = grind (arith, to_z-of_z) in
     subst (λ (columns : List Name). GivesPart columns (set_of (at_least_rows (column_numbers names c.args.keys.now) (row_bound c.args.bound) (rows_in c.args.self.rows))) c.owned.result) c.in_ok-names_of.ensures
-    (c.owned.ensures _ (subst (λ (rows : List Row). Gives rows c.at_least-rows.result) (λ i. set_of (at_least_rows (numbers i) (bound i) (c.as_set.ensures i))) c.at_least-rows.ensures))
+    (c.owned.ensures _ (subst (λ (rows : List Row). Gives rows c.at_least-rows.result) (λ i. set_of (at_least_rows (numbers i) (bound i) (c.as_set.ensures.rows i))) c.at_least-rows.ensures))

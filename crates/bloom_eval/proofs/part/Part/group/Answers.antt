@@ -19,4 +19,4 @@ returns c =
     let numbers : c.deref-3.result.now ≡ column_numbers names c.args.keys.now = c.deref-3.ensures.value ∙ c.in_ok-numbers.ensures ∙ ap (λ columns. column_numbers (shown columns) c.args.keys.now) c.deref.ensures.value in
     let agg : c.numbered-agg.result ≡ numbered_agg names c.args.agg.now = c.numbered-agg.ensures ∙ ap (λ columns. numbered_agg (shown columns) c.args.agg.now) c.deref-2.ensures.value in
     subst (λ (columns : List Name). GivesPart columns (set_of (group_rows (column_numbers names c.args.keys.now) (numbered_agg names c.args.agg.now) (rows_in c.args.self.rows))) c.owned.result) c.in_ok-key_names.ensures
-    (c.owned.ensures _ (subst (λ (rows : List Row). Gives rows c.group-rows.result) (λ i. set_of (group_rows (numbers i) (agg i) (c.as_set.ensures i))) c.group-rows.ensures))
+    (c.owned.ensures _ (subst (λ (rows : List Row). Gives rows c.group-rows.result) (λ i. set_of (group_rows (numbers i) (agg i) (c.as_set.ensures.rows i))) c.group-rows.ensures))

@@ -21,4 +21,4 @@ returns c =
     let joined : shown c.in_ok-joined_names.field-0.items ≡ joined_columns names others c.args.pairs.now =
         c.in_ok-joined_names.ensures ∙ (λ i. shown (c.deref-4.ensures.value i) ++ unpaired (c.deref-6.ensures.value i) (shown (c.deref-5.ensures.value i))) ∙ ap (λ pairs. names ++ unpaired pairs others) numbers in
     subst (λ (columns : List Name). GivesPart columns (set_of (join_rows (pair_numbers names others c.args.pairs.now) (rows_in c.args.self.rows) (rows_in c.args.other.rows))) c.owned.result) joined
-    (c.owned.ensures _ (subst (λ (rows : List Row). Gives rows c.join-rows.result) (ap (λ pairs. set_of (join_rows pairs c.as_set.result.now c.as_set-2.result.now)) (c.deref-3.ensures.value ∙ numbers) ∙ (λ i. set_of (join_rows (pair_numbers names others c.args.pairs.now) (c.as_set.ensures i) (c.as_set-2.ensures i)))) c.join-rows.ensures))
+    (c.owned.ensures _ (subst (λ (rows : List Row). Gives rows c.join-rows.result) (ap (λ pairs. set_of (join_rows pairs c.as_set.result.now c.as_set-2.result.now)) (c.deref-3.ensures.value ∙ numbers) ∙ (λ i. set_of (join_rows (pair_numbers names others c.args.pairs.now) (c.as_set.ensures.rows i) (c.as_set-2.ensures.rows i)))) c.join-rows.ensures))

@@ -18,4 +18,4 @@ returns c =
     let names = shown c.args.self.columns.items in
     let numbers : c.deref-2.result.now ≡ item_numbers names c.args.items.now = c.deref-2.ensures.value ∙ c.in_ok-numbers.ensures ∙ ap (λ columns. item_numbers (shown columns) c.args.items.now) c.deref.ensures.value in
     subst (λ (columns : List Name). GivesPart columns (set_of (project_rows (item_numbers names c.args.items.now) (rows_in c.args.self.rows))) c.owned.result) c.in_ok-item_names.ensures
-    (c.owned.ensures _ (subst (λ (rows : List Row). Gives rows c.project-rows.result) (λ i. set_of (project_rows (numbers i) (c.as_set.ensures i))) c.project-rows.ensures))
+    (c.owned.ensures _ (subst (λ (rows : List Row). Gives rows c.project-rows.result) (λ i. set_of (project_rows (numbers i) (c.as_set.ensures.rows i))) c.project-rows.ensures))

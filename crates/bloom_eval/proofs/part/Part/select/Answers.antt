@@ -17,4 +17,4 @@ pub returns : goal.returns
 returns c =
     let names = shown c.args.self.columns.items in
     let is : IsTestOf names (formula_of c.args.pred.now) c.in_ok-test.test = subst (λ columns. IsTestOf (shown columns) (formula_of c.args.pred.now) c.in_ok-test.test) c.deref.ensures.value c.in_ok-test.ensures in
-    c.owned.ensures _ (subst (λ (rows : List Row). Gives rows c.select-rows.result) (λ i. set_of (select_rows (λ row. is.same row i) (c.as_set.ensures i))) c.select-rows.ensures)
+    c.owned.ensures _ (subst (λ (rows : List Row). Gives rows c.select-rows.result) (λ i. set_of (select_rows (λ row. is.same row i) (c.as_set.ensures.rows i))) c.select-rows.ensures)

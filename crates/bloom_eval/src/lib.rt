@@ -7,6 +7,7 @@ mod evaluate;
 mod fault;
 mod part;
 mod sets;
+mod step;
 
 pub use fault::StepFault;
 pub use sets::{Arrivals, Kept, Outs};

@@ -41,6 +41,18 @@ impl Rows<'_> {
     }
 }
 
+impl<'a> Rows<'a> {
+    /// The set itself, which is copied where it is lent.
+    pub(crate) fn into_set(self) -> Result<RecordSet, AllocError>
+        ensures { IfOk result (λ set. set ≡ rows_in self.entry) }
+    {
+        match self {
+            Rows::Lent(set) => set.copy(),
+            Rows::Own(set) => Ok(set),
+        }
+    }
+}
+
 /// Rows, and the names of their columns.
 #[derive(Drop)]
 pub(crate) struct Part<'a> {

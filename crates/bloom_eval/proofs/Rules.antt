@@ -1,7 +1,9 @@
 -- Adding the rows of rules to a set, one rule after the other.
 use Rattle.std.proofs.Common.{◌≡◌, ◌<◌, ◌≤◌, ◌+◌, ℕ, zero, suc, Bool, cond, ◌∷◌, ◌++◌, [], drop, get_or, List, length, Result, Ok, Err, refl, ap, ◌∙◌, sym, subst, inl, inr, arith}
-use Rattle.std.specs.Prelude.{◌==◌}
-use Rattle.std.proofs.lemmas.List.{append_assoc, append-nil, drop_more, drop_all}
+use Rattle.std.specs.Prelude.{◌==◌, slice_set}
+use Rattle.std.proofs.lemmas.List.{append_assoc, append-nil, drop_more, drop_all, get_or-set_same, get_or-set_other}
+use Rattle.std.proofs.lemmas.Bool.{cases_eq}
+use Rattle.bloom_eval.specs.Parts.{AreWide}
 use Rattle.blz_value.specs.Members.{Has}
 use Rattle.blz_value.specs.Record.{Row}
 use Rattle.blz_value.specs.Sets.{set_of, IsRowSet}
@@ -15,11 +17,11 @@ use Rattle.bloom_ast.specs.Query.{Name, Query}
 use Rattle.bloom_ast.specs.Form.{RuleForm, rule_form, rule_forms}
 use Rattle.bloom_ast.specs.declared.module.Collection.{Collection}
 use Rattle.bloom_ast.specs.declared.module.Rule.{Rule}
-use Rattle.bloom_ast.specs.Lookup.{collection_number}
+use Rattle.bloom_ast.specs.Lookup.{collection_number, declared}
 use Rattle.bloom_ast.specs.Rows.{rows_of}
-use Rattle.bloom_ast.specs.Step.{union_of, rules_at}
+use Rattle.bloom_ast.specs.Step.{Sets, set_at, rows_named, union_of, rules_at}
 use Rattle.bloom_eval.specs.Evaluates.{part_sets, AllFit, SomeIsOver, Evaluates}
-use Rattle.bloom_eval.specs.Counted.{rule_sets, AddsOne, Adds}
+use Rattle.bloom_eval.specs.Counted.{rule_sets, AddsOne, Adds, TakesHead}
 
 module _ (columns : Name → List Name) (env : Name → List Row) where
   -- the union with one rule more
@@ -66,3 +68,24 @@ rule_in rules i rule lt is = subst (λ (r : Rule). Has (rule_form r) (rule_forms
 -- past the last rule there are none
 pub none_from : (rules : List Rule) (i : ℕ) → length rules ≤ i → rule_forms (drop i rules) ≡ []
 none_from rules i le = ap rule_forms (drop_all i rules le)
+
+-- sets stay wide where one is emptied
+pub wide_without : (cs : List Collection) (sets : Sets) (head : ℕ) → head < length sets → ((name : Name) → AreWide (length (declared cs name)) (rows_named cs sets name)) → (name : Name) → AreWide (length (declared cs name)) (rows_named cs (slice_set sets head []) name)
+wide_without cs sets head lt wide name = elim (cases_eq head (collection_number cs name)) [
+  | inl e ↦ subst (λ (rows : List Row). AreWide (length (declared cs name)) rows) (sym (ap (set_at (slice_set sets head [])) (sym e) ∙ get_or-set_same sets head [] [] lt)) (λ k d lt. absurd (omega (arith, lt)))
+  | inr ne ↦ subst (λ (rows : List Row). AreWide (length (declared cs name)) rows) (sym (get_or-set_other sets head (collection_number cs name) [] [] (λ e. ne (sym e)))) (wide name)
+]
+
+set-twice : (sets : Sets) (head : ℕ) (first second : List Row) → slice_set (slice_set sets head first) head second ≡ slice_set sets head second
+set-twice [] head first second = refl
+set-twice (s ∷ sets) zero first second = refl
+set-twice (s ∷ sets) (suc head) first second = ap (λ (rest : Sets). s ∷ rest) (set-twice sets head first second)
+
+-- a head is taken: its set is taken out, its rules are added, and it is put back
+pub head_taken : (X : Type 0) (cs : List Collection) (rules : List RuleForm) (head : ℕ) (old mid read new : Sets) (start set : List Row) (x : X) → head < length old → mid ≡ slice_set old head [] → read ≡ mid → new ≡ slice_set mid head set → start ≡ set_at old head
+    → Adds {X = X} (declared cs) (rows_named cs read) (rules_at cs rules head) start set (Ok x) → TakesHead {X = X} cs rules head old new (Ok x)
+head_taken X cs rules head old mid read new start set x lt emptied same put began adds =
+    let is : new ≡ slice_set old head set = put ∙ ap (λ (sets : Sets). slice_set sets head set) emptied ∙ set-twice old head [] set in
+    let at : set_at new head ≡ set = ap (λ (sets : Sets). set_at sets head) is ∙ get_or-set_same old head set [] lt in
+    let over_old : Adds {X = X} (declared cs) (rows_named cs (slice_set old head [])) (rules_at cs rules head) (set_at old head) set (Ok x) = subst (λ (sets : Sets). Adds {X = X} (declared cs) (rows_named cs sets) (rules_at cs rules head) (set_at old head) set (Ok x)) (same ∙ emptied) (subst (λ (first : List Row). Adds {X = X} (declared cs) (rows_named cs read) (rules_at cs rules head) first set (Ok x)) began adds) in
+    (subst (λ (rows : List Row). Adds {X = X} (declared cs) (rows_named cs (slice_set old head [])) (rules_at cs rules head) (set_at old head) rows (Ok x)) (sym at) over_old, is ∙ ap (slice_set old head) (sym at))

@@ -7,7 +7,7 @@ ghost use Rattle.bloom_ast.specs.Lookup.{collection_number, declared};
 ghost use Rattle.bloom_ast.specs.Step.{set_at, rows_named, rules_at};
 ghost use Rattle.bloom_eval.specs.Parts.{sets_in, AreWide};
 ghost use Rattle.bloom_eval.specs.Evaluates.{IsGood};
-ghost use Rattle.bloom_eval.specs.Counted.{AddsOne, Adds};
+ghost use Rattle.bloom_eval.specs.Counted.{AddsOne, Adds, TakesHead};
 
 use crate::evaluate::{evaluate, number_of};
 use crate::part::Rows;
@@ -87,4 +87,24 @@ fn put_set(held: &mut Vec<Rows<'_>>, number: usize, set: RecordSet)
     ensures { sets_in held.new.items ≡ slice_set (sets_in held.old.items) number set }
 {
     held[number] = Rows::Own(set);
+}
+
+// Takes a head: its set gets what its rules give.
+fn take_head<'a>(
+    alloc: Global,
+    collections: &'a [Collection],
+    rules: &'a [Rule],
+    held: &mut Vec<Rows<'_>>,
+    head: usize,
+) -> Result<(), SetFault>
+    requires same { length held.old.items ≡ length collections.now }
+    requires within { head < length collections.now }
+    requires wide { (name : Name) → AreWide (length (declared collections.now name)) (rows_named collections.now (sets_in held.old.items) name) }
+    requires good { (rule : RuleForm) → Has rule (rule_forms rules.now) → IsGood (declared collections.now) rule.1 }
+    ensures { TakesHead collections.now (rule_forms rules.now) head (sets_in held.old.items) (sets_in held.new.items) result }
+{
+    let mut set = take_set(alloc, held, head)?;
+    add_rules(alloc, collections, rules, held, head, &mut set)?;
+    put_set(held, head, set);
+    Ok(())
 }

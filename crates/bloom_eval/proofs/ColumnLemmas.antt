@@ -1,5 +1,5 @@
 -- Columns and their numbers.
-use Rattle.std.proofs.Common.{◌≡◌, ◌<◌, ◌+◌, ℕ, zero, suc, Bool, true, false, cond, List, [], ◌∷◌, length, drop, map, filter, not, Option, None, Some, refl, ap, ◌∙◌, sym, inl, inr, ◌⊎◌, arith, Bor, subst, slice_get, get_or}
+use Rattle.std.proofs.Common.{◌≡◌, ◌<◌, ◌+◌, ℕ, List, [], ◌∷◌, length, map, filter, not, Option, None, Some, refl, ap, ◌∙◌, sym, arith, Bor, subst, slice_get, get_or}
 use Rattle.std.specs.Prelude.{unwrap_or, IfSome}
 use Rattle.std.specs.List.{position_from, enumerate_from}
 use Rattle.blz_value.specs.Operators.{Pairs, is_paired}

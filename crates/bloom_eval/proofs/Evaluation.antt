@@ -1,5 +1,5 @@
 -- What the evaluation of an expression answers, by its parts.
-use Rattle.std.proofs.Common.{◌≡◌, ◌<◌, ◌≤◌, ◌∷◌, ◌++◌, [], ℕ, ℤ, List, length, map, inl, inr, arith, Result, Ok, Err, IsErrAnd, refl, ap, ◌∙◌, sym, subst}
+use Rattle.std.proofs.Common.{◌≡◌, ◌≤◌, ◌∷◌, ◌++◌, [], ℕ, ℤ, List, length, map, inl, inr, arith, Result, Ok, Err, IsErrAnd, refl, ap, ◌∙◌, sym, subst}
 use Rattle.blz_value.specs.Record.{Row}
 use Rattle.blz_set.specs.RecordSet.{row_limit}
 use Rattle.blz_set.specs.Answers.{Gives}
@@ -18,9 +18,8 @@ use Rattle.bloom_ast.specs.Columns.{columns_of, pair_numbers, joined_columns}
 use Rattle.bloom_ast.specs.Rows.{formula_holds, item_numbers, column_numbers, numbered_agg, row_bound, rows_of}
 use Rattle.bloom_eval.proofs.Wide.{wide_rows}
 use Rattle.bloom_eval.specs.declared.part.Part.{Part}
-use Rattle.bloom_eval.specs.declared.part.Rows.{Rows}
 use Rattle.bloom_eval.specs.Parts.{rows_in, shown, AreWide}
-use Rattle.bloom_eval.specs.Evaluates.{parts_of, part_sets, AllFit, SomeIsOver, IsGood, IsPartOf, GivesPart, Evaluates}
+use Rattle.bloom_eval.specs.Evaluates.{parts_of, part_sets, AllFit, IsGood, IsPartOf, GivesPart, Evaluates}
 
 -- rows that were given, with columns
 pub gives_rows : (columns : List Name) (rows : List Row) (r : Result (List Row) SetFault) (set : List Row) (part : Part) → r ≡ Ok set → shown part.columns.items ≡ columns → rows_in part.rows ≡ set → Gives rows r → GivesPart columns rows (Ok part)

@@ -10,17 +10,16 @@ use Rattle.blz_value.specs.Sets.{set_of, IsRowSet}
 use Rattle.blz_value.proofs.Membership.{Has-append_left, Has-append_right, Has-append_cases, Has-map, Has-get_or}
 use Rattle.blz_value.proofs.RowSets.{set_of-sorted, set_of-append_set, length-set_of-append_left}
 use Rattle.blz_set.specs.RecordSet.{row_limit}
-use Rattle.blz_set.specs.Answers.{Becomes}
 use Rattle.blz_set.specs.declared.fault.SetFault.{SetFault}
 use Rattle.blz_set.specs.declared.fault.SetFault.TheVariants.{TooManyRows, NoMemory}
-use Rattle.bloom_ast.specs.Query.{Name, Query}
+use Rattle.bloom_ast.specs.Query.{Name}
 use Rattle.bloom_ast.specs.Form.{RuleForm, rule_form, rule_forms}
 use Rattle.bloom_ast.specs.declared.module.Collection.{Collection}
 use Rattle.bloom_ast.specs.declared.module.Rule.{Rule}
 use Rattle.bloom_ast.specs.Lookup.{collection_number, declared}
 use Rattle.bloom_ast.specs.Rows.{rows_of}
 use Rattle.bloom_ast.specs.Step.{Sets, set_at, rows_named, union_of, rules_at}
-use Rattle.bloom_eval.specs.Evaluates.{part_sets, AllFit, SomeIsOver, Evaluates}
+use Rattle.bloom_eval.specs.Evaluates.{part_sets, AllFit}
 use Rattle.bloom_eval.specs.Counted.{rule_sets, AddsOne, Adds, TakesHead}
 
 module _ (columns : Name → List Name) (env : Name → List Row) where
@@ -32,10 +31,13 @@ module _ (columns : Name → List Name) (env : Name → List Row) where
   adds_none set sorted few x = (sym (ap set_of (append-nil set) ∙ set_of-sorted set sorted), λ rows h. elim h [ inl e ↦ subst (λ (r : List Row). length r ≤ row_limit) e few | inr m ↦ absurd m ])
 
   pub adds_one : {X : Type 0} (rule : RuleForm) (rules : List RuleForm) (old new : List Row) (r : Result X SetFault) → AllFit (part_sets columns env rule.1) → Adds columns env rules (set_of (old ++ rows_of columns env rule.1)) new r → Adds columns env (rule ∷ rules) old new r
-  adds_one rule rules old new (Ok x) fit adds = (adds.0 ∙ union-cons rule rules old, λ rows h. elim h [
-    | inl e ↦ adds.1 rows (inl e)
-    | inr m ↦ elim (Has-append_cases rows (part_sets columns env rule.1) (rule_sets columns env rules) m) [ inl a ↦ fit rows a | inr b ↦ adds.1 rows (inr b) ]
-  ])
+  adds_one rule rules old new (Ok x) fit adds = (
+    adds.0 ∙ union-cons rule rules old,
+    λ rows h. elim h [
+      | inl e ↦ adds.1 rows (inl e)
+      | inr m ↦ elim (Has-append_cases rows (part_sets columns env rule.1) (rule_sets columns env rules) m) [ inl a ↦ fit rows a | inr b ↦ adds.1 rows (inr b) ]
+    ],
+  )
   adds_one rule rules old new (Err TooManyRows) fit adds = elim adds.stands [
     | inl e ↦ record { rows = set_of (old ++ union_of columns env (rule ∷ rules)); stands = inl refl; over = subst (λ (r : List Row). row_limit < length r) (sym e ∙ union-cons rule rules old) adds.over }
     | inr m ↦ record { rows = adds.rows; stands = inr (Has-append_right adds.rows (part_sets columns env rule.1) (rule_sets columns env rules) m); over = adds.over }

@@ -1,8 +1,8 @@
 -- Each row of an expression has as many values as the expression has columns.
-use Rattle.std.proofs.Common.{◌≡◌, ℕ, suc, ◌+◌, Bool, true, false, cond, not, List, [], ◌∷◌, ◌++◌, length, length-append, get_or, map, filter, refl, ap, ◌∙◌, sym, subst, arith}
+use Rattle.std.proofs.Common.{◌≡◌, ℕ, suc, ◌+◌, Bool, true, false, cond, not, List, [], ◌∷◌, ◌++◌, length, length-append, get_or, map, filter, refl, ap, ◌∙◌, sym, arith}
 use Rattle.std.proofs.lemmas.List.{length-map}
 use Rattle.std.specs.Prelude.{nat_le}
-use Rattle.std.specs.List.{All, enumerate_from, list_any}
+use Rattle.std.specs.List.{enumerate_from, list_any}
 use Rattle.blz_value.specs.Members.{Has}
 use Rattle.blz_value.specs.Record.{Row}
 use Rattle.blz_value.specs.Operators.{Pairs, cells, is_paired, unpaired, agree, joined, select_rows, project_rows, join_rows, notin_rows}
@@ -24,8 +24,8 @@ length-unpaired pairs k (x ∷ xs) [] e = absurd (omega (arith, e))
 length-unpaired {X = X} {Y = Y} pairs k (x ∷ xs) (y ∷ ys) e = go (not (is_paired pairs k)) (length-unpaired pairs (k + 1) xs ys (omega (arith, e)))
   where
     go : (b : Bool) → length (map (λ (p : ℕ × X). p.1) (filter (λ (p : ℕ × X). not (is_paired pairs p.0)) (enumerate_from (k + 1) xs))) ≡ length (map (λ (p : ℕ × Y). p.1) (filter (λ (p : ℕ × Y). not (is_paired pairs p.0)) (enumerate_from (k + 1) ys)))
-      → length (map (λ (p : ℕ × X). p.1) (cond b ((k, x) ∷ filter (λ (p : ℕ × X). not (is_paired pairs p.0)) (enumerate_from (k + 1) xs)) (filter (λ (p : ℕ × X). not (is_paired pairs p.0)) (enumerate_from (k + 1) xs))))
-      ≡ length (map (λ (p : ℕ × Y). p.1) (cond b ((k, y) ∷ filter (λ (p : ℕ × Y). not (is_paired pairs p.0)) (enumerate_from (k + 1) ys)) (filter (λ (p : ℕ × Y). not (is_paired pairs p.0)) (enumerate_from (k + 1) ys))))
+        → length (map (λ (p : ℕ × X). p.1) (cond b ((k, x) ∷ filter (λ (p : ℕ × X). not (is_paired pairs p.0)) (enumerate_from (k + 1) xs)) (filter (λ (p : ℕ × X). not (is_paired pairs p.0)) (enumerate_from (k + 1) xs))))
+        ≡ length (map (λ (p : ℕ × Y). p.1) (cond b ((k, y) ∷ filter (λ (p : ℕ × Y). not (is_paired pairs p.0)) (enumerate_from (k + 1) ys)) (filter (λ (p : ℕ × Y). not (is_paired pairs p.0)) (enumerate_from (k + 1) ys))))
     go true more = ap suc more
     go false more = more
 

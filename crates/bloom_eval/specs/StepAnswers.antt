@@ -1,8 +1,7 @@
 -- What a step asks of a module and of its sets, and what it answers.
 use Rattle.std.specs.Prelude.{ℕ, ◌≡◌, Result, Ok, Err, List, ◌++◌, length, map}
-use Rattle.std.specs.List.{AllZip, flat_map}
+use Rattle.std.specs.List.{AllZip}
 use Rattle.blz_value.specs.Members.{Has}
-use Rattle.blz_value.specs.Record.{Row}
 use Rattle.bloom_ast.specs.declared.module.Collection.{Collection}
 use Rattle.bloom_ast.specs.Query.{Name}
 use Rattle.bloom_ast.specs.Form.{RuleForm, Accepted}

@@ -9,8 +9,8 @@ ghost use Rattle.bloom_ast.specs.Rows as rows;
 ghost use Rattle.bloom_eval.specs.Parts.{shown};
 ghost use Rattle.bloom_eval.specs.Tests.{TermFits, FormulaFits, IsOperandOf, IsTestOf};
 
-use blz_value::{Agg, Operand, Str, Test};
 use bloom_ast::{NamedAgg, Pred, Term};
+use blz_value::{Agg, Operand, Str, Test};
 use std::alloc::{AllocError, Global};
 
 // The number of the first column of the name; where there is none, how many columns there are.

@@ -10,9 +10,9 @@ ghost use Rattle.bloom_eval.specs.Parts.{rows_in, sets_in, shown, AreWide};
 ghost use Rattle.bloom_eval.specs.Evaluates.{IsGood, Evaluates};
 
 use crate::part::{Part, Rows, names_of};
+use bloom_ast::{Collection, Expr};
 use blz_set::{RecordSet, SetFault};
 use blz_value::Str;
-use bloom_ast::{Collection, Expr};
 use std::alloc::{AllocError, Global};
 
 /// The number of the first collection of a name.

@@ -14,9 +14,9 @@ ghost use Rattle.bloom_eval.specs.Tests.{FormulaFits};
 ghost use Rattle.bloom_eval.specs.Evaluates.{GivesPart};
 
 use crate::columns::{column_numbers, item_numbers, numbered, pair_numbers, test};
+use bloom_ast::{NamedAgg, Pred};
 use blz_set::{RecordSet, SetFault};
 use blz_value::Str;
-use bloom_ast::{NamedAgg, Pred};
 use std::alloc::{AllocError, Global};
 
 /// A set that is lent or owned.
@@ -100,7 +100,10 @@ impl<'a> Part<'a> {
     {
         let numbers = pair_numbers(alloc, &self.columns, &other.columns, pairs)?;
         let rows = self.rows.as_set().join(other.rows.as_set(), &numbers);
-        owned(joined_names(alloc, &self.columns, &other.columns, &numbers)?, rows)
+        owned(
+            joined_names(alloc, &self.columns, &other.columns, &numbers)?,
+            rows,
+        )
     }
 
     /// The rows that agree with no row of another part.
@@ -154,10 +157,7 @@ impl<'a> Part<'a> {
 
 // Rows with the names of their columns.
 #[tactic(auto, using(crate::proofs::Evaluation::gives_rows, crate::proofs::Evaluation::gives_fault))]
-fn owned<'a>(
-    columns: Vec<&'a Str>,
-    rows: Result<RecordSet, SetFault>,
-) -> Result<Part<'a>, SetFault>
+fn owned<'a>(columns: Vec<&'a Str>, rows: Result<RecordSet, SetFault>) -> Result<Part<'a>, SetFault>
     ensures { (wanted : List Row) → Gives wanted rows → GivesPart (shown columns.entry.items) wanted result }
 {
     Ok(Part {

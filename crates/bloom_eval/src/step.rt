@@ -11,8 +11,8 @@ ghost use Rattle.bloom_eval.specs.Counted.{AddsOne, Adds, TakesHead};
 
 use crate::evaluate::{evaluate, number_of};
 use crate::part::Rows;
-use blz_set::{RecordSet, SetFault};
 use bloom_ast::{Collection, Rule};
+use blz_set::{RecordSet, SetFault};
 use std::alloc::{AllocError, Global};
 use std::mem;
 
@@ -69,11 +69,7 @@ fn add_rules<'a>(
 }
 
 // Takes the set of a collection, and leaves the empty one in its place.
-fn take_set(
-    alloc: Global,
-    held: &mut Vec<Rows<'_>>,
-    number: usize,
-) -> Result<RecordSet, AllocError>
+fn take_set(alloc: Global, held: &mut Vec<Rows<'_>>, number: usize) -> Result<RecordSet, AllocError>
     requires { number < length held.old.items }
     ensures taken { IfOk result (λ set. set ≡ set_at (sets_in held.old.items) number) }
     ensures left { sets_in held.new.items ≡ slice_set (sets_in held.old.items) number [] }

@@ -1,4 +1,4 @@
-use Rattle.std.proofs.Common.{◌≡◌, ◌+◌, ◌∙◌, ◌∷◌, ℕ, drop, length, List, Ok, Err, true, false, ap, sym, subst, arith}
+use Rattle.std.proofs.Common.{◌≡◌, ◌+◌, ◌∙◌, ◌∷◌, drop, List, Ok, Err, true, false, ap, sym, subst, arith}
 use Rattle.blz_value.specs.Record.{Row}
 use Rattle.bloom_ast.specs.Form.{RuleForm, rule_form, rule_forms}
 use Rattle.bloom_ast.specs.Lookup.{declared}
@@ -24,7 +24,7 @@ returns-in_err-add_rule c =
     let rest = rules_at cs (rule_forms (drop (i + 1) rules)) c.args.head in
     let fault = c.in_err-add_rule.field-0.0 in
     let here : rules_at cs (rule_forms (drop i rules)) c.args.head ≡ rule ∷ rest =
-        ap (λ rs. rules_at cs rs c.args.head) (rules_from rules i c.rule-item.result c.loop-rule-test.true c.rule-item.is) ∙ rules_at-cons cs rule (rule_forms (drop (i + 1) rules)) c.args.head true c.if-is_rule_of.ensures in
+    ap (λ rs. rules_at cs rs c.args.head) (rules_from rules i c.rule-item.result c.loop-rule-test.true c.rule-item.is) ∙ rules_at-cons cs rule (rule_forms (drop (i + 1) rules)) c.args.head true c.if-is_rule_of.ensures in
     subst (Adds columns env (rules_at cs (rule_forms rules) c.args.head) c.args.set.now c.add_rule.new.set) (sym (handed_on _ c.from_residual.result fault c.from_residual.ensures.1))
     (c.loop-rule.invariant c.add_rule.new.set (Err fault) (subst (λ (own : List RuleForm). Adds {X = Unit {0}} columns env own c.loop-rule.set c.add_rule.new.set (Err fault)) (sym here) (first_refused columns env (Unit {0}) rule rest c.loop-rule.set c.add_rule.new.set c.add_rule.new.set fault c.in_err-add_rule.ensures)))
 
@@ -40,11 +40,11 @@ loop-rule-preserved c =
     let from = ap (λ rs. rules_at cs rs c.args.head) (rules_from rules i c.rule-item.result c.loop-rule-test.true c.rule-item.is) in
     λ new r adds. elim c.if-is_rule_of.branch [
       | then-is_rule_of+in_ok-add_rule w ↦
-        c.loop-rule.invariant new r (subst (λ (own : List RuleForm). Adds columns env own c.loop-rule.set new r) (sym (from ∙ rules_at-cons cs rule (rule_forms (drop (i + 1) rules)) c.args.head true w.if-is_rule_of.ensures))
-        (adds_one columns env rule rest c.loop-rule.set new r w.in_ok-add_rule.ensures.1 (subst (λ (s : List Row). Adds columns env rest s new r) (w.set-is ∙ w.in_ok-add_rule.ensures.0) adds)))
+          c.loop-rule.invariant new r (subst (λ (own : List RuleForm). Adds columns env own c.loop-rule.set new r) (sym (from ∙ rules_at-cons cs rule (rule_forms (drop (i + 1) rules)) c.args.head true w.if-is_rule_of.ensures))
+          (adds_one columns env rule rest c.loop-rule.set new r w.in_ok-add_rule.ensures.1 (subst (λ (s : List Row). Adds columns env rest s new r) (w.set-is ∙ w.in_ok-add_rule.ensures.0) adds)))
       | else-is_rule_of w ↦
-        c.loop-rule.invariant new r (subst (λ (own : List RuleForm). Adds columns env own c.loop-rule.set new r) (sym (from ∙ rules_at-cons cs rule (rule_forms (drop (i + 1) rules)) c.args.head false w.if-is_rule_of.ensures))
-        (subst (λ (s : List Row). Adds columns env rest s new r) w.set-is adds))
+          c.loop-rule.invariant new r (subst (λ (own : List RuleForm). Adds columns env own c.loop-rule.set new r) (sym (from ∙ rules_at-cons cs rule (rule_forms (drop (i + 1) rules)) c.args.head false w.if-is_rule_of.ensures))
+          (subst (λ (s : List Row). Adds columns env rest s new r) w.set-is adds))
     ]
 
 pub returns : goal.returns

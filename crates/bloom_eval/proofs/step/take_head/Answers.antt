@@ -1,6 +1,5 @@
-use Rattle.std.proofs.Common.{Ok, ap, arith}
+use Rattle.std.proofs.Common.{ap, arith}
 use Rattle.bloom_ast.specs.Form.{rule_forms}
-use Rattle.bloom_ast.proofs.Numbers.{get-within}
 use Rattle.std.proofs.lemmas.List.{length-map}
 use Rattle.bloom_eval.specs.Parts.{rows_in, sets_in}
 use Rattle.bloom_eval.proofs.Rules.{head_taken}

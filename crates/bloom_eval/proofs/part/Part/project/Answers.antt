@@ -1,15 +1,11 @@
-use Rattle.std.proofs.Common.{◌≡◌, ◌∙◌, ◌∷◌, ◌++◌, [], ap, map, List, subst, arith, to_z-of_z}
+use Rattle.std.proofs.Common.{◌≡◌, ◌∙◌, ap, List, subst}
 use Rattle.blz_value.specs.Record.{Row}
 use Rattle.blz_value.specs.Sets.{set_of}
-use Rattle.blz_value.specs.Operators.{unpaired, select_rows, project_rows, join_rows, notin_rows}
-use Rattle.blz_value.specs.Groups.{group_rows, at_least_rows}
+use Rattle.blz_value.specs.Operators.{project_rows}
 use Rattle.blz_set.specs.Answers.{Gives}
 use Rattle.bloom_ast.specs.Query.{Name}
-use Rattle.bloom_ast.specs.Form.{formula_of}
-use Rattle.bloom_ast.specs.Columns.{pair_numbers, joined_columns}
-use Rattle.bloom_ast.specs.Rows.{item_numbers, column_numbers, numbered_agg, row_bound}
+use Rattle.bloom_ast.specs.Rows.{item_numbers}
 use Rattle.bloom_eval.specs.Parts.{rows_in, shown}
-use Rattle.bloom_eval.specs.Tests.{IsTestOf}
 use Rattle.bloom_eval.specs.Evaluates.{GivesPart}
 use Rattle.bloom_eval.proofs.part.Part.project.Goals as goal
 

@@ -1,0 +1,13 @@
+//! One step of a module that was checked, evaluated plainly: each expression anew from the sets that
+//! it reads.
+#![tactic(auto)]
+
+mod columns;
+mod evaluate;
+mod fault;
+mod part;
+mod sets;
+mod step;
+
+pub use fault::StepFault;
+pub use sets::{Arrivals, Kept, Outs};

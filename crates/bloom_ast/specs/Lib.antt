@@ -4,3 +4,9 @@ pub mod Codes
 pub mod Lookup
 pub mod Columns
 pub mod Heads
+pub mod Kinds
+pub mod Reads
+pub mod Bounds
+pub mod Fits
+pub mod Faults
+pub mod Reserved

@@ -2,10 +2,15 @@
 //! module.
 #![tactic(auto)]
 
+mod bounds;
 mod checked;
 mod expr;
+mod fault;
+mod lookup;
 mod module;
+mod reads;
 
 pub use checked::Checked;
 pub use expr::{Expr, NamedAgg, Pred, Term};
+pub use fault::{CheckFault, ModuleFault, ModuleKind, ModulePlace};
 pub use module::{Collection, Kind, Module, Rule};

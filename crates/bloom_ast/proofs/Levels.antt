@@ -37,3 +37,29 @@ formula-height (not_so a) = omega (arith, formula-height a, within-le (is_joined
 
 short : (f : Formula) → is_long f ≡ false → comparisons f ≤ 32
 short f e = grind (arith, common_steps)
+
+neither : (a b : Bool) → (a || b) ≡ false → (a ≡ false) × (b ≡ false)
+neither true b e = cc
+neither false b e = (refl, e)
+
+query-height : (q : Query) → list_any is_long (formulas_of q) ≡ false → height q ≤ query_levels q + 32
+query-height (base name) e = omega arith
+query-height (select q f) e =
+    let parts = neither (is_long f) (list_any is_long (formulas_of q)) e in
+    omega (arith, query-height q parts.1, formula-height f, short f parts.0)
+query-height (project q items) e = omega (arith, query-height q e)
+query-height (join a b pairs) e =
+    let parts = neither (list_any is_long (formulas_of a)) (list_any is_long (formulas_of b)) (sym (list_any-append is_long (formulas_of a) (formulas_of b)) ∙ e) in
+    omega (arith, query-height a parts.0, query-height b parts.1)
+query-height (notin a b pairs) e =
+    let parts = neither (list_any is_long (formulas_of a)) (list_any is_long (formulas_of b)) (sym (list_any-append is_long (formulas_of a) (formulas_of b)) ∙ e) in
+    omega (arith, query-height a parts.0, query-height b parts.1)
+query-height (group q keys agg name) e = omega (arith, query-height q e)
+query-height (at_least q keys bound) e = omega (arith, query-height q e)
+
+-- a tree that is deeper than 64 passes the bounds
+pub deep : (q : Query) → nat_le (height q) 64 ≡ false → passes_bounds q ≡ true
+deep q e = elim (cases_Bool (list_any is_long (formulas_of q))) [
+  | inl long ↦ grind (arith, common_steps, long)
+  | inr fine ↦ let low : height q ≤ query_levels q + 32 = query-height q fine in grind (arith, common_steps, low, e)
+]

@@ -38,9 +38,13 @@ formula_fits columns (both a b) = formula_fits columns a && formula_fits columns
 formula_fits columns (either a b) = formula_fits columns a && formula_fits columns b
 formula_fits columns (not_so a) = formula_fits columns a
 
--- pairs of a left and a right column, of which no right one stands in two
+-- pairs of a left and a right column
+abbrev pub pairs_have : List Name → List Name → List (Name × Name) → Bool
+pairs_have left right pairs = list_all (λ pair. has_name left pair.0 && has_name right pair.1) pairs
+
+-- of which no right column stands in two
 abbrev pub pairs_fit : List Name → List Name → List (Name × Name) → Bool
-pairs_fit left right pairs = list_all (λ pair. has_name left pair.0 && has_name right pair.1) pairs && not (repeats (map (λ pair. pair.1) pairs))
+pairs_fit left right pairs = pairs_have left right pairs && not (repeats (map (λ pair. pair.1) pairs))
 
 abbrev pub items_fit : List Name → List (Name × Name) → Bool
 items_fit columns items = list_all (λ item. has_name columns item.0) items

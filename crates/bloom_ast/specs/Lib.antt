@@ -8,5 +8,6 @@ pub mod Kinds
 pub mod Reads
 pub mod Bounds
 pub mod Fits
+pub mod Borrowed
 pub mod Faults
 pub mod Reserved

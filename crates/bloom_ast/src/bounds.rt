@@ -162,6 +162,7 @@ fn has_long_pred(expr: &Expr) -> bool
 
 /// Whether the text of an expression passes the bounds of the grammar, or one of its text literals
 /// is too long. The walk goes no deeper than a text within the bounds does.
+#[tactic(auto, using(crate::proofs::Levels::deep))]
 pub(crate) fn passes_bounds(expr: &Expr) -> bool
     ensures { result ≡ spec.passes_bounds (query_of expr.now) }
 {

@@ -48,15 +48,15 @@ found declared (group q keys agg name) = one _ _ _ _ (columns_of declared (group
 found declared (at_least q keys bound) = one _ _ _ _ (columns_of declared (at_least q keys bound)) (operator_fits declared (at_least q keys bound)) (found declared q) refl
 
 -- a rule's columns, told what was found of its body
-pub misfit-none : (declared : Name → List Name) (q : Query) (head : List Name) → fitting declared q ≡ None → not (query_fits declared q && length (columns_of declared q) == length head) ≡ true
-misfit-none declared q head e = none (query_fits declared q) (sym (found declared q) ∙ e)
+pub misfit_none : (declared : Name → List Name) (q : Query) (head : List Name) → fitting declared q ≡ None → not (query_fits declared q && length (columns_of declared q) == length head) ≡ true
+misfit_none declared q head e = none (query_fits declared q) (sym (found declared q) ∙ e)
   where
     none : (b : Bool) → (if b then Some (columns_of declared q) else None) ≡ None → not (b && length (columns_of declared q) == length head) ≡ true
     none true e = cc
     none false e = refl
 
-pub misfit-some : (declared : Name → List Name) (q : Query) (columns head : List Name) → fitting declared q ≡ Some columns → not (query_fits declared q && length (columns_of declared q) == length head) ≡ not (length columns == length head)
-misfit-some declared q columns head e = some (query_fits declared q) (sym (found declared q) ∙ e)
+pub misfit_some : (declared : Name → List Name) (q : Query) (columns head : List Name) → fitting declared q ≡ Some columns → not (query_fits declared q && length (columns_of declared q) == length head) ≡ not (length columns == length head)
+misfit_some declared q columns head e = some (query_fits declared q) (sym (found declared q) ∙ e)
   where
     some : (b : Bool) → (if b then Some (columns_of declared q) else None) ≡ Some columns → not (b && length (columns_of declared q) == length head) ≡ not (length columns == length head)
     some true e = let same : columns_of declared q ≡ columns = cc in rw same refl

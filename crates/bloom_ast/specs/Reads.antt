@@ -86,3 +86,11 @@ facts_of cs rules = record {
   inputs = record { bits = kind_set is_input cs };
   momentary = record { bits = momentary_heads cs (scratch_arrows cs rules) (kind_set is_input cs) rules };
 }
+
+-- what is said where no fact is asked for
+abbrev pub no_facts : Facts
+no_facts = record { all = []; scratches = []; inputs = record { bits = 0 }; momentary = record { bits = 0 } }
+
+-- what each collection reads through all rules, itself included: who reads another has the greater number
+abbrev pub keys_of : List Collection → List Fd → List ℕ
+keys_of cs all = map (λ place. closure (bit_of place.0) all) (enumerate_from 0 cs)

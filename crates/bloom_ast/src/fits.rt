@@ -280,7 +280,16 @@ fn fitting_columns<'a>(
     }
 }
 
+/// Whether a column stands twice.
+pub(crate) fn repeats_column(alloc: Global, columns: &[Str]) -> Result<bool, AllocError>
+    ensures { IfOk result (λ twice. twice ≡ spec.repeats columns.now) }
+{
+    let refs = borrowed(alloc, columns)?;
+    Ok(repeats(&refs))
+}
+
 /// Whether the columns of a rule don't fit its operators, or their number isn't the head's.
+#[tactic(auto, using(crate::proofs::Named::misfit_none, crate::proofs::Named::misfit_some))]
 pub(crate) fn is_misfit(
     alloc: Global,
     collections: &[Collection],

@@ -6,6 +6,7 @@ mod bounds;
 mod checked;
 mod expr;
 mod fault;
+mod faults;
 mod fits;
 mod lookup;
 mod module;

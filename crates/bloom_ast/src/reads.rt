@@ -1,6 +1,6 @@
 //! What an expression reads, as sets of collection numbers.
 ghost use Rattle.std.specs.Prelude.{◌≡◌, IfOk};
-ghost use Rattle.bloom_ast.specs.Faults.{reads_now};
+ghost use Rattle.bloom_ast.specs.Faults.{reads_now, recursive_rule};
 ghost use Rattle.bloom_ast.specs.Form.{query_of, rule_form, rule_forms};
 ghost use Rattle.bloom_ast.specs.Kinds as kinds;
 ghost use Rattle.bloom_ast.specs.Reads as spec;
@@ -25,14 +25,15 @@ pub(crate) struct Facts {
     pub(crate) momentary: Attrs,
 }
 
-fn set_of_name(collections: &[Collection], name: &Str) -> Attrs
+/// The set of the one collection of this name.
+pub(crate) fn set_of_name(collections: &[Collection], name: &Str) -> Attrs
     ensures { result.bits ≡ spec.set_of_name collections.now name.now }
 {
     Attrs::of(collection_number(collections, name))
 }
 
 /// The collections that stand in an expression.
-pub(crate) fn named(collections: &[Collection], expr: &Expr) -> Attrs
+fn named(collections: &[Collection], expr: &Expr) -> Attrs
     ensures { result.bits ≡ spec.named collections.now (query_of expr.now) }
 {
     match expr {
@@ -164,4 +165,39 @@ pub(crate) fn is_momentary(collections: &[Collection], facts: &Facts, expr: &Exp
     ensures { result ≡ reads_now collections.now facts.now (query_of expr.now) }
 {
     reads_input(collections, facts.scratches.as_slice(), facts.inputs, expr)
+}
+
+/// Whether a rule reads its own head, directly or through other rules.
+pub(crate) fn reads_itself(collections: &[Collection], facts: &Facts, rule: &Rule) -> bool
+    ensures { result ≡ recursive_rule collections.now facts.now.all (rule_form rule.now) }
+{
+    let read = closure(named(collections, &rule.body), facts.all.as_slice());
+    set_of_name(collections, &rule.head).meets(read)
+}
+
+/// What is passed where no test looks at it.
+pub(crate) fn no_facts(alloc: Global) -> Facts
+    ensures { result ≡ spec.no_facts }
+{
+    Facts {
+        all: Items::from_vec(Vec::new(alloc)),
+        scratches: Items::from_vec(Vec::new(alloc)),
+        inputs: Attrs::from_bits(0),
+        momentary: Attrs::from_bits(0),
+    }
+}
+
+/// What each collection reads through all rules, itself included, as a number.
+pub(crate) fn keys(
+    alloc: Global,
+    collections: &[Collection],
+    facts: &Facts,
+) -> Result<Vec<u64>, AllocError>
+    ensures { IfOk result (λ keys. keys.items ≡ spec.keys_of collections.now facts.now.all) }
+{
+    let mut keys = Vec::new(alloc);
+    for (i, _) in collections.iter().enumerate() {
+        keys.push(closure(Attrs::of(i), facts.all.as_slice()).bits())?;
+    }
+    Ok(keys)
 }

@@ -38,7 +38,7 @@ formula-height (not_so a) = omega (arith, formula-height a, within-le (is_joined
 short : (f : Formula) → is_long f ≡ false → comparisons f ≤ 32
 short f e = grind (arith, common_steps)
 
-neither : (a b : Bool) → (a || b) ≡ false → (a ≡ false) × (b ≡ false)
+pub neither : (a b : Bool) → (a || b) ≡ false → (a ≡ false) × (b ≡ false)
 neither true b e = cc
 neither false b e = (refl, e)
 

@@ -1,3 +1,6 @@
 pub mod Forms
 pub mod Levels
 pub mod Named
+pub mod Firsts
+pub mod Ordering
+pub mod Whole

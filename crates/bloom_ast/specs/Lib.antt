@@ -11,3 +11,5 @@ pub mod Fits
 pub mod Borrowed
 pub mod Faults
 pub mod Reserved
+pub mod HeadKeys
+pub mod Checks

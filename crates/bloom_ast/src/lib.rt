@@ -3,6 +3,7 @@
 #![tactic(auto)]
 
 mod bounds;
+mod check;
 mod checked;
 mod expr;
 mod fault;

@@ -3,8 +3,9 @@
 #![tactic(auto)]
 
 mod bounds;
-mod check;
 mod checked;
+mod checking;
+mod copying;
 mod expr;
 mod fault;
 mod faults;
@@ -14,6 +15,7 @@ mod module;
 mod reads;
 
 pub use checked::Checked;
+pub use checking::check;
 pub use expr::{Expr, NamedAgg, Pred, Term};
 pub use fault::{CheckFault, ModuleFault, ModuleKind, ModulePlace};
 pub use module::{Collection, Kind, Module, Rule};

@@ -8,7 +8,7 @@ use Rattle.bloom_ast.specs.Checks.{AreFew}
 use Rattle.bloom_ast.specs.Faults.{kind_fault}
 use Rattle.bloom_ast.specs.Form.{RuleForm, rule_forms}
 use Rattle.bloom_ast.proofs.Firsts.{collection_small, rule_small, few_from}
-use Rattle.bloom_ast.proofs.check.size_fault.Goals as goal
+use Rattle.bloom_ast.proofs.checking.size_fault.Goals as goal
 
 few_ok : (cs : List Collection) (f : Facts) (rules : List RuleForm) (r : Result (Option ModuleFault) AllocError) → IfOk r (λ fault. fault ≡ kind_fault f TooMany cs rules) → IfOk r (λ fault. AreFew cs rules fault)
 few_ok cs f rules (Ok o) e = few_from cs f rules o e

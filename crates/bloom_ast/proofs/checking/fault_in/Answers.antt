@@ -2,7 +2,7 @@ use Rattle.std.proofs.Common.{arith}
 use Rattle.bloom_ast.specs.Form.{rule_forms}
 use Rattle.bloom_ast.proofs.Firsts.{place_small}
 use Rattle.bloom_ast.proofs.Forms.{length_rule_forms}
-use Rattle.bloom_ast.proofs.check.fault_in.Goals as goal
+use Rattle.bloom_ast.proofs.checking.fault_in.Goals as goal
 
 pub kind_fault-requires-clause-collections : goal.kind_fault-requires-clause-collections
 kind_fault-requires-clause-collections c = place_small _ c.args.collections.now c.requires.few

@@ -2,7 +2,7 @@ use Rattle.std.proofs.Common.{◌≡◌, ◌∙◌, ℕ, List, [], ◌∷◌, re
 use Rattle.std.specs.List.{insert}
 use Rattle.std.proofs.lemmas.Bool.{cases_Bool}
 use Rattle.bloom_ast.specs.HeadKeys.{key_at, place_for, put_head}
-use Rattle.bloom_ast.proofs.check.put_head.Goals as goal
+use Rattle.bloom_ast.proofs.checking.put_head.Goals as goal
 
 placed : (key : ℕ → ℕ) (h : ℕ) (heads : List ℕ) → insert heads (place_for key (key h) heads) h ≡ put_head key h heads
 placed key h [] = refl

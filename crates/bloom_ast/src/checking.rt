@@ -9,6 +9,7 @@ ghost use Rattle.bloom_ast.specs.Reads.{facts_of as facts_in};
 ghost use Rattle.bloom_ast.specs.Reserved.{HasOwnNames};
 ghost use Rattle.bloom_ast.specs.declared.fault.ModuleKind.TheVariants.{TooMany};
 
+use crate::checked::Checked;
 use crate::fault::{CheckFault, ModuleFault, ModuleKind, ModulePlace};
 use crate::faults::{is_bad_collection, is_bad_rule};
 use crate::module::{Collection, Kind, Module, Rule};
@@ -204,4 +205,15 @@ fn clean_heads(alloc: Global, module: &Module) -> Result<Vec<u32>, CheckFault>
         return Err(CheckFault::Bad(fault));
     }
     later(alloc, collections, rules)
+}
+
+/// The module, without fault, with its heads in order, or its first fault: the first kind that
+/// holds, at its first place, collections before rules. The error is that fault or want of memory.
+pub fn check(alloc: Global, module: &Module) -> Result<Checked, CheckFault>
+    requires names { HasOwnNames (form_of module.now) }
+    ensures { checks.Checks (form_of module.now) result }
+{
+    let heads = clean_heads(alloc, module)?;
+    let module = module.copy(alloc)?;
+    Ok(Checked::new(module, heads))
 }

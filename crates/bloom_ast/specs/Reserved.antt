@@ -1,6 +1,6 @@
 -- The names of a module, and the words that are none.
 use Rattle.std.specs.Prelude.{◌&&◌, not, Bool, IsTrue, List, [], ◌∷◌, ◌++◌, map, codes}
-use Rattle.std.specs.List.{list_any, flat_map, All}
+use Rattle.std.specs.List.{list_any, list_all, flat_map}
 use Rattle.std.specs.Str.{bytes_eq}
 use Rattle.blz_value.specs.Name.{is_name}
 use Rattle.bloom_ast.specs.declared.expr.NamedAgg.{NamedAgg}
@@ -62,4 +62,4 @@ module_names m = m.name ∷ (flat_map (λ c. c.name ∷ c.columns) m.collections
 
 -- each name in a module is a name and no word of module text
 abbrev pub HasOwnNames : Form → Type 0
-HasOwnNames m = All (λ name. IsTrue (is_own_name name)) (module_names m)
+HasOwnNames m = IsTrue (list_all is_own_name (module_names m))

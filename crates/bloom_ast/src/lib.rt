@@ -13,9 +13,11 @@ mod fits;
 mod lookup;
 mod module;
 mod reads;
+mod reserved;
 
 pub use checked::Checked;
 pub use checking::check;
 pub use expr::{Expr, NamedAgg, Pred, Term};
 pub use fault::{CheckFault, ModuleFault, ModuleKind, ModulePlace};
 pub use module::{Collection, Kind, Module, Rule};
+pub use reserved::{has_own_names, is_reserved};

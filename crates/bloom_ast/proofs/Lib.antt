@@ -4,3 +4,4 @@ pub mod Named
 pub mod Firsts
 pub mod Ordering
 pub mod Whole
+pub mod Unfolding

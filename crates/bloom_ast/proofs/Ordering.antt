@@ -64,9 +64,9 @@ module _ (cs : List Collection) (rules : List RuleForm) (free : (r : RuleForm) �
       let there : meets (bit_of m) (closure (bit_of h) all) ≡ true = in-within m body (closure (bit_of h) all) small_m m_in whole in
       let inside : meets (bit_of m) (closure body all) ≡ true = in-within m body (closure body all) small_m m_in read.contains in
       let back : meets (bit_of h) (closure (bit_of m) all) ≡ false = none (cases_Bool (meets (bit_of h) (closure (bit_of m) all))) (λ yes.
-          let met : meets (bit_of h) (closure body all) ≡ true = closure-trans all body m h small_h inside yes in
-          let not_met : meets (bit_of h) (closure body all) ≡ false = rw reads.head at (free reads.rule reads.stands) in
-          let bad : true ≡ false = sym met ∙ not_met in cc) in
+      let met : meets (bit_of h) (closure body all) ≡ true = closure-trans all body m h small_h inside yes in
+      let not_met : meets (bit_of h) (closure body all) ≡ false = rw reads.head at (free reads.rule reads.stands) in
+      let bad : true ≡ false = sym met ∙ not_met in cc) in
       closure-lt all h m small_h there back
     where
       none : {b : Bool} → (b ≡ true) ⊎ (b ≡ false) → (b ≡ true → ⊥) → b ≡ false
@@ -143,6 +143,7 @@ module _ (key : ℕ → ℕ) where
       before : key h ≤ key g → (q : ℕ) → Has q (g ∷ heads) → key h ≤ key q
       before le q (inl e) = rw (← e) le
       before le q (inr n) = omega (arith, up.0 q n, le)
+
       behind : key g ≤ key h → (q : ℕ) → Has q (put_head key h heads) → key g ≤ key q
       behind le q n = elim (from_put h q heads n) [ inl e ↦ rw (← e) le | inr m ↦ up.0 q m ]
 
@@ -177,6 +178,7 @@ module _ (key : ℕ → ℕ) where
       put : is_input c.kind ≡ false → (at ≡ q) ⊎ Has q heads → Has q heads ⊎ ((j : ℕ) × (at + j ≡ q) × IsDerived (c ∷ cs) j)
       put f (inl e) = inr (zero, (omega arith), record { collection = c; stands = refl; none_arrives = is_not_input c.kind f })
       put f (inr m) = inl m
+
       first : Has q (step at c heads) → Has q heads ⊎ ((j : ℕ) × (at + j ≡ q) × IsDerived (c ∷ cs) j)
       first m = elim (cases_Bool (is_input c.kind)) [ inl t ↦ inl (rw t at m) | inr f ↦ put f (from_put at q heads (rw f at m)) ]
 
@@ -227,6 +229,7 @@ module _ (cs : List Collection) (rules : List RuleForm) (few : length cs ≤ 32)
       lower m lh lm reads =
           let less : closure (bit_of m) (arrows cs rules) < closure (bit_of h) (arrows cs rules) = smaller cs rules free h m (omega (arith, few)) (omega (arith, few)) reads in
           omega (arith, less, key_is cs (arrows cs rules) m lm, key_is cs (arrows cs rules) h lh)
+
       after : (m : ℕ) → Has m (h ∷ heads) → key m < key h → ⊥
       after m (inl e) lt = let same : key h ≡ key m = ap key e in omega (arith, same, lt)
       after m (inr n) lt = omega (arith, up.0 m n, lt)
@@ -241,5 +244,6 @@ module _ (cs : List Collection) (rules : List RuleForm) (few : length cs ≤ 32)
       there : (h : ℕ) → Has h [] ⊎ ((j : ℕ) × (0 + j ≡ h) × IsDerived cs j) → IsDerived cs h
       there h (inl n) = absurd n
       there h (inr s) = let z : s.0 ≡ h = omega (arith, s.1) in subst (λ (q : ℕ). IsDerived cs q) z s.2
+
       none_else : (h : ℕ) → Has h (heads_on key 0 cs []) → IsDerived cs h
       none_else h n = there h (from_on key 0 cs [] h n)

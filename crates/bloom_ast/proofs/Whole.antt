@@ -1,6 +1,7 @@
 -- What the parts of the check say of a module.
-use Rattle.std.proofs.Common.{◌≡◌, ◌≤◌, ℕ, Bool, true, false, Option, None, Some, Result, Ok, Err, List, [], length, refl, ap, sym, subst, ◌∙◌}
+use Rattle.std.proofs.Common.{◌≡◌, ◌≤◌, ◌==◌, ◌&&◌, not, rules, ℕ, Bool, true, false, Option, None, Some, Result, Ok, Err, List, [], length, refl, ap, sym, subst, ◌∙◌}
 use Rattle.std.specs.Global.{Vec}
+use Rattle.std.specs.List.{list_all}
 use Rattle.std.specs.Option.{option_or}
 use Rattle.blz_value.specs.Members.{Has}
 use Rattle.bloom_ast.specs.declared.fault.CheckFault.{CheckFault}
@@ -11,11 +12,24 @@ use Rattle.bloom_ast.specs.declared.fault.ModuleKind.TheVariants as kind
 use Rattle.bloom_ast.specs.declared.module.Collection.{Collection}
 use Rattle.bloom_ast.specs.Checks.{IsRule, IsChecked, ChecksHeads, IsLater, Later}
 use Rattle.bloom_ast.specs.Faults.{kind_fault, fault_in, later_kinds, fault_of, unknown_rule, columns_rule, recursive_rule, mixes, is_mixed}
+use Rattle.bloom_ast.specs.Columns.{columns_of}
+use Rattle.bloom_ast.specs.Fits.{query_fits}
+use Rattle.bloom_ast.specs.Heads.{names_of}
+use Rattle.bloom_ast.specs.Kinds.{has_kind, is_head, is_readable}
+use Rattle.bloom_ast.specs.Lookup.{declared}
 use Rattle.bloom_ast.specs.Form.{RuleForm, Form}
 use Rattle.bloom_ast.specs.Reads.{arrows, facts_of}
 use Rattle.bloom_ast.specs.Reserved.{HasOwnNames}
 use Rattle.bloom_ast.proofs.Firsts.{no_fault, are_few, rule_none, bounded, each_collection, distinct_names}
 use Rattle.bloom_ast.proofs.Ordering.{ordered}
+
+not_both : (a b : Bool) → not (a && b) ≡ false → (a ≡ true) × (b ≡ true)
+not_both true true e = (refl, refl)
+not_both true false e = cc
+not_both false b e = cc
+
+same : (m n : ℕ) → (m == n) ≡ true → m ≡ n
+same m n e = search rules
 
 module _ (cs : List Collection) (rules : List RuleForm) where
   abbrev At : ModuleKind → Option ModuleFault
@@ -34,10 +48,16 @@ module _ (cs : List Collection) (rules : List RuleForm) where
   each_rule : At kind.TooMany ≡ None → fault_in (facts_of cs rules) later_kinds cs rules ≡ None → (r : RuleForm) → Has r rules → IsRule cs rules r
   each_rule size clean r n =
       let none = parts clean in
+      let known = rule_none cs (facts_of cs rules) rules kind.Unknown (unknown_rule cs) (λ i x. refl) none.1 r n in
+      let columns = rule_none cs (facts_of cs rules) rules kind.Columns (columns_rule cs) (λ i x. refl) none.2 r n in
+      let names = not_both (has_kind is_head cs r.0) (list_all (has_kind is_readable cs) (names_of r.1)) known in
+      let fit = not_both (query_fits (declared cs) r.1) (length (columns_of (declared cs) r.1) == length (declared cs r.0)) columns in
       record {
         bounded = bounded cs (facts_of cs rules) rules size r n;
-        known = rule_none cs (facts_of cs rules) rules kind.Unknown (unknown_rule cs) (λ i x. refl) none.1 r n;
-        fits = rule_none cs (facts_of cs rules) rules kind.Columns (columns_rule cs) (λ i x. refl) none.2 r n;
+        head = names.0;
+        known = names.1;
+        fits = fit.0;
+        width = same (length (columns_of (declared cs) r.1)) (length (declared cs r.0)) fit.1;
         free = rule_none cs (facts_of cs rules) rules kind.Recursive (recursive_rule cs (arrows cs rules)) (λ i x. refl) none.3 r n;
         unmixed = rule_none cs (facts_of cs rules) rules kind.MomentaryMix (λ x. mixes cs (facts_of cs rules) x.1) (λ i x. refl) none.4 r n;
         pure = rule_none cs (facts_of cs rules) rules kind.MixedScratch (is_mixed cs (facts_of cs rules)) (λ i x. refl) none.5 r n;

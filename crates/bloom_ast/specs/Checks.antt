@@ -1,6 +1,6 @@
 -- What holds of a module that was checked, and what a check answers.
 use Rattle.std.specs.Prelude.{ℕ, ◌≡◌, ◌≢◌, ◌≤◌, IsTrue, IsFalse, Option, None, Some, Result, Ok, Err, List, [], length}
-use Rattle.std.specs.List.{AllPairs}
+use Rattle.std.specs.List.{list_all, AllPairs}
 use Rattle.std.specs.Global.{Vec}
 use Rattle.std.specs.declared.alloc.AllocError.{AllocError}
 use Rattle.blz_value.specs.Members.{Has}
@@ -9,11 +9,14 @@ use Rattle.bloom_ast.specs.declared.fault.CheckFault.TheVariants.{Bad, NoMemory}
 use Rattle.bloom_ast.specs.declared.fault.ModuleFault.{ModuleFault}
 use Rattle.bloom_ast.specs.declared.module.Collection.{Collection}
 use Rattle.bloom_ast.specs.Bounds.{passes_bounds}
-use Rattle.bloom_ast.specs.Faults.{fault_of, fault_in, later_kinds, unknown_rule, columns_rule, recursive_rule, mixes, is_mixed}
-use Rattle.bloom_ast.specs.Fits.{is_width, repeats}
+use Rattle.bloom_ast.specs.Columns.{columns_of}
+use Rattle.bloom_ast.specs.Faults.{fault_of, fault_in, later_kinds, recursive_rule, mixes, is_mixed}
+use Rattle.bloom_ast.specs.Fits.{is_width, repeats, query_fits}
 use Rattle.bloom_ast.specs.Form.{RuleForm, Form, Accepted}
 use Rattle.bloom_ast.specs.HeadKeys.{key_at, heads_on}
-use Rattle.bloom_ast.specs.Heads.{IsOrdered}
+use Rattle.bloom_ast.specs.Heads.{names_of, IsOrdered}
+use Rattle.bloom_ast.specs.Kinds.{has_kind, is_head, is_readable}
+use Rattle.bloom_ast.specs.Lookup.{declared}
 use Rattle.bloom_ast.specs.Reads.{arrows, facts_of, keys_of}
 use Rattle.bloom_ast.specs.Reserved.{HasOwnNames}
 
@@ -25,8 +28,10 @@ pub record IsCollection (c : Collection) : Type 0 where
 -- a rule's text is within the bounds, its names are known, its columns fit, it doesn't read its head, and it mixes no momentary parts with others
 pub record IsRule (cs : List Collection) (rules : List RuleForm) (r : RuleForm) : Type 0 where
   pub bounded : IsFalse (passes_bounds r.1)
-  pub known : IsFalse (unknown_rule cs r)
-  pub fits : IsFalse (columns_rule cs r)
+  pub head : IsTrue (has_kind is_head cs r.0)
+  pub known : IsTrue (list_all (has_kind is_readable cs) (names_of r.1))
+  pub fits : IsTrue (query_fits (declared cs) r.1)
+  pub width : length (columns_of (declared cs) r.1) ≡ length (declared cs r.0)
   pub free : IsFalse (recursive_rule cs (arrows cs rules) r)
   pub unmixed : IsFalse (mixes cs (facts_of cs rules) r.1)
   pub pure : IsFalse (is_mixed cs (facts_of cs rules) r)

@@ -1,6 +1,7 @@
 -- What an expression reads, as sets of collection numbers below 64.
-use Rattle.std.specs.Prelude.{ℕ, Bool, if◌then◌else◌, List, [], ◌∷◌, map, bit_or}
+use Rattle.std.specs.Prelude.{ℕ, Bool, IsTrue, if◌then◌else◌, List, [], ◌∷◌, map, bit_or}
 use Rattle.std.specs.List.{enumerate_from}
+use Rattle.blz_value.specs.Members.{Has}
 use Rattle.fd_closure.specs.declared.attrs.Fd.{Fd}
 use Rattle.fd_closure.specs.Bits.{bit_of, meets}
 use Rattle.fd_closure.specs.Closure.{closure}
@@ -94,3 +95,13 @@ no_facts = record { all = []; scratches = []; inputs = record { bits = 0 }; mome
 -- what each collection reads through all rules, itself included: who reads another has the greater number
 abbrev pub keys_of : List Collection → List Fd → List ℕ
 keys_of cs all = map (λ place. closure (bit_of place.0) all) (enumerate_from 0 cs)
+
+-- one of the rules, whose head stands in the expression
+pub record NamesRule (cs : List Collection) (rules : List RuleForm) (q : Query) (r : RuleForm) : Type 0 where
+  pub stands : Has r rules
+  pub named : IsTrue (meets (set_of_name cs r.0) (named cs q))
+
+-- such a rule of a scratch
+pub record NamesScratchRule (cs : List Collection) (rules : List RuleForm) (q : Query) (r : RuleForm) : Type 0 where
+  pub rule : NamesRule cs rules q r
+  pub scratch : IsTrue (has_kind is_scratch cs r.0)

@@ -135,11 +135,7 @@ fn put_head(keys: &[u64], head: u32, heads: &mut Vec<u32>) -> Result<(), AllocEr
 }
 
 // The collections that are no inputs, by their keys.
-fn heads_in(
-    alloc: Global,
-    collections: &[Collection],
-    keys: &[u64],
-) -> Result<Vec<u32>, AllocError>
+fn heads_in(alloc: Global, collections: &[Collection], keys: &[u64]) -> Result<Vec<u32>, AllocError>
     requires { length collections.now ≤ 64 }
     ensures { IfOk result (λ heads. heads.items ≡ order.heads_on (order.key_at keys.now) 0 collections.now []) }
 {
@@ -166,11 +162,7 @@ fn size_fault(
 }
 
 // The heads in order, or the first fault of a kind after TooMany.
-fn later(
-    alloc: Global,
-    collections: &[Collection],
-    rules: &[Rule],
-) -> Result<Vec<u32>, CheckFault>
+fn later(alloc: Global, collections: &[Collection], rules: &[Rule]) -> Result<Vec<u32>, CheckFault>
     requires few { length collections.now ≤ 64 }
     requires few_rules { length rules.now ≤ 64 }
     ensures { checks.Later collections.now (rule_forms rules.now) result }

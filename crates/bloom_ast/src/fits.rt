@@ -116,9 +116,7 @@ fn seconds<'a>(alloc: Global, pairs: &'a [(Str, Str)]) -> Result<Vec<&'a Str>, A
 fn pairs_have(left: &[&Str], right: &[&Str], pairs: &[(Str, Str)]) -> bool
     ensures { result ≡ spec.pairs_have (names_in left.now) (names_in right.now) pairs.now }
 {
-    pairs
-        .iter()
-        .all(|(first, second)| has_name(left, first) && has_name(right, second))
+    pairs.iter().all(|(first, second)| has_name(left, first) && has_name(right, second))
 }
 
 fn pairs_fit(

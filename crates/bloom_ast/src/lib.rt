@@ -10,14 +10,18 @@ mod expr;
 mod fault;
 mod faults;
 mod fits;
+mod laws;
 mod lookup;
 mod module;
 mod reads;
 mod reserved;
+#[cfg(test)]
+mod tests;
 
 pub use checked::Checked;
 pub use checking::check;
 pub use expr::{Expr, NamedAgg, Pred, Term};
 pub use fault::{CheckFault, ModuleFault, ModuleKind, ModulePlace};
+pub use laws::reads_law;
 pub use module::{Collection, Kind, Module, Rule};
 pub use reserved::{has_own_names, is_reserved};

@@ -70,11 +70,7 @@ fn scratch_arrow(collections: &[Collection], rule: &Rule) -> Fd
     }
 }
 
-fn arrows(
-    alloc: Global,
-    collections: &[Collection],
-    rules: &[Rule],
-) -> Result<Vec<Fd>, AllocError>
+fn arrows(alloc: Global, collections: &[Collection], rules: &[Rule]) -> Result<Vec<Fd>, AllocError>
     ensures { IfOk result (λ fds. fds.items ≡ spec.arrows collections.now (rule_forms rules.now)) }
 {
     let mut fds = Vec::new(alloc);

@@ -1,3 +1,10 @@
 pub mod Keys
 pub mod Numbers
 pub mod Equated
+pub mod Forms
+pub mod Levels
+pub mod Named
+pub mod Firsts
+pub mod Ordering
+pub mod Whole
+pub mod Unfolding

@@ -11,3 +11,11 @@ pub mod StockSteps
 pub mod Program
 pub mod ProgramStep
 pub mod Equations
+pub mod Reads
+pub mod Bounds
+pub mod Fits
+pub mod Borrowed
+pub mod Faults
+pub mod Reserved
+pub mod HeadKeys
+pub mod Checks

@@ -1,5 +1,6 @@
 //! A module that was checked.
 ghost use Rattle.std.specs.Prelude.{◌≡◌};
+ghost use Rattle.bloom_ast.specs.Checks.{IsChecked};
 ghost use Rattle.bloom_ast.specs.Form.{form_of};
 
 use crate::module::Module;
@@ -21,13 +22,26 @@ impl Model for Checked {
 
     ghost coded = { accepted_code (Prim.hlevel codes) (Prim.hlevel codes) };
 
+    ghost use Rattle.bloom_ast.specs.Checks.{IsChecked};
+
+    ghost invariant = { λ c. IsChecked (form_of c.module) c.heads.items };
+
     ghost view = { λ c. record { form = form_of c.module; heads = c.heads.items } };
 }
 
 impl Checked {
+    /// A module that has no fault, with its heads in order.
+    pub(crate) fn new(module: Module, heads: Vec<u32>) -> Checked
+        requires { IsChecked (form_of «module») heads.items }
+        ensures { result ≡ record { form = form_of «module»; heads = heads.items } }
+    {
+        Checked { module, heads }
+    }
+
     /// The module as it is written.
     pub fn module(&self) -> &Module
-        ensures { form_of result.now ≡ self.now.form }
+        ensures form { form_of result.now ≡ self.now.form }
+        ensures checked { IsChecked self.now.form self.now.heads }
     {
         &self.module
     }

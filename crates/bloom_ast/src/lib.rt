@@ -2,14 +2,29 @@
 //! module.
 #![tactic(auto)]
 
+mod bounds;
 mod checked;
+mod checking;
+mod copying;
 mod expr;
+mod fault;
+mod faults;
+mod fits;
 mod laws;
+mod lookup;
 mod module;
 mod program;
+mod reads;
+mod reserved;
 
 pub use checked::Checked;
+pub use checking::check;
 pub use expr::{Expr, NamedAgg, Pred, Term};
-pub use laws::step_law;
+pub use fault::{CheckFault, ModuleFault, ModuleKind, ModulePlace};
+pub use laws::{reads_law, step_law};
 pub use module::{Collection, Kind, Module, Rule};
 pub use program::Program;
+pub use reserved::{has_own_names, is_reserved};
+
+#[cfg(test)]
+mod tests;

@@ -1,5 +1,5 @@
 -- Membership in lists that are made of others.
-use Rattle.std.proofs.Common.{◌≡◌, ℕ, zero, suc, ◌+◌, ◌<◌, Bool, true, false, cond, List, [], ◌∷◌, ◌++◌, length, get_or, map, filter, refl, ap, ◌∙◌, sym, subst, inl, inr, ◌⊎◌, ◌||◌, arith}
+use Rattle.std.proofs.Common.{◌≡◌, ℕ, zero, suc, ◌<◌, Bool, true, false, cond, List, [], ◌∷◌, ◌++◌, length, get_or, map, filter, refl, ap, ◌∙◌, sym, subst, inl, inr, ◌⊎◌, ◌||◌, arith}
 use Rattle.std.specs.List.{flat_map, list_any, All, Contains}
 use Rattle.blz_value.specs.Members.{Has, IsWithin, HaveEqualMembers}
 

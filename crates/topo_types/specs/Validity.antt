@@ -1,6 +1,7 @@
 -- The first fault of a topology: the first kind that holds, at its first place.
-use Rattle.std.specs.Prelude.{ℕ, ◌+◌, ◌≤◌, Bool, false, if◌then◌else◌, Option, None, Some, List, [], ◌∷◌, length, take}
+use Rattle.std.specs.Prelude.{ℕ, ◌+◌, ◌≤◌, Bool, false, Option, None, Some, List, [], ◌∷◌, length, take}
 use Rattle.std.specs.Option.{option_or}
+use Rattle.blz_value.specs.FirstPlace.{first_place}
 use Rattle.topo_types.specs.declared.fault.TopoFault.{TopoFault}
 use Rattle.topo_types.specs.declared.fault.TopoKind.{TopoKind}
 use Rattle.topo_types.specs.declared.fault.TopoKind.TheVariants as kind
@@ -37,11 +38,6 @@ bad_stream kind.Twice t i s = twice_stream t.sources (take i t.streams) s
 bad_stream kind.Unknown t i s = unknown_stream t s
 bad_stream kind.Columns t i s = columns_stream t s
 bad_stream k t i s = false
-
--- the number of the first element at which the test holds, where the first of the list has the number `at`
-abbrev pub first_place : {X : Type 0} → (ℕ → X → Bool) → ℕ → List X → Option ℕ
-first_place test at [] = None
-first_place test at (x ∷ xs) = if test at x then Some at else first_place test (at + 1) xs
 
 -- a fault of the kind at the first of the numbers that is there: of a source, a component or a stream. Places count from 1
 abbrev pub at_places : TopoKind → Option ℕ → Option ℕ → Option ℕ → Option TopoFault

@@ -1,10 +1,11 @@
 //! The kind TooMany: counts against their limits.
 ghost use Rattle.std.specs.Prelude.{◌≡◌, ◌≤◌, ◌+◌, ℕ, [], length, nat_le, nat_lt, IfOk, IfNone, IfSome, IsTrue, true, false};
 ghost use Rattle.std.specs.Option.{MatchOption};
+ghost use Rattle.blz_value.specs.FirstPlace.{first_place};
 ghost use Rattle.topo_types.specs.Attributes as attributes;
 ghost use Rattle.topo_types.specs.Parts as parts;
 ghost use Rattle.topo_types.specs.ValidityTooMany as spec;
-ghost use Rattle.topo_types.specs.Validity.{first_place, bad_source, bad_component, bad_stream};
+ghost use Rattle.topo_types.specs.Validity.{bad_source, bad_component, bad_stream};
 ghost use Rattle.topo_types.specs.declared.fault.TopoKind.TheVariants.{TooMany};
 
 use crate::parts::{outputs_of, ports_of};

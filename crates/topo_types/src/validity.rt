@@ -1,7 +1,8 @@
 //! The first fault of a topology.
 ghost use Rattle.std.specs.Prelude.{◌≡◌, ◌≤◌, ◌<◌, ℕ, length, take, All, IfOk, IfNone, IfSome};
+ghost use Rattle.blz_value.specs.FirstPlace.{first_place};
 ghost use Rattle.topo_types.specs.Validity as spec;
-ghost use Rattle.topo_types.specs.Validity.{AreFew, fault_of, first_place};
+ghost use Rattle.topo_types.specs.Validity.{AreFew, fault_of};
 ghost use Rattle.topo_types.specs.declared.fault.TopoKind.TheVariants.{TooMany};
 
 use crate::ends::{

@@ -1,7 +1,8 @@
 use Rattle.std.proofs.Common.{◌≡◌, ◌≤◌, length, take, drop}
 use Rattle.topo_types.specs.declared.fault.TopoKind.TheVariants.{TooMany}
 use Rattle.topo_types.specs.Attributes.{attributes_of}
-use Rattle.topo_types.specs.Validity.{first_place, bad_component}
+use Rattle.blz_value.specs.FirstPlace.{first_place}
+use Rattle.topo_types.specs.Validity.{bad_component}
 use Rattle.topo_types.proofs.sizes.first_large_component.Given as goal
 
 abbrev pub invariant-loop-number : goal.invariant-loop-number

@@ -1,5 +1,6 @@
 use Rattle.std.proofs.Common.{◌≡◌, drop}
-use Rattle.topo_types.specs.Validity.{first_place, bad_component}
+use Rattle.blz_value.specs.FirstPlace.{first_place}
+use Rattle.topo_types.specs.Validity.{bad_component}
 use Rattle.topo_types.proofs.validity.first_component.Given as goal
 
 abbrev pub invariant-loop-number : goal.invariant-loop-number

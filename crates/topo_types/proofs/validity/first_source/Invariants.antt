@@ -1,5 +1,6 @@
 use Rattle.std.proofs.Common.{◌≡◌, drop}
-use Rattle.topo_types.specs.Validity.{first_place, bad_source}
+use Rattle.blz_value.specs.FirstPlace.{first_place}
+use Rattle.topo_types.specs.Validity.{bad_source}
 use Rattle.topo_types.proofs.validity.first_source.Given as goal
 
 abbrev pub invariant-loop-number : goal.invariant-loop-number

@@ -1,0 +1,77 @@
+-- Names that are borrowed.
+use Rattle.std.proofs.Common.{◌≡◌, ◌||◌, ◌&&◌, ◌==◌, if◌then◌else◌, length, ◌+◌, ◌++◌, ◌∙◌, not, ℕ, ℤ, pos, int_lt, List, [], ◌∷◌, map, refl, ap, sym, inl, inr, Bor, Bool, true, false, Option, Some, None, Result, IfOk}
+use Rattle.std.specs.Option.{option_and_then}
+use Rattle.std.specs.List.{filter, enumerate_from}
+use Rattle.std.proofs.lemmas.Bool.{cases_Bool}
+use Rattle.blz_value.specs.Operators.{is_paired}
+use Rattle.bloom_ast.specs.Borrowed.{is_in_pair, others_from, keep, fitting}
+use Rattle.bloom_ast.specs.Columns.{column_number, pair_numbers, joined_columns, columns_of}
+use Rattle.bloom_ast.specs.Fits.{are_columns, items_fit, pairs_fit, keys_fit, aggregate_fits, operator_fits, query_fits}
+use Rattle.bloom_ast.specs.declared.expr.NamedAgg.{NamedAgg}
+use Rattle.bloom_ast.specs.Query.{Name, Query}
+use Rattle.bloom_ast.specs.Query.Query.{base, select, project, join, notin, group, at_least}
+
+-- the columns of a join, whose right ones that stand in no pair are found one by one
+
+in_pair : (left right : List Name) (pairs : List (Name × Name)) (number : ℕ) → is_paired (pair_numbers left right pairs) number ≡ is_in_pair right pairs number
+in_pair left right [] number = refl
+in_pair left right (pair ∷ pairs) number = ap (λ (b : Bool). (column_number right pair.1 == number) || b) (in_pair left right pairs number)
+
+others : (left right : List Name) (pairs : List (Name × Name)) (number : ℕ) (names : List Name) → map (λ place. place.1) (filter (λ place. not (is_paired (pair_numbers left right pairs) place.0)) (enumerate_from number names)) ≡ others_from right pairs number names
+others left right pairs number [] = refl
+others left right pairs number (name ∷ names) = elim (cases_Bool (is_in_pair right pairs number)) [
+  | inl t ↦ rw (in_pair left right pairs number, t) (others left right pairs (number + 1) names)
+  | inr f ↦ rw (in_pair left right pairs number, f) (ap (λ (l : List Name). name ∷ l) (others left right pairs (number + 1) names))
+]
+
+pub joined-others : (left right : List Name) (pairs : List (Name × Name)) → left ++ others_from right pairs 0 right ≡ joined_columns left right pairs
+joined-others left right pairs = ap (λ (l : List Name). left ++ l) (sym (others left right pairs 0 right))
+
+-- the columns of an expression that fits, found in one walk
+
+one : (o : Option (List Name)) (b : Bool) (columns : List Name) (next : List Name → Option (List Name)) (whole : List Name) (fit : Bool) → o ≡ (if b then Some columns else None) → next columns ≡ keep whole fit → option_and_then next o ≡ (if b && (fit && are_columns whole) then Some whole else None)
+one o true columns next whole fit e f = rw (e, f) refl
+one o false columns next whole fit e f = rw e refl
+
+two : (o p : Option (List Name)) (a b : Bool) (left right : List Name) (next : List Name → List Name → Option (List Name)) (whole : List Name) (fit : Bool) → o ≡ (if a then Some left else None) → p ≡ (if b then Some right else None) → next left right ≡ keep whole fit → option_and_then (λ l. option_and_then (next l) p) o ≡ (if a && (b && (fit && are_columns whole)) then Some whole else None)
+two o p true true left right next whole fit e g f = rw (e, g, f) refl
+two o p true false left right next whole fit e g f = rw (e, g) refl
+two o p false b left right next whole fit e g f = rw e refl
+
+pub found : (declared : Name → List Name) (q : Query) → fitting declared q ≡ (if query_fits declared q then Some (columns_of declared q) else None)
+found declared (base name) = refl
+found declared (select q f) = one _ _ _ _ (columns_of declared (select q f)) (operator_fits declared (select q f)) (found declared q) refl
+found declared (project q items) = one _ _ _ _ (columns_of declared (project q items)) (operator_fits declared (project q items)) (found declared q) refl
+found declared (join a b pairs) = two _ _ _ _ _ _ _ (columns_of declared (join a b pairs)) (operator_fits declared (join a b pairs)) (found declared a) (found declared b) refl
+found declared (notin a b pairs) = two _ _ _ _ _ _ _ (columns_of declared (notin a b pairs)) (operator_fits declared (notin a b pairs)) (found declared a) (found declared b) refl
+found declared (group q keys agg name) = one _ _ _ _ (columns_of declared (group q keys agg name)) (operator_fits declared (group q keys agg name)) (found declared q) refl
+found declared (at_least q keys bound) = one _ _ _ _ (columns_of declared (at_least q keys bound)) (operator_fits declared (at_least q keys bound)) (found declared q) refl
+
+-- a rule's columns, told what was found of its body
+pub misfit_none : (declared : Name → List Name) (q : Query) (head : List Name) → fitting declared q ≡ None → not (query_fits declared q && length (columns_of declared q) == length head) ≡ true
+misfit_none declared q head e = none (query_fits declared q) (sym (found declared q) ∙ e)
+  where
+    none : (b : Bool) → (if b then Some (columns_of declared q) else None) ≡ None → not (b && length (columns_of declared q) == length head) ≡ true
+    none true e = cc
+    none false e = refl
+
+pub misfit_some : (declared : Name → List Name) (q : Query) (columns head : List Name) → fitting declared q ≡ Some columns → not (query_fits declared q && length (columns_of declared q) == length head) ≡ not (length columns == length head)
+misfit_some declared q columns head e = some (query_fits declared q) (sym (found declared q) ∙ e)
+  where
+    some : (b : Bool) → (if b then Some (columns_of declared q) else None) ≡ Some columns → not (b && length (columns_of declared q) == length head) ≡ not (length columns == length head)
+    some true e = let same : columns_of declared q ≡ columns = cc in rw same refl
+    some false e = cc
+
+-- what the walk finds at an operator, told what it found of the parts
+
+pub at_project : (declared : Name → List Name) (q : Query) (items : List (Name × Name)) (columns names : List Name) (fit : Bool) → Some columns ≡ fitting declared q → names ≡ map (λ item. item.1) items → fit ≡ items_fit columns items → keep names fit ≡ fitting declared (project q items)
+at_project declared q items columns names fit e f g = rw (← e, f, g) refl
+
+pub at_notin : (declared : Name → List Name) (a b : Query) (pairs : List (Name × Name)) (left right : List Name) (fit : Bool) → Some left ≡ fitting declared a → Some right ≡ fitting declared b → fit ≡ pairs_fit left right pairs → keep left fit ≡ fitting declared (notin a b pairs)
+at_notin declared a b pairs left right fit e f g = rw (← e, ← f, g) refl
+
+pub at_group : (declared : Name → List Name) (q : Query) (keys : List Name) (agg : NamedAgg) (name : Name) (columns names : List Name) (fit : Bool) → Some columns ≡ fitting declared q → names ≡ keys ++ name ∷ [] → fit ≡ (keys_fit columns keys && aggregate_fits columns agg) → keep names fit ≡ fitting declared (group q keys agg name)
+at_group declared q keys agg name columns names fit e f g = rw (← e, f, g) refl
+
+pub at_bound : (declared : Name → List Name) (q : Query) (keys : List Name) (bound : ℤ) (columns names : List Name) (fit : Bool) → Some columns ≡ fitting declared q → names ≡ keys → fit ≡ (keys_fit columns keys && int_lt (pos 0) bound) → keep names fit ≡ fitting declared (at_least q keys bound)
+at_bound declared q keys bound columns names fit e f g = rw (← e, f, g) refl

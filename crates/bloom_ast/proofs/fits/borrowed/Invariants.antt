@@ -1,0 +1,6 @@
+use Rattle.std.proofs.Common.{◌≡◌, take, drop, map}
+use Rattle.bloom_ast.specs.Borrowed.{names_in}
+use Rattle.bloom_ast.proofs.fits.borrowed.Given as goal
+
+abbrev pub invariant-loop-name : goal.invariant-loop-name
+invariant-loop-name l = names_in l.refs.items ≡ take l.name-index l.names

@@ -1,0 +1,23 @@
+-- Heads by what they read: each before the first that has a greater key.
+use Rattle.std.specs.Prelude.{ℕ, suc, ◌+◌, if◌then◌else◌, List, [], ◌∷◌, nat_lt, slice_index_or}
+use Rattle.bloom_ast.specs.declared.module.Collection.{Collection}
+use Rattle.bloom_ast.specs.Kinds.{is_input}
+
+-- the key of the collection with the number
+abbrev pub key_at : List ℕ → ℕ → ℕ
+key_at keys n = slice_index_or keys n 0
+
+-- the place of the first head with a greater key, or their number
+abbrev pub place_for : (ℕ → ℕ) → ℕ → List ℕ → ℕ
+place_for key_of key [] = 0
+place_for key_of key (g ∷ heads) = if nat_lt key (key_of g) then 0 else suc (place_for key_of key heads)
+
+-- the heads with h, which stands before the first with a greater key
+abbrev pub put_head : (ℕ → ℕ) → ℕ → List ℕ → List ℕ
+put_head key_of h [] = h ∷ []
+put_head key_of h (g ∷ heads) = if nat_lt (key_of h) (key_of g) then h ∷ g ∷ heads else g ∷ put_head key_of h heads
+
+-- the heads with those collections that are no inputs, of which the first has the number `at`
+abbrev pub heads_on : (ℕ → ℕ) → ℕ → List Collection → List ℕ → List ℕ
+heads_on key_of at [] heads = heads
+heads_on key_of at (c ∷ cs) heads = heads_on key_of (at + 1) cs (if is_input c.kind then heads else put_head key_of at heads)

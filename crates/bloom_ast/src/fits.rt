@@ -1,0 +1,303 @@
+//! The columns of an expression, and whether they fit its operators.
+ghost use Rattle.std.specs.Prelude.{◌≡◌, ◌∷◌, [], ◌++◌, ◌<◌, drop, map, length, IfOk};
+ghost use Rattle.fd_closure.specs.Names as places;
+ghost use Rattle.bloom_ast.specs.Borrowed.{names_in, is_in_pair, others_from, keep, fitting, found_in};
+ghost use Rattle.bloom_ast.specs.Columns as columns_spec;
+ghost use Rattle.bloom_ast.specs.Faults.{columns_rule};
+ghost use Rattle.bloom_ast.specs.Fits as spec;
+ghost use Rattle.bloom_ast.specs.Form.{formula_of, query_of, rule_form};
+ghost use Rattle.bloom_ast.specs.Lookup as lookup;
+
+use crate::expr::{Expr, NamedAgg, Pred, Term};
+use crate::lookup::declared;
+use crate::module::{Collection, Rule};
+use blz_value::Str;
+use std::alloc::{AllocError, Global};
+
+/// Most columns.
+const MOST_COLUMNS: usize = 8;
+
+/// Whether so many columns are one or more, and at most eight.
+pub(crate) fn is_width(n: usize) -> bool
+    ensures { result ≡ spec.is_width n }
+{
+    0 < n && n <= MOST_COLUMNS
+}
+
+fn has_name(names: &[&Str], name: &Str) -> bool
+    ensures { result ≡ spec.has_name (names_in names.now) name.now }
+{
+    for held in names {
+        if held.equals(name) {
+            return true;
+        }
+    }
+    false
+}
+
+fn repeats(names: &[&Str]) -> bool
+    ensures { result ≡ spec.repeats (names_in names.now) }
+{
+    for (i, name) in names.iter().enumerate() {
+        if has_name(&names[i + 1..], *name) {
+            return true;
+        }
+    }
+    false
+}
+
+fn are_columns(names: &[&Str]) -> bool
+    ensures { result ≡ spec.are_columns (names_in names.now) }
+{
+    is_width(names.len()) && !repeats(names)
+}
+
+fn term_fits(columns: &[&Str], term: &Term) -> bool
+    ensures { result ≡ spec.term_fits (names_in columns.now) term.now }
+{
+    match term {
+        Term::Column(name) => has_name(columns, name),
+        Term::Literal(_) => true,
+    }
+}
+
+fn pred_fits(columns: &[&Str], pred: &Pred) -> bool
+    ensures { result ≡ spec.formula_fits (names_in columns.now) (formula_of pred.now) }
+{
+    match pred {
+        Pred::Compare { left, right, .. } => term_fits(columns, left) && term_fits(columns, right),
+        Pred::And(a, b) | Pred::Or(a, b) => pred_fits(columns, a) && pred_fits(columns, b),
+        Pred::Not(a) => pred_fits(columns, a),
+    }
+}
+
+fn items_fit(columns: &[&Str], items: &[(Str, Str)]) -> bool
+    ensures { result ≡ spec.items_fit (names_in columns.now) items.now }
+{
+    items.iter().all(|(name, _)| has_name(columns, name))
+}
+
+fn keys_fit(columns: &[&Str], keys: &[Str]) -> bool
+    ensures { result ≡ spec.keys_fit (names_in columns.now) keys.now }
+{
+    keys.iter().all(|name| has_name(columns, name))
+}
+
+fn aggregate_fits(columns: &[&Str], agg: &NamedAgg) -> bool
+    ensures { result ≡ spec.aggregate_fits (names_in columns.now) agg.now }
+{
+    match agg {
+        NamedAgg::Count => true,
+        NamedAgg::Sum(name) | NamedAgg::Min(name) | NamedAgg::Max(name) => has_name(columns, name),
+    }
+}
+
+fn borrowed<'a>(alloc: Global, names: &'a [Str]) -> Result<Vec<&'a Str>, AllocError>
+    ensures { IfOk result (λ refs. names_in refs.items ≡ names.now) }
+{
+    let mut refs = Vec::new(alloc);
+    for name in names {
+        refs.push(name)?;
+    }
+    Ok(refs)
+}
+
+// The second names.
+fn seconds<'a>(alloc: Global, pairs: &'a [(Str, Str)]) -> Result<Vec<&'a Str>, AllocError>
+    ensures { IfOk result (λ refs. names_in refs.items ≡ map (λ pair. pair.1) pairs.now) }
+{
+    let mut refs = Vec::new(alloc);
+    for pair in pairs {
+        refs.push(&pair.1)?;
+    }
+    Ok(refs)
+}
+
+fn pairs_have(left: &[&Str], right: &[&Str], pairs: &[(Str, Str)]) -> bool
+    ensures { result ≡ spec.pairs_have (names_in left.now) (names_in right.now) pairs.now }
+{
+    pairs.iter().all(|(first, second)| has_name(left, first) && has_name(right, second))
+}
+
+fn pairs_fit(
+    alloc: Global,
+    left: &[&Str],
+    right: &[&Str],
+    pairs: &[(Str, Str)],
+) -> Result<bool, AllocError>
+    ensures { IfOk result (λ fit. fit ≡ spec.pairs_fit (names_in left.now) (names_in right.now) pairs.now) }
+{
+    if !pairs_have(left, right, pairs) {
+        return Ok(false);
+    }
+    let rights = seconds(alloc, pairs)?;
+    Ok(!repeats(&rights))
+}
+
+// The columns, where the operator fits and they are columns.
+fn kept<'a>(columns: Vec<&'a Str>, fit: bool) -> Option<Vec<&'a Str>>
+    ensures { found_in result ≡ keep (names_in columns.entry.items) fit }
+{
+    if fit && are_columns(&columns) {
+        Some(columns)
+    } else {
+        None
+    }
+}
+
+fn place_of(names: &[&Str], name: &Str) -> Option<usize>
+    ensures { result ≡ places.place_of (names_in names.now) name.now }
+{
+    for (place, held) in names.iter().enumerate() {
+        if held.equals(name) {
+            return Some(place);
+        }
+    }
+    None
+}
+
+fn column_number(names: &[&Str], name: &Str) -> usize
+    ensures { result ≡ columns_spec.column_number (names_in names.now) name.now }
+{
+    place_of(names, name).unwrap_or(names.len())
+}
+
+// Whether the right column with this number stands in a pair.
+fn is_paired(right: &[&Str], pairs: &[(Str, Str)], number: usize) -> bool
+    ensures { result ≡ is_in_pair (names_in right.now) pairs.now number }
+{
+    pairs
+        .iter()
+        .any(|(_, second)| column_number(right, second) == number)
+}
+
+// The left columns, followed by the right ones that stand in no pair.
+fn joined<'a>(
+    left: Vec<&'a Str>,
+    right: &[&'a Str],
+    pairs: &[(Str, Str)],
+) -> Result<Vec<&'a Str>, AllocError>
+    ensures { IfOk result (λ refs. names_in refs.items ≡ columns_spec.joined_columns (names_in left.entry.items) (names_in right.now) pairs.now) }
+{
+    let mut refs = left;
+    for (number, name) in right.iter().enumerate() {
+        if !is_paired(right, pairs, number) {
+            refs.push(*name)?;
+        }
+    }
+    Ok(refs)
+}
+
+// The columns of a join of parts with these columns.
+fn join_columns<'a>(
+    alloc: Global,
+    left: Vec<&'a Str>,
+    right: Vec<&'a Str>,
+    pairs: &[(Str, Str)],
+) -> Result<Option<Vec<&'a Str>>, AllocError>
+    ensures { IfOk result (λ found. found_in found ≡ keep (columns_spec.joined_columns (names_in left.entry.items) (names_in right.entry.items) pairs.now) (spec.pairs_fit (names_in left.entry.items) (names_in right.entry.items) pairs.now)) }
+{
+    let fit = pairs_fit(alloc, &left, &right, pairs)?;
+    let columns = joined(left, &right, pairs)?;
+    Ok(kept(columns, fit))
+}
+
+// The keys, followed by the name.
+fn group_columns<'a>(
+    alloc: Global,
+    keys: &'a [Str],
+    name: &'a Str,
+) -> Result<Vec<&'a Str>, AllocError>
+    ensures { IfOk result (λ refs. names_in refs.items ≡ keys.now ++ name.now ∷ []) }
+{
+    let mut refs = borrowed(alloc, keys)?;
+    refs.push(name)?;
+    Ok(refs)
+}
+
+// The columns of an expression that fits, None where it doesn't.
+fn fitting_columns<'a>(
+    alloc: Global,
+    collections: &'a [Collection],
+    expr: &'a Expr,
+) -> Result<Option<Vec<&'a Str>>, AllocError>
+    ensures { IfOk result (λ found. found_in found ≡ fitting (lookup.declared collections.now) (query_of expr.now)) }
+{
+    match expr {
+        Expr::Base(name) => {
+            let columns = borrowed(alloc, declared(collections, name))?;
+            Ok(kept(columns, true))
+        }
+        Expr::Select(part, pred) => {
+            let Some(columns) = fitting_columns(alloc, collections, part)? else {
+                return Ok(None);
+            };
+            let fit = pred_fits(&columns, pred);
+            Ok(kept(columns, fit))
+        }
+        Expr::Project(part, items) => {
+            let Some(columns) = fitting_columns(alloc, collections, part)? else {
+                return Ok(None);
+            };
+            let fit = items_fit(&columns, items.as_slice());
+            Ok(kept(seconds(alloc, items.as_slice())?, fit))
+        }
+        Expr::Join(a, b, pairs) => {
+            let Some(left) = fitting_columns(alloc, collections, a)? else {
+                return Ok(None);
+            };
+            let Some(right) = fitting_columns(alloc, collections, b)? else {
+                return Ok(None);
+            };
+            join_columns(alloc, left, right, pairs.as_slice())
+        }
+        Expr::NotIn(a, b, pairs) => {
+            let Some(left) = fitting_columns(alloc, collections, a)? else {
+                return Ok(None);
+            };
+            let Some(right) = fitting_columns(alloc, collections, b)? else {
+                return Ok(None);
+            };
+            let fit = pairs_fit(alloc, &left, &right, pairs.as_slice())?;
+            Ok(kept(left, fit))
+        }
+        Expr::Group(part, keys, agg, name) => {
+            let Some(columns) = fitting_columns(alloc, collections, part)? else {
+                return Ok(None);
+            };
+            let fit = keys_fit(&columns, keys.as_slice()) && aggregate_fits(&columns, agg);
+            Ok(kept(group_columns(alloc, keys.as_slice(), name)?, fit))
+        }
+        Expr::AtLeast(part, keys, bound) => {
+            let Some(columns) = fitting_columns(alloc, collections, part)? else {
+                return Ok(None);
+            };
+            let fit = keys_fit(&columns, keys.as_slice()) && 0 < *bound;
+            Ok(kept(borrowed(alloc, keys.as_slice())?, fit))
+        }
+    }
+}
+
+/// Whether a column stands twice.
+pub(crate) fn repeats_column(alloc: Global, columns: &[Str]) -> Result<bool, AllocError>
+    ensures { IfOk result (λ twice. twice ≡ spec.repeats columns.now) }
+{
+    let refs = borrowed(alloc, columns)?;
+    Ok(repeats(&refs))
+}
+
+/// Whether the columns of a rule don't fit its operators, or their number isn't the head's.
+#[tactic(auto, using(crate::proofs::Named::misfit_none, crate::proofs::Named::misfit_some))]
+pub(crate) fn is_misfit(
+    alloc: Global,
+    collections: &[Collection],
+    rule: &Rule,
+) -> Result<bool, AllocError>
+    ensures { IfOk result (λ bad. bad ≡ columns_rule collections.now (rule_form rule.now)) }
+{
+    let head = declared(collections, &rule.head);
+    match fitting_columns(alloc, collections, &rule.body)? {
+        Some(columns) => Ok(columns.len() != head.len()),
+        None => Ok(true),
+    }
+}

@@ -8,3 +8,4 @@ pub mod Firsts
 pub mod Ordering
 pub mod Whole
 pub mod Unfolding
+pub mod Small

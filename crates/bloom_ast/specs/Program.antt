@@ -15,9 +15,9 @@ pub record IsSmall (cs : List Collection) : Type 0 where
   pub few : length cs ≤ 32
   pub narrow : All (λ c. length c.columns ≤ 8) cs
 
--- a module is small; a stock body has at most eight columns, and its split and its keys are distinct numbers below their count
+-- a stock body has at most eight columns, and its split and its keys are distinct numbers below their count
 abbrev pub IsStock : Program → Type 0
-IsStock (Module a) = IsSmall a.form.collections
+IsStock (Module a) = Unit {0}
 IsStock (Split columns split) = (length columns ≤ 8) × (split < length columns)
 IsStock (Latest columns keys) = (length columns ≤ 8) × All (λ key. key < length columns) keys × AllPairs (λ a b. a ≢ b) keys
 IsStock (Number columns) = length columns ≤ 8

@@ -88,6 +88,7 @@ fn key_count(columns: &[Str], keys: &[u32]) -> u32
 
 impl Program {
     /// The number of ports.
+    #[tactic(auto, using(crate::proofs::Small::few, crate::proofs::Small::small))]
     pub fn port_count(&self) -> u32
         requires stock { IsStock self.now }
         ensures { result ≡ length (port_columns self.now) }
@@ -102,6 +103,7 @@ impl Program {
     }
 
     /// The number of outputs.
+    #[tactic(auto, using(crate::proofs::Small::few, crate::proofs::Small::small))]
     pub fn output_count(&self) -> u32
         requires stock { IsStock self.now }
         ensures { result ≡ length (output_columns self.now) }
@@ -115,6 +117,7 @@ impl Program {
     }
 
     /// The number of tables.
+    #[tactic(auto, using(crate::proofs::Small::few, crate::proofs::Small::small))]
     pub fn table_count(&self) -> u32
         requires stock { IsStock self.now }
         ensures { result ≡ length (table_columns self.now) }
@@ -129,6 +132,7 @@ impl Program {
     }
 
     /// How many columns a port has. Ports are numbered from 0 in declared order.
+    #[tactic(auto, using(crate::proofs::Small::few, crate::proofs::Small::small))]
     pub fn port_width(&self, port: u32) -> u32
         requires stock { IsStock self.now }
         requires within { port < length (port_columns self.now) }
@@ -148,6 +152,7 @@ impl Program {
     }
 
     /// How many columns an output has. Outputs are numbered from 0 in declared order.
+    #[tactic(auto, using(crate::proofs::Small::few, crate::proofs::Small::small))]
     pub fn output_width(&self, output: u32) -> u32
         requires stock { IsStock self.now }
         requires within { output < length (output_columns self.now) }

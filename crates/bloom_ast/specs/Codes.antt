@@ -1,6 +1,6 @@
 -- Formulas and queries as lists of signs, in which each operator stands behind its parts. The list gives the tree back.
 use Rattle.std.specs.Prelude.{ℕ, ℤ, ◌≡◌, List, [], ◌∷◌, ◌++◌, refl}
-use Rattle.std.proofs.Common.{ap, ◌∙◌, append_assoc}
+use Rattle.std.proofs.Common.{ap, ◌∙◌}
 use Rattle.std.specs.Coded.{Coded, code_by, coded×, coded_list, coded_ℕ}
 use Rattle.blz_value.specs.declared.test.Op.{Op}
 use Rattle.bloom_ast.specs.declared.expr.Term.{Term}

@@ -1,5 +1,5 @@
 -- Where the first faults of a module can stand, and what it says that there is none.
-use Rattle.std.proofs.Common.{◌≡◌, ◌≢◌, ◌≤◌, ◌<◌, ◌+◌, ◌||◌, not, ◌⊎◌, inl, inr, ℕ, zero, suc, Bool, true, false, Option, None, Some, IfSome, List, [], ◌∷◌, length, take, get_or, nat_lt, refl, arith, ap, sym, subst, ◌∙◌}
+use Rattle.std.proofs.Common.{◌≡◌, ◌≢◌, ◌≤◌, ◌<◌, ◌+◌, ◌||◌, not, inl, inr, ℕ, zero, suc, Bool, true, false, Option, None, Some, IfSome, List, [], ◌∷◌, length, take, get_or, nat_lt, refl, arith, ap, sym, ◌∙◌}
 use Rattle.std.specs.List.{list_any, AllPairs}
 use Rattle.std.specs.Option.{option_or}
 use Rattle.std.specs.Str.{bytes_eq}
@@ -11,13 +11,12 @@ use Rattle.bloom_ast.specs.declared.fault.ModuleFault.{ModuleFault}
 use Rattle.bloom_ast.specs.declared.fault.ModuleKind.{ModuleKind}
 use Rattle.bloom_ast.specs.declared.fault.ModuleKind.TheVariants as kind
 use Rattle.bloom_ast.specs.declared.module.Collection.{Collection}
-use Rattle.bloom_ast.specs.declared.module.Rule.{Rule}
 use Rattle.bloom_ast.specs.declared.reads.Facts.{Facts}
 use Rattle.bloom_ast.specs.Bounds.{passes_bounds}
 use Rattle.bloom_ast.specs.Checks.{AreFew, IsCollection}
 use Rattle.bloom_ast.specs.Faults.{bad_collection, bad_rule, at_places, kind_fault, is_ninth}
 use Rattle.bloom_ast.specs.Fits.{is_width, repeats}
-use Rattle.bloom_ast.specs.Form.{RuleForm, rule_forms}
+use Rattle.bloom_ast.specs.Form.{RuleForm}
 use Rattle.bloom_ast.specs.Lookup.{is_named}
 use Rattle.bloom_ast.specs.Query.{Name}
 use Rattle.bloom_ast.proofs.Levels.{neither}

@@ -1,5 +1,5 @@
 -- Names that are borrowed.
-use Rattle.std.proofs.Common.{◌≡◌, ◌||◌, ◌&&◌, ◌==◌, if◌then◌else◌, length, ◌+◌, ◌++◌, ◌∙◌, not, ℕ, ℤ, pos, int_lt, List, [], ◌∷◌, map, refl, ap, sym, inl, inr, Bor, Bool, true, false, Option, Some, None, Result, IfOk}
+use Rattle.std.proofs.Common.{◌≡◌, ◌||◌, ◌&&◌, ◌==◌, if◌then◌else◌, length, ◌+◌, ◌++◌, ◌∙◌, not, ℕ, ℤ, pos, int_lt, List, [], ◌∷◌, map, refl, ap, sym, inl, inr, Bool, true, false, Option, Some, None}
 use Rattle.std.specs.Option.{option_and_then}
 use Rattle.std.specs.List.{filter, enumerate_from}
 use Rattle.std.proofs.lemmas.Bool.{cases_Bool}

@@ -1,6 +1,6 @@
 -- One level of what an expression reads.
-use Rattle.std.proofs.Common.{◌≡◌, ◌≢◌, ◌≤◌, ◌<◌, ◌+◌, ◌^◌, ◌↔◌, ◌⊎◌, inl, inr, ℕ, zero, suc, Bool, true, false, if◌then◌else◌, nat_lt, bit_or, Option, None, Some, IfSome, List, [], ◌∷◌, map, length, refl, rules, arith, ap, sym, subst, ◌∙◌}
-use Rattle.std.specs.Int.{bit_at, IsBitSet}
+use Rattle.std.proofs.Common.{◌≡◌, ◌≤◌, ◌<◌, ◌+◌, ◌^◌, ◌⊎◌, inl, inr, ℕ, suc, Bool, true, false, if◌then◌else◌, nat_lt, bit_or, Option, None, Some, IfSome, List, [], ◌∷◌, map, length, refl, rules, arith, sym, subst, ◌∙◌}
+use Rattle.std.specs.Int.{IsBitSet}
 use Rattle.std.specs.List.{position_from, enumerate_from}
 use Rattle.std.proofs.Math.Pow.{pow-lt}
 use Rattle.std.proofs.lemmas.Bool.{cases_Bool}

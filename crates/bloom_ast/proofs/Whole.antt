@@ -1,5 +1,5 @@
 -- What the parts of the check say of a module.
-use Rattle.std.proofs.Common.{◌≡◌, ◌≤◌, ◌==◌, ◌&&◌, not, rules, ℕ, Bool, true, false, Option, None, Some, Result, Ok, Err, List, [], length, refl, ap, sym, subst, ◌∙◌}
+use Rattle.std.proofs.Common.{◌≡◌, ◌==◌, ◌&&◌, not, rules, ℕ, Bool, true, false, Option, None, Result, Ok, Err, List, length, refl, subst}
 use Rattle.std.specs.Global.{Vec}
 use Rattle.std.specs.List.{list_all}
 use Rattle.std.specs.Option.{option_or}
@@ -10,8 +10,8 @@ use Rattle.bloom_ast.specs.declared.fault.ModuleFault.{ModuleFault}
 use Rattle.bloom_ast.specs.declared.fault.ModuleKind.{ModuleKind}
 use Rattle.bloom_ast.specs.declared.fault.ModuleKind.TheVariants as kind
 use Rattle.bloom_ast.specs.declared.module.Collection.{Collection}
-use Rattle.bloom_ast.specs.Checks.{IsRule, IsChecked, ChecksHeads, IsLater, Later}
-use Rattle.bloom_ast.specs.Faults.{kind_fault, fault_in, later_kinds, fault_of, unknown_rule, columns_rule, recursive_rule, mixes, is_mixed}
+use Rattle.bloom_ast.specs.Checks.{IsRule, ChecksHeads, Later}
+use Rattle.bloom_ast.specs.Faults.{kind_fault, fault_in, later_kinds, unknown_rule, columns_rule, recursive_rule, mixes, is_mixed}
 use Rattle.bloom_ast.specs.Columns.{columns_of}
 use Rattle.bloom_ast.specs.Fits.{query_fits}
 use Rattle.bloom_ast.specs.Heads.{names_of}

@@ -2,7 +2,6 @@
 use Rattle.std.specs.Prelude.{ℕ, ◌≡◌, ◌≢◌, ◌≤◌, IsTrue, IsFalse, Option, None, Some, Result, Ok, Err, List, [], length}
 use Rattle.std.specs.List.{list_all, AllPairs}
 use Rattle.std.specs.Global.{Vec}
-use Rattle.std.specs.declared.alloc.AllocError.{AllocError}
 use Rattle.blz_value.specs.Members.{Has}
 use Rattle.bloom_ast.specs.declared.fault.CheckFault.{CheckFault}
 use Rattle.bloom_ast.specs.declared.fault.CheckFault.TheVariants.{Bad, NoMemory}

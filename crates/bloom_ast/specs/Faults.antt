@@ -19,7 +19,7 @@ use Rattle.bloom_ast.specs.Form.{RuleForm, Form}
 use Rattle.bloom_ast.specs.Heads.{names_of}
 use Rattle.bloom_ast.specs.Kinds.{has_kind, is_head, is_readable, is_input, is_output, is_scratch}
 use Rattle.bloom_ast.specs.Lookup.{declared, is_named}
-use Rattle.bloom_ast.specs.Query.{Name, Query}
+use Rattle.bloom_ast.specs.Query.{Query}
 use Rattle.bloom_ast.specs.Query.Query.{base, select, project, join, notin, group, at_least}
 use Rattle.bloom_ast.specs.Reads.{set_of_name, named, reads_input, facts_of}
 

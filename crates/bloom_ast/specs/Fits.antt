@@ -1,5 +1,5 @@
 -- The columns of an expression fit its operators.
-use Rattle.std.specs.Prelude.{ℕ, pos, int_lt, ◌==◌, ◌&&◌, ◌||◌, not, Bool, true, false, nat_lt, List, [], ◌∷◌, ◌++◌, map, length}
+use Rattle.std.specs.Prelude.{ℕ, pos, int_lt, ◌&&◌, ◌||◌, not, Bool, true, false, nat_lt, List, [], ◌∷◌, map, length}
 use Rattle.std.specs.List.{list_any, list_all}
 use Rattle.std.specs.Str.{bytes_eq}
 use Rattle.bloom_ast.specs.declared.expr.NamedAgg.{NamedAgg}

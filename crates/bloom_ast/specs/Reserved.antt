@@ -1,5 +1,5 @@
 -- The names of a module, and the words that are none.
-use Rattle.std.specs.Prelude.{◌&&◌, not, Bool, IsTrue, List, [], ◌∷◌, ◌++◌, map, codes}
+use Rattle.std.specs.Prelude.{◌&&◌, not, Bool, IsTrue, List, [], ◌∷◌, ◌++◌, codes}
 use Rattle.std.specs.List.{list_any, list_all, flat_map}
 use Rattle.std.specs.Str.{bytes_eq}
 use Rattle.blz_value.specs.Name.{is_name}

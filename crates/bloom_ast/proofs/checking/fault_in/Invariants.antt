@@ -1,4 +1,4 @@
-use Rattle.std.proofs.Common.{◌≡◌, ◌+◌, [], drop}
+use Rattle.std.proofs.Common.{◌≡◌, drop}
 use Rattle.bloom_ast.specs.Faults as spec
 use Rattle.bloom_ast.specs.Form.{rule_forms}
 use Rattle.bloom_ast.proofs.checking.fault_in.Given as goal

@@ -1,4 +1,4 @@
-use Rattle.std.proofs.Common.{◌≡◌, ◌+◌, [], drop}
+use Rattle.std.proofs.Common.{◌≡◌, drop}
 use Rattle.blz_value.specs.FirstPlace.{first_place}
 use Rattle.bloom_ast.specs.Faults as spec
 use Rattle.bloom_ast.specs.Form.{rule_forms}

@@ -1,4 +1,4 @@
-use Rattle.std.proofs.Common.{◌≡◌, ◌+◌, [], drop}
+use Rattle.std.proofs.Common.{◌≡◌, ◌+◌, drop}
 use Rattle.bloom_ast.specs.HeadKeys as order
 use Rattle.bloom_ast.proofs.checking.place_for.Given as goal
 

@@ -1,4 +1,4 @@
-use Rattle.std.proofs.Common.{◌≡◌, take, drop, map}
+use Rattle.std.proofs.Common.{◌≡◌, drop}
 use Rattle.bloom_ast.specs.Borrowed.{names_in}
 use Rattle.std.specs.List.{position_from}
 use Rattle.std.specs.Str.{bytes_eq}

@@ -1,4 +1,4 @@
-use Rattle.std.proofs.Common.{◌≡◌, take, drop, map}
+use Rattle.std.proofs.Common.{◌≡◌, take, map}
 use Rattle.bloom_ast.specs.Borrowed.{names_in}
 use Rattle.bloom_ast.proofs.fits.seconds.Given as goal
 

@@ -1,5 +1,5 @@
-use Rattle.std.proofs.Common.{◌≡◌, ◌∷◌, drop}
-use Rattle.std.specs.List.{list_all, flat_map}
+use Rattle.std.proofs.Common.{◌≡◌, drop}
+use Rattle.std.specs.List.{list_all}
 use Rattle.bloom_ast.specs.Reserved as spec
 use Rattle.bloom_ast.proofs.reserved.are_own_pairs.Given as goal
 

@@ -8,3 +8,4 @@ mod SpelledLemmas
 mod LaidLemmas
 mod ApartLemmas
 mod MeaningLemmas
+mod LiteralLemmas

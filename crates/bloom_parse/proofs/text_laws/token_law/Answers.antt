@@ -1,5 +1,5 @@
 use Rattle.bloom_parse.proofs.LexLemmas.{one_list}
-use Rattle.bloom_parse.proofs.laws.token_law.Goals as goal
+use Rattle.bloom_parse.proofs.text_laws.token_law.Goals as goal
 
 pub returns : goal.returns
 returns c = λ text ks ls ts us rest more a b. one_list _ _ ks ls ts us rest more a b

@@ -1,17 +1,17 @@
-pub mod Machine
-pub mod Forward
-pub mod SingleLemmas
-pub mod PredicateLemmas
-pub mod PredicateAgain
-pub mod RepeatLemmas
-pub mod Flat
-pub mod ListLemmas
-pub mod ExprLemmas
-pub mod ExprAgain
-pub mod ModuleLemmas
-pub mod ModuleAgain
-pub mod PlaceLemmas
-pub mod PlainLemmas
+mod Machine
+mod Forward
+mod SingleLemmas
+mod PredicateLemmas
+mod PredicateAgain
+mod RepeatLemmas
+mod Flat
+mod ListLemmas
+mod ExprLemmas
+mod ExprAgain
+mod ModuleLemmas
+mod ModuleAgain
+mod PlaceLemmas
+mod PlainLemmas
 mod RunLemmas
 mod ByteLemmas
 mod NumberLemmas
@@ -22,4 +22,5 @@ mod SpelledLemmas
 mod LaidLemmas
 mod ApartLemmas
 mod MeaningLemmas
-pub mod TextLemmas
+mod TextLemmas
+mod LiteralLemmas

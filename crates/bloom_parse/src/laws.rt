@@ -1,16 +1,19 @@
 //! Laws of tokens, of the grammar and of what is printed, each the contract of a function that does
 //! nothing.
-ghost use Rattle.std.specs.Prelude.{◌≡◌, ◌++◌, ℕ, List};
+ghost use Rattle.std.specs.Prelude.{◌≡◌, ◌↔◌, ◌≤◌, ◌++◌, ◌∷◌, ℕ, List, Some, length};
 ghost use Rattle.std.specs.List.{All};
+ghost use Rattle.std.specs.Str.{IsUtf8};
+ghost use Rattle.blz_value.specs.Text.{escaped};
 ghost use Rattle.bloom_ast.specs.Form.{Form};
 ghost use Rattle.bloom_parse.specs.declared.terminal.Terminal.{Terminal};
+ghost use Rattle.bloom_parse.specs.declared.terminal.Terminal.TheVariants as terminals;
 ghost use Rattle.bloom_parse.specs.declared.token.Token.{Token};
 ghost use Rattle.bloom_parse.specs.Layout.{printed};
 ghost use Rattle.bloom_parse.specs.Parsing.{IsTextOf};
 ghost use Rattle.bloom_parse.specs.Places.{IsModuleText, Begins};
 ghost use Rattle.bloom_parse.specs.Plain.{IsPlain};
 ghost use Rattle.bloom_parse.specs.Printable.{IsPrintable};
-ghost use Rattle.bloom_parse.specs.Tokens.{HasTokens};
+ghost use Rattle.bloom_parse.specs.Tokens.{front, HasTokens};
 
 /// A text has one list of tokens and terminals.
 pub fn token_law()
@@ -30,4 +33,10 @@ pub fn plain_end_law()
 /// What is printed of a module is a text of it.
 pub fn print_law()
     ensures { (m : Form) → IsPrintable m → IsTextOf (printed m) m }
+{}
+
+/// Behind an opening quote the token is a text literal exactly where the text stands there with its
+/// escapes, with the closing quote behind it, has at most 64 bytes and is in UTF-8.
+pub fn literal_law()
+    ensures { (text t rest : List ℕ) → (front (34 ∷ text) ≡ Some (terminals.Text t, rest)) ↔ ((text ≡ escaped t ++ 34 ∷ rest) × (length t ≤ 64) × IsUtf8 t) }
 {}

@@ -16,7 +16,7 @@ mod single;
 mod terminal;
 mod token;
 
-pub use laws::{one_module_law, plain_end_law, print_law, token_law};
+pub use laws::{literal_law, one_module_law, plain_end_law, print_law, token_law};
 pub use lexer::tokens;
 pub use parser::parse;
 pub use printer::print;

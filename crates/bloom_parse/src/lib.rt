@@ -25,4 +25,6 @@ pub use terminal::{Mark, Terminal, Word};
 pub use token::{Class, Token};
 
 #[cfg(test)]
+mod module_tests;
+#[cfg(test)]
 mod tests;

@@ -1,9 +1,10 @@
 //! A module that was checked.
-ghost use Rattle.std.specs.Prelude.{◌≡◌};
+ghost use Rattle.std.specs.Prelude.{◌≡◌, IfOk};
 ghost use Rattle.bloom_ast.specs.Checks.{IsChecked};
 ghost use Rattle.bloom_ast.specs.Form.{form_of};
 
 use crate::module::Module;
+use std::alloc::{AllocError, Global};
 use std::marker::Model;
 
 /// A module that was checked, with the order in which a step takes its heads.
@@ -51,5 +52,18 @@ impl Checked {
         ensures { result.now ≡ self.now.heads }
     {
         &self.heads
+    }
+
+    /// An equal checked module of its own.
+    pub fn copy(&self, alloc: Global) -> Result<Checked, AllocError>
+        ensures { IfOk result (λ copy. copy ≡ self.now) }
+    {
+        let written = self.module.copy(alloc)?;
+        let mut heads = Vec::new(alloc);
+        heads.extend_from_slice(&self.heads)?;
+        Ok(Checked {
+            module: written,
+            heads,
+        })
     }
 }

@@ -165,13 +165,13 @@ fn ends_whole(text: &[u8]) -> bool {
 #[test]
 fn a_module_cut_short_is_refused(rt: HostRuntime) -> Result<(), Fail> {
     let text = COUNT.as_bytes();
-    let mut cuts = 0;
+    let mut cuts = 0usize;
     for size in 0..text.len() {
         let cut = &text[..size];
         let refused = fault_of(&rt, rt.alloc(), cut)?.is_some();
         assert_eq!(rt; refused, !ends_whole(cut), "{size}");
         if refused {
-            cuts += 1;
+            cuts = cuts.saturating_add(1);
         }
     }
     assert_eq!(rt; cuts, 172);

@@ -1,13 +1,12 @@
 -- Names that are borrowed.
-use Rattle.std.proofs.Common.{◌≡◌, ◌||◌, ◌&&◌, ◌==◌, if◌then◌else◌, length, ◌+◌, ◌++◌, ◌∙◌, not, ℕ, ℤ, pos, int_lt, List, [], ◌∷◌, map, refl, ap, sym, inl, inr, Bool, true, false, Option, Some, None}
+use Rattle.std.proofs.Common.{◌≡◌, ◌||◌, ◌&&◌, ◌==◌, if◌then◌else◌, length, ◌+◌, ◌++◌, ◌∙◌, not, ℕ, List, [], ◌∷◌, map, refl, ap, sym, inl, inr, Bool, true, false, Option, Some, None}
 use Rattle.std.specs.Option.{option_and_then}
 use Rattle.std.specs.List.{filter, enumerate_from}
 use Rattle.std.proofs.lemmas.Bool.{cases_Bool}
 use Rattle.blz_value.specs.Operators.{is_paired}
 use Rattle.bloom_ast.specs.Borrowed.{is_in_pair, others_from, keep, fitting}
 use Rattle.bloom_ast.specs.Columns.{column_number, pair_numbers, joined_columns, columns_of}
-use Rattle.bloom_ast.specs.Fits.{are_columns, items_fit, pairs_fit, keys_fit, aggregate_fits, operator_fits, query_fits}
-use Rattle.bloom_ast.specs.declared.expr.NamedAgg.{NamedAgg}
+use Rattle.bloom_ast.specs.Fits.{are_columns, operator_fits, query_fits}
 use Rattle.bloom_ast.specs.Query.{Name, Query}
 use Rattle.bloom_ast.specs.Query.Query.{base, select, project, join, notin, group, at_least}
 
@@ -61,17 +60,3 @@ misfit_some declared q columns head e = some (query_fits declared q) (sym (found
     some : (b : Bool) → (if b then Some (columns_of declared q) else None) ≡ Some columns → not (b && length (columns_of declared q) == length head) ≡ not (length columns == length head)
     some true e = let same : columns_of declared q ≡ columns = cc in rw same refl
     some false e = cc
-
--- what the walk finds at an operator, told what it found of the parts
-
-pub at_project : (declared : Name → List Name) (q : Query) (items : List (Name × Name)) (columns names : List Name) (fit : Bool) → Some columns ≡ fitting declared q → names ≡ map (λ item. item.1) items → fit ≡ items_fit columns items → keep names fit ≡ fitting declared (project q items)
-at_project declared q items columns names fit e f g = rw (← e, f, g) refl
-
-pub at_notin : (declared : Name → List Name) (a b : Query) (pairs : List (Name × Name)) (left right : List Name) (fit : Bool) → Some left ≡ fitting declared a → Some right ≡ fitting declared b → fit ≡ pairs_fit left right pairs → keep left fit ≡ fitting declared (notin a b pairs)
-at_notin declared a b pairs left right fit e f g = rw (← e, ← f, g) refl
-
-pub at_group : (declared : Name → List Name) (q : Query) (keys : List Name) (agg : NamedAgg) (name : Name) (columns names : List Name) (fit : Bool) → Some columns ≡ fitting declared q → names ≡ keys ++ name ∷ [] → fit ≡ (keys_fit columns keys && aggregate_fits columns agg) → keep names fit ≡ fitting declared (group q keys agg name)
-at_group declared q keys agg name columns names fit e f g = rw (← e, f, g) refl
-
-pub at_bound : (declared : Name → List Name) (q : Query) (keys : List Name) (bound : ℤ) (columns names : List Name) (fit : Bool) → Some columns ≡ fitting declared q → names ≡ keys → fit ≡ (keys_fit columns keys && int_lt (pos 0) bound) → keep names fit ≡ fitting declared (at_least q keys bound)
-at_bound declared q keys bound columns names fit e f g = rw (← e, f, g) refl

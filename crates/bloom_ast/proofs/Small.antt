@@ -1,9 +1,7 @@
 -- A checked module has at most 32 collections, each with at most eight columns.
-use Rattle.std.proofs.Common.{ℕ, ◌≡◌, ◌≤◌, Bool, true, false, IsTrue, arith, List, length, nat_lt, All, get_or}
-use Rattle.blz_value.specs.Members.{Has}
+use Rattle.std.proofs.Common.{ℕ, ◌≤◌, IsTrue, arith, List, length, get_or}
 use Rattle.blz_value.proofs.Membership.{Has-get_or}
-use Rattle.bloom_ast.specs.declared.module.Collection.{Collection}
-use Rattle.bloom_ast.specs.Checks.{IsCollection, IsChecked}
+use Rattle.bloom_ast.specs.Checks.{IsChecked}
 use Rattle.bloom_ast.specs.Fits.{is_width}
 use Rattle.bloom_ast.specs.Form.{Form}
 use Rattle.bloom_ast.specs.Program.{IsSmall}

@@ -1,5 +1,6 @@
 //! The columns of an expression, and whether they fit its operators.
-ghost use Rattle.std.specs.Prelude.{◌≡◌, ◌∷◌, [], ◌++◌, ◌<◌, drop, map, length, IfOk};
+ghost use Rattle.std.specs.Prelude.{◌≡◌, ◌∷◌, [], ◌++◌, ◌&&◌, true, pos, int_lt, ◌<◌, drop, map, length, IfOk};
+ghost use Rattle.std.specs.Option.{option_and_then};
 ghost use Rattle.fd_closure.specs.Names as places;
 ghost use Rattle.bloom_ast.specs.Borrowed.{names_in, is_in_pair, others_from, keep, fitting, found_in};
 ghost use Rattle.bloom_ast.specs.Columns as columns_spec;
@@ -188,31 +189,106 @@ fn joined<'a>(
     Ok(refs)
 }
 
-// The columns of a join of parts with these columns.
+// A collection's columns.
+fn base_columns<'a>(alloc: Global, names: &'a [Str]) -> Result<Option<Vec<&'a Str>>, AllocError>
+    ensures { IfOk result (λ found. found_in found ≡ keep names.now true) }
+{
+    let columns = borrowed(alloc, names)?;
+    Ok(kept(columns, true))
+}
+
+// The columns of a selection, given its part's.
+fn select_columns<'a>(part: Option<Vec<&'a Str>>, pred: &Pred) -> Option<Vec<&'a Str>>
+    ensures { found_in result ≡ option_and_then (λ columns. keep columns (spec.formula_fits columns (formula_of pred.now))) (found_in part.entry) }
+{
+    let columns = part?;
+    let fit = pred_fits(&columns, pred);
+    kept(columns, fit)
+}
+
+// The columns of a projection, given its part's.
+fn project_columns<'a>(
+    alloc: Global,
+    part: Option<Vec<&'a Str>>,
+    items: &'a [(Str, Str)],
+) -> Result<Option<Vec<&'a Str>>, AllocError>
+    ensures { IfOk result (λ found. found_in found ≡ option_and_then (λ columns. keep (map (λ item. item.1) items.now) (spec.items_fit columns items.now)) (found_in part.entry)) }
+{
+    let Some(columns) = part else {
+        return Ok(None);
+    };
+    let fit = items_fit(&columns, items);
+    let names = seconds(alloc, items)?;
+    Ok(kept(names, fit))
+}
+
+// The columns of a join, given its parts'.
 fn join_columns<'a>(
     alloc: Global,
-    left: Vec<&'a Str>,
-    right: Vec<&'a Str>,
+    left: Option<Vec<&'a Str>>,
+    right: Option<Vec<&'a Str>>,
     pairs: &[(Str, Str)],
 ) -> Result<Option<Vec<&'a Str>>, AllocError>
-    ensures { IfOk result (λ found. found_in found ≡ keep (columns_spec.joined_columns (names_in left.entry.items) (names_in right.entry.items) pairs.now) (spec.pairs_fit (names_in left.entry.items) (names_in right.entry.items) pairs.now)) }
+    ensures { IfOk result (λ found. found_in found ≡ option_and_then (λ a. option_and_then (λ b. keep (columns_spec.joined_columns a b pairs.now) (spec.pairs_fit a b pairs.now)) (found_in right.entry)) (found_in left.entry)) }
 {
+    let (Some(left), Some(right)) = (left, right) else {
+        return Ok(None);
+    };
     let fit = pairs_fit(alloc, &left, &right, pairs)?;
     let columns = joined(left, &right, pairs)?;
     Ok(kept(columns, fit))
 }
 
-// The keys, followed by the name.
+// The columns of a left part without its matches, given its parts'.
+fn not_in_columns<'a>(
+    alloc: Global,
+    left: Option<Vec<&'a Str>>,
+    right: Option<Vec<&'a Str>>,
+    pairs: &[(Str, Str)],
+) -> Result<Option<Vec<&'a Str>>, AllocError>
+    ensures { IfOk result (λ found. found_in found ≡ option_and_then (λ a. option_and_then (λ b. keep a (spec.pairs_fit a b pairs.now)) (found_in right.entry)) (found_in left.entry)) }
+{
+    let (Some(left), Some(right)) = (left, right) else {
+        return Ok(None);
+    };
+    let fit = pairs_fit(alloc, &left, &right, pairs)?;
+    Ok(kept(left, fit))
+}
+
+// The columns of a grouping, given its part's: the keys, followed by the name.
 fn group_columns<'a>(
     alloc: Global,
+    part: Option<Vec<&'a Str>>,
     keys: &'a [Str],
+    agg: &NamedAgg,
     name: &'a Str,
-) -> Result<Vec<&'a Str>, AllocError>
-    ensures { IfOk result (λ refs. names_in refs.items ≡ keys.now ++ name.now ∷ []) }
+) -> Result<Option<Vec<&'a Str>>, AllocError>
+    ensures { IfOk result (λ found. found_in found ≡ option_and_then (λ columns. keep (keys.now ++ name.now ∷ []) (spec.keys_fit columns keys.now && spec.aggregate_fits columns agg.now)) (found_in part.entry)) }
 {
-    let mut refs = borrowed(alloc, keys)?;
-    refs.push(name)?;
-    Ok(refs)
+    let Some(columns) = part else {
+        return Ok(None);
+    };
+    let fit = keys_fit(&columns, keys) && aggregate_fits(&columns, agg);
+    let mut names = borrowed(alloc, keys)?;
+    names.push(name)?;
+    Ok(kept(names, fit))
+}
+
+// The columns of groups of at least a size, given their part's: the keys.
+fn at_least_columns<'a>(
+    alloc: Global,
+    part: Option<Vec<&'a Str>>,
+    keys: &'a [Str],
+    bound: i64,
+) -> Result<Option<Vec<&'a Str>>, AllocError>
+    ensures { IfOk result (λ found. found_in found ≡ option_and_then (λ columns. keep keys.now (spec.keys_fit columns keys.now && int_lt (pos 0) bound)) (found_in part.entry)) }
+{
+    let Some(columns) = part else {
+        return Ok(None);
+    };
+    let fit = keys_fit(&columns, keys) && 0 < bound;
+    let names = borrowed(alloc, keys)?;
+    Ok(kept(names, fit))
 }
 
 // The columns of an expression that fits, None where it doesn't.
@@ -224,56 +300,32 @@ fn fitting_columns<'a>(
     ensures { IfOk result (λ found. found_in found ≡ fitting (lookup.declared collections.now) (query_of expr.now)) }
 {
     match expr {
-        Expr::Base(name) => {
-            let columns = borrowed(alloc, declared(collections, name))?;
-            Ok(kept(columns, true))
-        }
+        Expr::Base(name) => base_columns(alloc, declared(collections, name)),
         Expr::Select(part, pred) => {
-            let Some(columns) = fitting_columns(alloc, collections, part)? else {
-                return Ok(None);
-            };
-            let fit = pred_fits(&columns, pred);
-            Ok(kept(columns, fit))
+            let part = fitting_columns(alloc, collections, part)?;
+            Ok(select_columns(part, pred))
         }
         Expr::Project(part, items) => {
-            let Some(columns) = fitting_columns(alloc, collections, part)? else {
-                return Ok(None);
-            };
-            let fit = items_fit(&columns, items.as_slice());
-            Ok(kept(seconds(alloc, items.as_slice())?, fit))
+            let part = fitting_columns(alloc, collections, part)?;
+            project_columns(alloc, part, items.as_slice())
         }
         Expr::Join(a, b, pairs) => {
-            let Some(left) = fitting_columns(alloc, collections, a)? else {
-                return Ok(None);
-            };
-            let Some(right) = fitting_columns(alloc, collections, b)? else {
-                return Ok(None);
-            };
+            let left = fitting_columns(alloc, collections, a)?;
+            let right = fitting_columns(alloc, collections, b)?;
             join_columns(alloc, left, right, pairs.as_slice())
         }
         Expr::NotIn(a, b, pairs) => {
-            let Some(left) = fitting_columns(alloc, collections, a)? else {
-                return Ok(None);
-            };
-            let Some(right) = fitting_columns(alloc, collections, b)? else {
-                return Ok(None);
-            };
-            let fit = pairs_fit(alloc, &left, &right, pairs.as_slice())?;
-            Ok(kept(left, fit))
+            let left = fitting_columns(alloc, collections, a)?;
+            let right = fitting_columns(alloc, collections, b)?;
+            not_in_columns(alloc, left, right, pairs.as_slice())
         }
         Expr::Group(part, keys, agg, name) => {
-            let Some(columns) = fitting_columns(alloc, collections, part)? else {
-                return Ok(None);
-            };
-            let fit = keys_fit(&columns, keys.as_slice()) && aggregate_fits(&columns, agg);
-            Ok(kept(group_columns(alloc, keys.as_slice(), name)?, fit))
+            let part = fitting_columns(alloc, collections, part)?;
+            group_columns(alloc, part, keys.as_slice(), agg, name)
         }
         Expr::AtLeast(part, keys, bound) => {
-            let Some(columns) = fitting_columns(alloc, collections, part)? else {
-                return Ok(None);
-            };
-            let fit = keys_fit(&columns, keys.as_slice()) && 0 < *bound;
-            Ok(kept(borrowed(alloc, keys.as_slice())?, fit))
+            let part = fitting_columns(alloc, collections, part)?;
+            at_least_columns(alloc, part, keys.as_slice(), *bound)
         }
     }
 }

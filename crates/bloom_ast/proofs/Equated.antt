@@ -59,12 +59,12 @@ module _ (form : Form) where
       record { rule = rule; stands = m.0; head = eqb-true (collection_number form.collections rule.0) h m.1; name = n; read = names; is = refl }
 
   -- a rule of the first of some heads names none of them
-  names_none : (h : ℕ) (heads : List ℕ) → InOrder form.collections form.rules (h ∷ heads) → (rule : RuleForm) (n : Name) → Has rule (rules_at form.collections form.rules h) → Has n (names_of rule.1) → ¬ Has (collection_number form.collections n) (h ∷ heads)
+  pub names_none : (h : ℕ) (heads : List ℕ) → InOrder form.collections form.rules (h ∷ heads) → (rule : RuleForm) (n : Name) → Has rule (rules_at form.collections form.rules h) → Has n (names_of rule.1) → ¬ Has (collection_number form.collections n) (h ∷ heads)
   names_none h heads order rule n of_head names stands = order.1 (collection_number form.collections n) stands (rule_of h rule n of_head names)
 
   -- ---- the heads one after the other
 
-  untouched : (heads : List ℕ) (sets : Sets) (k : ℕ) → ¬ Has k heads → set_at (fold (with_head form) sets heads) k ≡ set_at sets k
+  pub untouched : (heads : List ℕ) (sets : Sets) (k : ℕ) → ¬ Has k heads → set_at (fold (with_head form) sets heads) k ≡ set_at sets k
   untouched [] sets k lacks = refl
   untouched (h ∷ heads) sets k lacks = untouched heads (with_head form sets h) k (λ m. lacks (inr m)) ∙ get_or-set_other sets h k _ [] (λ e. lacks (inl (sym e)))
 
@@ -116,7 +116,7 @@ begun-past [] k le = refl
 begun-past (c ∷ cs) zero le = absurd (omega arith)
 begun-past (c ∷ cs) (suc k) le = begun-past cs k (omega (arith, le))
 
-starts : (cs : List Collection) (kept now : Sets) (k : ℕ) → set_at (at_start cs kept now) k ≡ begun_at cs kept now k
+pub starts : (cs : List Collection) (kept now : Sets) (k : ℕ) → set_at (at_start cs kept now) k ≡ begun_at cs kept now k
 starts cs kept now k = elim (cases_lt k (length cs)) [
   | inl lt ↦ get_or-map-range_with_len (begun_at cs kept now) 0 (length cs) k k [] lt (omega arith)
   | inr le ↦

@@ -2,3 +2,6 @@ pub mod ColumnLemmas
 pub mod Wide
 pub mod Evaluation
 pub mod Rules
+pub mod Beginning
+pub mod Widths
+pub mod Taking

@@ -4,3 +4,6 @@ pub mod Tests
 pub mod Evaluates
 pub mod Counted
 pub mod StepAnswers
+pub mod Begin
+pub mod Taken
+pub mod Finish

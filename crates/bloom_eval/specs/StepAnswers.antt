@@ -8,8 +8,7 @@ use Rattle.bloom_ast.specs.Form.{RuleForm, Accepted}
 use Rattle.bloom_ast.specs.Lookup.{collection_number, declared}
 use Rattle.bloom_ast.specs.Columns.{columns_of}
 use Rattle.bloom_ast.specs.Heads.{IsOrdered}
-use Rattle.bloom_ast.specs.Step.{Sets, set_at, at_end, tables_after, outputs_of}
-use Rattle.bloom_ast.specs.Equations.{end_env}
+use Rattle.bloom_ast.specs.Step.{Sets, set_at, rows_named, at_end, tables_after, outputs_of}
 use Rattle.bloom_eval.specs.declared.fault.StepFault.{StepFault}
 use Rattle.bloom_eval.specs.declared.fault.StepFault.TheVariants.{TooManyRows, NoMemory}
 use Rattle.bloom_eval.specs.Parts.{AreWide}
@@ -31,9 +30,13 @@ pub record IsRunnable (a : Accepted) : Type 0 where
 abbrev pub AreSetsOf : List (List Name) → Sets → Type 0
 AreSetsOf columns sets = AllZip (λ names rows. AreWide (length names) rows) columns sets
 
--- the sets that count in a step: what the tables, scratches and outputs hold at its end, and the rows of each part of each rule's body
+-- the sets that count, where the collections hold these at the end: the sets of tables, scratches and outputs, and the rows of each part of each rule's body
+abbrev pub counted_at : Accepted → Sets → Sets
+counted_at a end = map (set_at end) a.heads ++ rule_sets (declared a.form.collections) (rows_named a.form.collections end) a.form.rules
+
+-- the sets that count in a step
 abbrev pub counted_sets : Accepted → (kept now : Sets) → Sets
-counted_sets a kept now = map (set_at (at_end a kept now)) a.heads ++ rule_sets (declared a.form.collections) (end_env a kept now) a.form.rules
+counted_sets a kept now = counted_at a (at_end a kept now)
 
 -- the new tables and the outputs of a step; TooManyRows comes exactly where a set that counts has too many rows
 abbrev pub StepGives : Accepted → (kept now new : Sets) → Result Sets StepFault → Type 0

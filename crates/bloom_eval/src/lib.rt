@@ -2,12 +2,15 @@
 //! it reads.
 #![tactic(auto)]
 
+mod begin;
 mod columns;
 mod evaluate;
 mod fault;
+mod finish;
 mod part;
 mod sets;
 mod step;
 
 pub use fault::StepFault;
 pub use sets::{Arrivals, Kept, Outs};
+pub use step::step_plain;

@@ -1,5 +1,5 @@
 //! The rows of expressions, with the names of their columns.
-ghost use Rattle.std.specs.Prelude.{◌≡◌, ◌≤◌, ◌∷◌, ◌++◌, [], List, length, map, IfOk};
+ghost use Rattle.std.specs.Prelude.{◌≡◌, ◌≤◌, ◌<◌, ◌∷◌, ◌++◌, [], List, length, map, slice_set, IfOk};
 ghost use Rattle.blz_value.specs.Record.{Row};
 ghost use Rattle.blz_value.specs.Sets.{set_of};
 ghost use Rattle.blz_value.specs.Operators.{is_paired, unpaired, select_rows, project_rows, join_rows, notin_rows};
@@ -9,7 +9,8 @@ ghost use Rattle.blz_set.specs.RecordSet.{IsRecordSet};
 ghost use Rattle.bloom_ast.specs.Form.{formula_of};
 ghost use Rattle.bloom_ast.specs.Columns as spec;
 ghost use Rattle.bloom_ast.specs.Rows as rows;
-ghost use Rattle.bloom_eval.specs.Parts.{rows_in, shown, AreWide};
+ghost use Rattle.bloom_ast.specs.Step.{set_at};
+ghost use Rattle.bloom_eval.specs.Parts.{rows_in, sets_in, shown, AreWide};
 ghost use Rattle.bloom_eval.specs.Tests.{FormulaFits};
 ghost use Rattle.bloom_eval.specs.Evaluates.{GivesPart};
 
@@ -18,6 +19,7 @@ use bloom_ast::{NamedAgg, Pred};
 use blz_set::{RecordSet, SetFault};
 use blz_value::Str;
 use std::alloc::{AllocError, Global};
+use std::mem;
 
 /// A set that is lent or owned.
 #[derive(Drop)]
@@ -51,6 +53,15 @@ impl<'a> Rows<'a> {
             Rows::Own(set) => Ok(set),
         }
     }
+}
+
+/// Takes the rows of a collection, and leaves the empty set in their place.
+pub(crate) fn take_rows<'a>(alloc: Global, held: &mut Vec<Rows<'a>>, number: usize) -> Rows<'a>
+    requires { number < length held.old.items }
+    ensures taken { rows_in result ≡ set_at (sets_in held.old.items) number }
+    ensures left { sets_in held.new.items ≡ slice_set (sets_in held.old.items) number [] }
+{
+    mem::replace(&mut held[number], Rows::Own(RecordSet::new(alloc)))
 }
 
 /// Rows, and the names of their columns.

@@ -1,20 +1,27 @@
 //! One step of a module.
-ghost use Rattle.std.specs.Prelude.{◌≡◌, ◌<◌, ◌==◌, [], length, slice_set, IfOk};
+ghost use Rattle.std.specs.Prelude.{◌≡◌, ◌<◌, ◌==◌, [], length, slice_set, IfOk, OnOk};
 ghost use Rattle.blz_value.specs.Members.{Has};
 ghost use Rattle.bloom_ast.specs.Query.{Name};
 ghost use Rattle.bloom_ast.specs.Form.{RuleForm, query_of, rule_forms};
 ghost use Rattle.bloom_ast.specs.Lookup.{collection_number, declared};
+ghost use Rattle.bloom_ast.specs.declared.module.Kind.TheVariants.{Input, Table};
+ghost use Rattle.bloom_ast.specs.Program.{columns_of_kind};
 ghost use Rattle.bloom_ast.specs.Step.{set_at, rows_named, rules_at};
 ghost use Rattle.bloom_eval.specs.Parts.{sets_in, AreWide};
 ghost use Rattle.bloom_eval.specs.Evaluates.{IsGood};
 ghost use Rattle.bloom_eval.specs.Counted.{AddsOne, Adds, TakesHead};
+ghost use Rattle.bloom_eval.specs.StepAnswers.{IsRunnable, AreSetsOf, StepGives};
+ghost use Rattle.bloom_eval.specs.Taken.{ordered_by, AreSetsOfAll, AreBegun, TakesHeads};
 
+use crate::begin::begin;
 use crate::evaluate::{evaluate, number_of};
-use crate::part::Rows;
-use bloom_ast::{Collection, Rule};
+use crate::fault::StepFault;
+use crate::finish::finish;
+use crate::part::{Rows, take_rows};
+use crate::sets::{Arrivals, Kept, Outs};
+use bloom_ast::{Checked, Collection, Module, Rule};
 use blz_set::{RecordSet, SetFault};
 use std::alloc::{AllocError, Global};
-use std::mem;
 
 // Whether a rule is one of the collection with the number.
 fn is_rule_of(collections: &[Collection], rule: &Rule, head: usize) -> bool
@@ -74,7 +81,7 @@ fn take_set(alloc: Global, held: &mut Vec<Rows<'_>>, number: usize) -> Result<Re
     ensures taken { IfOk result (λ set. set ≡ set_at (sets_in held.old.items) number) }
     ensures left { sets_in held.new.items ≡ slice_set (sets_in held.old.items) number [] }
 {
-    mem::replace(&mut held[number], Rows::Own(RecordSet::new(alloc))).into_set()
+    take_rows(alloc, held, number).into_set()
 }
 
 // Makes a set that of a collection.
@@ -103,4 +110,49 @@ fn take_head<'a>(
     add_rules(alloc, collections, rules, held, head, &mut set)?;
     put_set(held, head, set);
     Ok(())
+}
+
+// Takes the heads of a module in their order.
+fn take_heads(
+    alloc: Global,
+    written: &Module,
+    heads: &[u32],
+    held: &mut Vec<Rows<'_>>,
+) -> Result<(), SetFault>
+    requires runnable { IsRunnable (ordered_by written.now heads.now) }
+    requires begun { AreBegun written.now.collections (sets_in held.old.items) }
+    ensures taken { TakesHeads (ordered_by written.now heads.now) (sets_in held.old.items) (sets_in held.new.items) result }
+    ensures wide { OnOk result (AreSetsOfAll written.now.collections (sets_in held.new.items)) }
+{
+    let collections = written.collections.as_slice();
+    let rules = written.rules.as_slice();
+    for head in heads {
+        take_head(alloc, collections, rules, held, *head as usize)?;
+    }
+    Ok(())
+}
+
+/// One step of a module that was checked: `kept` becomes the new tables, and the answer is the outputs.
+/// TooManyRows comes exactly where a table after the step, a scratch, an output, or an expression or a
+/// part of one in a rule has more than 262,144 rows in this step. After a fault each table is as it
+/// was or empty.
+pub fn step_plain(
+    alloc: Global,
+    program: &Checked,
+    kept: &mut Kept,
+    now: &Arrivals,
+) -> Result<Outs, StepFault>
+    requires runnable { IsRunnable program.now }
+    requires tables { AreSetsOf (columns_of_kind Table program.now.form.collections) kept.old }
+    requires ports { AreSetsOf (columns_of_kind Input program.now.form.collections) now.now }
+    ensures step { StepGives program.now kept.old now.now kept.new result }
+    ensures tables { AreSetsOf (columns_of_kind Table program.now.form.collections) kept.new }
+{
+    let written = program.module();
+    let collections = written.collections.as_slice();
+    let mut held = begin(alloc, collections, kept, now.sets())?;
+    take_heads(alloc, written, program.heads(), &mut held)?;
+    let (tables, outs) = finish(alloc, collections, held)?;
+    *kept = tables;
+    Ok(outs)
 }

@@ -5,3 +5,4 @@ pub mod Rules
 pub mod Beginning
 pub mod Widths
 pub mod Taking
+pub mod Runnable

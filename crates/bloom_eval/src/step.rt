@@ -142,7 +142,6 @@ pub fn step_plain(
     kept: &mut Kept,
     now: &Arrivals,
 ) -> Result<Outs, StepFault>
-    requires runnable { IsRunnable program.now }
     requires tables { AreSetsOf (columns_of_kind Table program.now.form.collections) kept.old }
     requires ports { AreSetsOf (columns_of_kind Input program.now.form.collections) now.now }
     ensures step { StepGives program.now kept.old now.now kept.new result }

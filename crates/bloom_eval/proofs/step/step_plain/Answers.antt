@@ -9,13 +9,14 @@ use Rattle.bloom_ast.specs.Step.{Sets, at_start, sets_of_kind}
 use Rattle.bloom_eval.specs.Parts.{rows_in, sets_in}
 use Rattle.bloom_eval.specs.StepAnswers.{IsRunnable, AreSetsOf}
 use Rattle.bloom_eval.specs.Taken.{ordered_by, AreSetsOfAll, AreBegun, TakesHeads}
+use Rattle.bloom_eval.proofs.Runnable.{runnable}
 use Rattle.bloom_eval.proofs.Widths.{length-sets_of, length-sets_of_all, kinds_wide, are_begun, left_wide}
 use Rattle.bloom_eval.proofs.step.step_plain.Goals as goal
 
 pub begin-requires-clause-tables : goal.begin-requires-clause-tables
 begin-requires-clause-tables c =
     let cs = c.args.program.now.form.collections in
-    let same = c.as_slice-collections.ensures ∙ ap (λ (f : Form). f.collections) c.module-written.ensures in
+    let same = c.as_slice-collections.ensures ∙ ap (λ (f : Form). f.collections) c.module-written.ensures.form in
     length-sets_of (columns_of_kind Table cs) c.args.kept.now c.requires.tables
     ∙ length-map (of_kind Table cs) (λ (d : Collection). d.columns)
     ∙ sym (ap (λ own. length (of_kind Table own)) same)
@@ -23,7 +24,7 @@ begin-requires-clause-tables c =
 pub begin-requires-clause-ports : goal.begin-requires-clause-ports
 begin-requires-clause-ports c =
     let cs = c.args.program.now.form.collections in
-    let same = c.as_slice-collections.ensures ∙ ap (λ (f : Form). f.collections) c.module-written.ensures in
+    let same = c.as_slice-collections.ensures ∙ ap (λ (f : Form). f.collections) c.module-written.ensures.form in
     ap length c.sets.ensures
     ∙ length-sets_of (columns_of_kind Input cs) c.args.now.now c.requires.ports
     ∙ length-map (of_kind Input cs) (λ (d : Collection). d.columns)
@@ -34,12 +35,12 @@ returns-in_err-held-clause-tables c = left_wide (columns_of_kind Table c.args.pr
 
 pub take_heads-requires-clause-runnable : goal.take_heads-requires-clause-runnable
 take_heads-requires-clause-runnable c =
-    let is : ordered_by c.module-written.result.now c.heads.result.now ≡ c.args.program.now = λ i. record { form = c.module-written.ensures i; heads = c.heads.ensures i } in
-    subst IsRunnable (sym is) c.requires.runnable
+    let is : ordered_by c.module-written.result.now c.heads.result.now ≡ c.args.program.now = λ i. record { form = c.module-written.ensures.form i; heads = c.heads.ensures i } in
+    subst IsRunnable (sym is) (runnable c.args.program.now c.module-written.ensures.checked)
 
 pub take_heads-requires-clause-begun : goal.take_heads-requires-clause-begun
 take_heads-requires-clause-begun c =
-    let own = ap (λ (f : Form). f.collections) c.module-written.ensures in
+    let own = ap (λ (f : Form). f.collections) c.module-written.ensures.form in
     let same = c.as_slice-collections.ensures ∙ own in
     let begun = c.in_ok-held.ensures.begun ∙ (λ i. at_start (same i) c.args.kept.now (c.sets.ensures i)) in
     let there = sym own in
@@ -60,8 +61,8 @@ returns-in_err-tables-clause-tables c = left_wide (columns_of_kind Table c.args.
 
 pub returns-clause-step : goal.returns-clause-step
 returns-clause-step c =
-    let is : ordered_by c.module-written.result.now c.heads.result.now ≡ c.args.program.now = λ i. record { form = c.module-written.ensures i; heads = c.heads.ensures i } in
-    let same = c.as_slice-collections.ensures ∙ ap (λ (f : Form). f.collections) c.module-written.ensures in
+    let is : ordered_by c.module-written.result.now c.heads.result.now ≡ c.args.program.now = λ i. record { form = c.module-written.ensures.form i; heads = c.heads.ensures i } in
+    let same = c.as_slice-collections.ensures ∙ ap (λ (f : Form). f.collections) c.module-written.ensures.form in
     let begun = c.in_ok-held.ensures.begun ∙ (λ i. at_start (same i) c.args.kept.now (c.sets.ensures i)) in
     let end = sets_in c.take_heads.new.held.items in
     let taken : TakesHeads {X = Unit {0}} c.args.program.now (at_start c.args.program.now.form.collections c.args.kept.now c.args.now.now) end (Ok (tt {0})) =
@@ -70,7 +71,7 @@ returns-clause-step c =
 
 pub returns-clause-tables : goal.returns-clause-tables
 returns-clause-tables c =
-    let own = ap (λ (f : Form). f.collections) c.module-written.ensures in
+    let own = ap (λ (f : Form). f.collections) c.module-written.ensures.form in
     let end = sets_in c.take_heads.new.held.items in
     subst (λ (sets : Sets). AreSetsOf (columns_of_kind Table c.args.program.now.form.collections) sets) (sym (c.in_ok-tables.ensures.tables ∙ ap (λ cs. sets_of_kind Table cs end) (c.as_slice-collections.ensures ∙ own)))
     (kinds_wide Table c.args.program.now.form.collections end (subst (λ cs. AreSetsOfAll cs end) own c.in_ok-take_heads.ensures.wide))

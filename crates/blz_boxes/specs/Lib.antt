@@ -1,0 +1,4 @@
+pub mod Kind
+pub mod ModuleOver
+pub mod Step
+pub mod Texts

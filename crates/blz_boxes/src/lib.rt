@@ -1,0 +1,12 @@
+//! Shells: programs that are stepped, behind one interface.
+#![tactic(auto)]
+
+mod component;
+mod kind;
+mod program;
+mod split;
+mod words;
+
+pub use component::Component;
+pub use kind::ProgramKind;
+pub use split::SplitShell;

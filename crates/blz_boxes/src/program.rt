@@ -1,0 +1,28 @@
+//! Parts of programs and of answers.
+ghost use Rattle.std.specs.Prelude.{◌≡◌, [], ◌∷◌, IfOk, OnOk};
+
+use bloom_eval::Outs;
+use blz_set::RecordSet;
+use blz_value::{Items, Str};
+use std::alloc::{AllocError, Global};
+
+/// A list of columns of its own.
+pub(crate) fn copy_columns(alloc: Global, columns: &Items<Str>) -> Result<Items<Str>, AllocError>
+    ensures { IfOk result (λ copy. copy ≡ columns.now) }
+{
+    let mut copies = Vec::new(alloc);
+    for column in columns.as_slice() {
+        copies.push(column.copy()?)?;
+    }
+    Ok(Items::from_vec(copies))
+}
+
+/// Makes the outputs this one set.
+pub(crate) fn put_out(alloc: Global, outs: &mut Outs, set: RecordSet) -> Result<(), AllocError>
+    ensures { OnOk result (outs.new ≡ set ∷ []) }
+{
+    let mut sets = Vec::new(alloc);
+    sets.push(set)?;
+    *outs = Outs::from_sets(sets);
+    Ok(())
+}

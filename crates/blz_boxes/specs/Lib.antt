@@ -1,4 +1,5 @@
 pub mod Kind
+pub mod KeptRecords
 pub mod ModuleOver
 pub mod Step
 pub mod Texts

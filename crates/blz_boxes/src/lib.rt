@@ -3,10 +3,13 @@
 
 mod component;
 mod kind;
+mod latest;
+mod latest_table;
 mod program;
 mod split;
 mod words;
 
 pub use component::Component;
 pub use kind::ProgramKind;
+pub use latest::LatestShell;
 pub use split::SplitShell;

@@ -6,6 +6,9 @@ use blz_set::RecordSet;
 use blz_value::{Items, Str};
 use std::alloc::{AllocError, Global};
 
+/// The most rows of a set.
+pub(crate) const ROW_LIMIT: usize = 262_144;
+
 /// A list of columns of its own.
 pub(crate) fn copy_columns(alloc: Global, columns: &Items<Str>) -> Result<Items<Str>, AllocError>
     ensures { IfOk result (λ copy. copy ≡ columns.now) }
@@ -15,6 +18,13 @@ pub(crate) fn copy_columns(alloc: Global, columns: &Items<Str>) -> Result<Items<
         copies.push(column.copy()?)?;
     }
     Ok(Items::from_vec(copies))
+}
+
+/// A list of numbers of its own.
+pub(crate) fn copy_numbers(alloc: Global, numbers: &Items<u32>) -> Result<Items<u32>, AllocError>
+    ensures { IfOk result (λ copy. copy ≡ numbers.now) }
+{
+    Ok(Items::from_vec(Vec::from_slice(alloc, numbers.as_slice())?))
 }
 
 /// Makes the outputs this one set.

@@ -89,7 +89,7 @@ words_end old new all rest none is_new was =
 abbrev pub word_rows : Row → ℕ → List (List ℕ) → List Row
 word_rows row split found = map (λ word. remove row split ++ Int (pos word.0) ∷ Text word.1 ∷ []) (enumerate_from 1 found)
 
-enumerate_from-push : {X : Type 0} (n : ℕ) (xs : List X) (x : X) → enumerate_from n (xs ++ x ∷ []) ≡ enumerate_from n xs ++ (n + length xs, x) ∷ []
+pub enumerate_from-push : {X : Type 0} (n : ℕ) (xs : List X) (x : X) → enumerate_from n (xs ++ x ∷ []) ≡ enumerate_from n xs ++ (n + length xs, x) ∷ []
 enumerate_from-push n [] x = ap (λ k. (k, x) ∷ []) (omega arith)
 enumerate_from-push n (y ∷ ys) x = ap (λ ps. (n, y) ∷ ps) (enumerate_from-push (n + 1) ys x ∙ ap (λ k. enumerate_from (n + 1) ys ++ (k, x) ∷ []) (omega arith))
 

@@ -59,20 +59,20 @@ module _ (columns : List ℕ) (row : Row) (old new : BTreeMap Row Row) (updates 
   value_new =
       value_there new (cells columns row) row (updates (cells columns row) ∙ ap (λ b. cond b (Some row) (get record_cmp old (cells columns row))) (ap is_eq (tied_itself record_cmp_total (cells columns row))))
 
--- as many records as entries
-count_entries : (columns : List ℕ) (es : List (Row × Row)) → IsStrictlySortedBy record_cmp (keys_of es) → ((e : Row × Row) → Has e es → e.0 ≡ cells columns e.1) → length (set_of (values_of es)) ≡ length es
+-- as many records as entries, where each entry's key can be read from its record
+pub count_entries : {V : Type 0} (key_of : Row → Row) (record_of : Row × V → Row) (es : List (Row × V)) → IsStrictlySortedBy record_cmp (keys_of es) → ((e : Row × V) → Has e es → e.0 ≡ key_of (record_of e)) → length (set_of (map record_of es)) ≡ length es
 unfolding IsStrictlySortedBy
-count_entries columns [] sorted keys = refl
-count_entries columns (e ∷ es) sorted keys =
-    let new : ¬ Has e.1 (set_of (values_of es)) = λ h.
-    let other = Has-from_map (λ (e : Row × Row). e.1) e.1 es (Has-from_set_of e.1 (values_of es) h) in
-    let same : other.0.0 ≡ e.0 = keys other.0 (inr other.1) ∙ ap (cells columns) other.2 ∙ sym (keys e (inl refl)) in
-    let below : record_cmp e.0 other.0.0 ≡ Less = all_has (λ k. record_cmp e.0 k ≡ Less) other.0.0 (keys_of es) sorted.0 (Has-map (λ (e : Row × Row). e.0) other.0 es other.1) in
+count_entries key_of record_of [] sorted keys = refl
+count_entries {V} key_of record_of (e ∷ es) sorted keys =
+    let new : ¬ Has (record_of e) (set_of (map record_of es)) = λ h.
+    let other = Has-from_map record_of (record_of e) es (Has-from_set_of (record_of e) (map record_of es) h) in
+    let same : other.0.0 ≡ e.0 = keys other.0 (inr other.1) ∙ ap key_of other.2 ∙ sym (keys e (inl refl)) in
+    let below : record_cmp e.0 other.0.0 ≡ Less = all_has (λ k. record_cmp e.0 k ≡ Less) other.0.0 (keys_of es) sorted.0 (Has-map (λ (e : Row × V). e.0) other.0 es other.1) in
     let tied = tied_itself record_cmp_total e.0 in
     cc
     in
-    omega (arith, length-insert_key-new record_cmp record_cmp_exact e.1 (set_of (values_of es)) new, count_entries columns es sorted.1 (λ q h. keys q (inr h)))
+    omega (arith, length-insert_key-new record_cmp record_cmp_exact (record_of e) (set_of (map record_of es)) new, count_entries key_of record_of es sorted.1 (λ q h. keys q (inr h)))
 
 pub count_records : (columns : List ℕ) (m : BTreeMap Row Row) → IsOrdered record_cmp m → HaveKeys columns m → length (records_of m) ≡ btree_map_len m
 count_records columns m ordered keys =
-    count_entries columns m.entries ordered (λ e h. keys e.0 e.1 (All-of_member (λ (e : Row × Row). get record_cmp m e.0 ≡ Some e.1) m.entries e (All-found record_cmp_total m ordered) h))
+    count_entries (cells columns) (λ e. e.1) m.entries ordered (λ e h. keys e.0 e.1 (All-of_member (λ (e : Row × Row). get record_cmp m e.0 ≡ Some e.1) m.entries e (All-found record_cmp_total m ordered) h))

@@ -1,5 +1,6 @@
 pub mod Kind
 pub mod KeptRecords
 pub mod ModuleOver
+pub mod Numbers
 pub mod Step
 pub mod Texts

@@ -40,7 +40,7 @@ number-cons c cs name = go (is_named name c) (position_from-suc (is_named name) 
     go false e = ap (λ o. unwrap_or o (suc (length cs))) e ∙ unwrap_or-suc (position_from (is_named name) 0 cs) (length cs)
 
 -- the first collection of a name stands at its number
-get-number : (cs : List Collection) (name : Name) → slice_get cs (collection_number cs name) ≡ collection_named cs name
+pub get-number : (cs : List Collection) (name : Name) → slice_get cs (collection_number cs name) ≡ collection_named cs name
 get-number [] name = refl
 get-number (c ∷ cs) name = ap (slice_get (c ∷ cs)) (number-cons c cs name) ∙ go (is_named name c) (get-number cs name)
   where

@@ -1,0 +1,4 @@
+pub mod ColumnLemmas
+pub mod Wide
+pub mod Evaluation
+pub mod Rules

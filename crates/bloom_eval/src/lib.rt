@@ -1,8 +1,13 @@
-//! What a step of a module makes of its tables, and puts out.
+//! One step of a module that was checked, evaluated plainly: each expression anew from the sets that
+//! it reads.
 #![tactic(auto)]
 
+mod columns;
+mod evaluate;
 mod fault;
-mod lists;
+mod part;
+mod sets;
+mod step;
 
 pub use fault::StepFault;
-pub use lists::{Arrivals, Kept, Outs};
+pub use sets::{Arrivals, Kept, Outs};

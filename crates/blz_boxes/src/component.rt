@@ -1,12 +1,13 @@
 //! The interface of a shell.
-ghost use Rattle.std.specs.Prelude.{◌≡◌, ◌<◌, ◌↔◌, length, true, false, Option, None, Some, Err, IsTrue, IsSome, OnOk, OnErr};
+ghost use Rattle.std.specs.Prelude.{◌≡◌, ◌<◌, ◌↔◌, length, Option, None, Some, Err, IsTrue, IsSome, OnOk, OnErr};
 ghost use Rattle.bloom_ast.specs.declared.program.Program.{Program as TheProgram};
 ghost use Rattle.bloom_ast.specs.Program.{IsStock};
 ghost use Rattle.bloom_ast.specs.Step.{Sets, set_at};
 ghost use Rattle.bloom_eval.specs.declared.fault.StepFault.TheVariants.{TooManyRows};
+ghost use Rattle.bloom_eval.specs.Evaluates.{AllFit, SomeIsOver};
 ghost use Rattle.blz_boxes.specs.declared.kind.ProgramKind.{ProgramKind as TheKind};
 ghost use Rattle.blz_boxes.specs.Kind.{kind_of};
-ghost use Rattle.blz_boxes.specs.Step.{Arrive, nothing_kept, tables_next, outs_next, is_too_many};
+ghost use Rattle.blz_boxes.specs.Step.{Arrive, nothing_kept, tables_next, outs_next, counted_next};
 
 use bloom_ast::Program;
 use bloom_eval::{Arrivals, Outs, StepFault};
@@ -47,8 +48,8 @@ pub trait Component: Drop {
         ensures loaded { loaded self.new ≡ loaded self.old }
         ensures kept { OnOk result (kept self.new ≡ tables_next (loaded self.old) (kept self.old) now.now) }
         ensures outs { OnOk result (outs.new ≡ outs_next (loaded self.old) (kept self.old) now.now) }
-        ensures few { OnOk result (is_too_many (loaded self.old) (kept self.old) now.now ≡ false) }
-        ensures too_many { result ≡ Err TooManyRows → is_too_many (loaded self.old) (kept self.old) now.now ≡ true };
+        ensures few { OnOk result (AllFit (counted_next (loaded self.old) (kept self.old) now.now)) }
+        ensures too_many { result ≡ Err TooManyRows → SomeIsOver (counted_next (loaded self.old) (kept self.old) now.now) };
 
     /// Makes `into` the rows of a table, counted from 0.
     fn kept_rows(&self, table: u32, into: &mut RecordSet) -> Result<(), AllocError>

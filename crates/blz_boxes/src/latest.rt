@@ -1,14 +1,15 @@
 //! The shell of Latest.
-ghost use Rattle.std.specs.Prelude.{◌≡◌, ◌==◌, ◌≤◌, [], ◌∷◌, true, false, None, Err, length, IfOk, OnOk};
+ghost use Rattle.std.specs.Prelude.{◌≡◌, ◌==◌, ◌≤◌, [], ◌∷◌, None, Err, length, IfOk, OnOk};
 ghost use Rattle.std.specs.List.{list_any};
 ghost use Rattle.std.specs.Option.{option_map, option_map_or};
 ghost use Rattle.bloom_ast.specs.declared.program.Program.TheVariants.{Latest as LatestProgram};
 ghost use Rattle.bloom_ast.specs.StockSteps.{keys_in_order};
 ghost use Rattle.bloom_ast.specs.ProgramStep.{tables_after_step, outputs_of_step};
+ghost use Rattle.bloom_eval.specs.Evaluates.{AllFit, SomeIsOver};
 ghost use Rattle.bloom_eval.specs.declared.fault.StepFault.TheVariants.{TooManyRows};
 ghost use Rattle.blz_boxes.specs.declared.kind.ProgramKind.TheVariants.{Latest as LatestKind};
 ghost use Rattle.blz_boxes.specs.KeptRecords.{records_of};
-ghost use Rattle.blz_boxes.specs.Step.{is_step_over};
+ghost use Rattle.blz_boxes.specs.Step.{counted};
 
 use crate::component::Component;
 use crate::latest_table::LatestTable;
@@ -72,8 +73,8 @@ impl LatestBody {
         ensures keys { self.new.keys ≡ self.old.keys }
         ensures kept { OnOk result (records_of self.new.table.records ∷ [] ≡ tables_after_step (LatestProgram self.old.columns self.old.keys) (records_of self.old.table.records ∷ []) now.now) }
         ensures outs { OnOk result (outs.new ≡ outputs_of_step (LatestProgram self.old.columns self.old.keys) (records_of self.old.table.records ∷ []) now.now) }
-        ensures few { OnOk result (is_step_over (LatestProgram self.old.columns self.old.keys) (records_of self.old.table.records ∷ []) now.now ≡ false) }
-        ensures too_many { result ≡ Err TooManyRows → is_step_over (LatestProgram self.old.columns self.old.keys) (records_of self.old.table.records ∷ []) now.now ≡ true }
+        ensures few { OnOk result (AllFit (counted (LatestProgram self.old.columns self.old.keys) (records_of self.old.table.records ∷ []) now.now)) }
+        ensures too_many { result ≡ Err TooManyRows → SomeIsOver (counted (LatestProgram self.old.columns self.old.keys) (records_of self.old.table.records ∷ []) now.now) }
     {
         let [put, ask] = now.sets() else {
             unreachable!()

@@ -1,12 +1,13 @@
 //! The shell of Number.
-ghost use Rattle.std.specs.Prelude.{◌≡◌, [], ◌∷◌, true, false, None, Err, length, OnOk};
+ghost use Rattle.std.specs.Prelude.{◌≡◌, [], ◌∷◌, None, Err, length, OnOk};
 ghost use Rattle.std.specs.Option.{option_map, option_map_or};
 ghost use Rattle.bloom_ast.specs.declared.program.Program.TheVariants.{Number as NumberProgram};
 ghost use Rattle.bloom_ast.specs.ProgramStep.{tables_after_step, outputs_of_step};
+ghost use Rattle.bloom_eval.specs.Evaluates.{AllFit, SomeIsOver};
 ghost use Rattle.bloom_eval.specs.declared.fault.StepFault.TheVariants.{TooManyRows};
 ghost use Rattle.blz_boxes.specs.declared.kind.ProgramKind.TheVariants.{Number as NumberKind};
 ghost use Rattle.blz_boxes.specs.Numbers.{numbered_records};
-ghost use Rattle.blz_boxes.specs.Step.{is_step_over};
+ghost use Rattle.blz_boxes.specs.Step.{counted};
 
 use crate::component::Component;
 use crate::number_table::NumberTable;
@@ -47,8 +48,8 @@ impl NumberBody {
         ensures columns { self.new.columns ≡ self.old.columns }
         ensures kept { OnOk result (numbered_records self.new.table.numbers ∷ [] ≡ tables_after_step (NumberProgram self.old.columns) (numbered_records self.old.table.numbers ∷ []) now.now) }
         ensures outs { OnOk result (outs.new ≡ outputs_of_step (NumberProgram self.old.columns) (numbered_records self.old.table.numbers ∷ []) now.now) }
-        ensures few { OnOk result (is_step_over (NumberProgram self.old.columns) (numbered_records self.old.table.numbers ∷ []) now.now ≡ false) }
-        ensures too_many { result ≡ Err TooManyRows → is_step_over (NumberProgram self.old.columns) (numbered_records self.old.table.numbers ∷ []) now.now ≡ true }
+        ensures few { OnOk result (AllFit (counted (NumberProgram self.old.columns) (numbered_records self.old.table.numbers ∷ []) now.now)) }
+        ensures too_many { result ≡ Err TooManyRows → SomeIsOver (counted (NumberProgram self.old.columns) (numbered_records self.old.table.numbers ∷ []) now.now) }
     {
         let [arriving] = now.sets() else {
             unreachable!()

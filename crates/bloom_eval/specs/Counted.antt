@@ -1,0 +1,34 @@
+-- What adding the rows of rules to a set answers.
+use Rattle.std.specs.Prelude.{ℕ, ◌≡◌, Result, Ok, Err, OnOk, List, [], ◌∷◌, ◌++◌, slice_set}
+use Rattle.std.specs.List.{flat_map}
+use Rattle.blz_value.specs.Record.{Row}
+use Rattle.blz_value.specs.Sets.{set_of}
+use Rattle.blz_set.specs.declared.fault.SetFault.{SetFault}
+use Rattle.blz_set.specs.declared.fault.SetFault.TheVariants.{TooManyRows, NoMemory}
+use Rattle.bloom_ast.specs.declared.module.Collection.{Collection}
+use Rattle.bloom_ast.specs.Lookup.{declared}
+use Rattle.bloom_ast.specs.Query.{Name, Query}
+use Rattle.bloom_ast.specs.Form.{RuleForm}
+use Rattle.bloom_ast.specs.Rows.{rows_of}
+use Rattle.bloom_ast.specs.Step.{Sets, set_at, rows_named, rules_at, union_of}
+use Rattle.bloom_eval.specs.Evaluates.{part_sets, AllFit, SomeIsOver}
+
+-- the rows of each part of the bodies of some rules
+abbrev pub rule_sets : (Name → List Name) → (Name → List Row) → List RuleForm → Sets
+rule_sets columns env rules = flat_map (λ rule. part_sets columns env rule.1) rules
+
+-- the rows of an expression were added to a set; TooManyRows comes exactly where they make it too large, or a part has too many rows
+abbrev pub AddsOne : {X : Type 0} → (Name → List Name) → (Name → List Row) → Query → (old new : List Row) → Result X SetFault → Type 0
+AddsOne columns env q old new (Ok x) = (new ≡ set_of (old ++ rows_of columns env q)) × AllFit (part_sets columns env q)
+AddsOne columns env q old new (Err TooManyRows) = SomeIsOver (set_of (old ++ rows_of columns env q) ∷ part_sets columns env q)
+AddsOne columns env q old new (Err NoMemory) = Unit {0}
+
+-- the rows of some rules were added to a set; TooManyRows comes exactly where they make it too large, or a part of a body has too many rows
+abbrev pub Adds : {X : Type 0} → (Name → List Name) → (Name → List Row) → List RuleForm → (old new : List Row) → Result X SetFault → Type 0
+Adds columns env rules old new (Ok x) = (new ≡ set_of (old ++ union_of columns env rules)) × AllFit (new ∷ rule_sets columns env rules)
+Adds columns env rules old new (Err TooManyRows) = SomeIsOver (set_of (old ++ union_of columns env rules) ∷ rule_sets columns env rules)
+Adds columns env rules old new (Err NoMemory) = Unit {0}
+
+-- a head was taken: its set is what it was with the rows of its rules, which read the other sets, and no other set changed
+abbrev pub TakesHead : {X : Type 0} → List Collection → List RuleForm → ℕ → (old new : Sets) → Result X SetFault → Type 0
+TakesHead cs rules head old new r = Adds (declared cs) (rows_named cs (slice_set old head [])) (rules_at cs rules head) (set_at old head) (set_at new head) r × OnOk r (new ≡ slice_set old head (set_at new head))

@@ -1,0 +1,43 @@
+-- What a step asks of a module and of its sets, and what it answers.
+use Rattle.std.specs.Prelude.{ℕ, ◌≡◌, Result, Ok, Err, List, ◌++◌, length, map}
+use Rattle.std.specs.List.{AllZip, flat_map}
+use Rattle.blz_value.specs.Members.{Has}
+use Rattle.blz_value.specs.Record.{Row}
+use Rattle.bloom_ast.specs.declared.module.Collection.{Collection}
+use Rattle.bloom_ast.specs.Query.{Name}
+use Rattle.bloom_ast.specs.Form.{RuleForm, Accepted}
+use Rattle.bloom_ast.specs.Lookup.{collection_number, declared}
+use Rattle.bloom_ast.specs.Columns.{columns_of}
+use Rattle.bloom_ast.specs.Heads.{IsOrdered}
+use Rattle.bloom_ast.specs.Step.{Sets, set_at, at_end, tables_after, outputs_of}
+use Rattle.bloom_ast.specs.Equations.{end_env}
+use Rattle.bloom_eval.specs.declared.fault.StepFault.{StepFault}
+use Rattle.bloom_eval.specs.declared.fault.StepFault.TheVariants.{TooManyRows, NoMemory}
+use Rattle.bloom_eval.specs.Parts.{AreWide}
+use Rattle.bloom_eval.specs.Evaluates.{AllFit, SomeIsOver, IsGood}
+use Rattle.bloom_eval.specs.Counted.{rule_sets}
+
+-- a rule has a head that is no port, a body whose parts have few columns and whose predicates name columns that are there, and as many columns in the body as in the head
+pub record IsGoodRule (cs : List Collection) (heads : List ℕ) (rule : RuleForm) : Type 0 where
+  pub head : Has (collection_number cs rule.0) heads
+  pub body : IsGood (declared cs) rule.1
+  pub wide : length (columns_of (declared cs) rule.1) ≡ length (declared cs rule.0)
+
+-- the heads of a module are in order, and its rules are good
+pub record IsRunnable (a : Accepted) : Type 0 where
+  pub ordered : IsOrdered a.form.collections a.form.rules a.heads
+  pub rules : (rule : RuleForm) → Has rule a.form.rules → IsGoodRule a.form.collections a.heads rule
+
+-- one set for each list of columns, with rows of that width
+abbrev pub AreSetsOf : List (List Name) → Sets → Type 0
+AreSetsOf columns sets = AllZip (λ names rows. AreWide (length names) rows) columns sets
+
+-- the sets that count in a step: what the tables, scratches and outputs hold at its end, and the rows of each part of each rule's body
+abbrev pub counted_sets : Accepted → (kept now : Sets) → Sets
+counted_sets a kept now = map (set_at (at_end a kept now)) a.heads ++ rule_sets (declared a.form.collections) (end_env a kept now) a.form.rules
+
+-- the new tables and the outputs of a step; TooManyRows comes exactly where a set that counts has too many rows
+abbrev pub StepGives : Accepted → (kept now new : Sets) → Result Sets StepFault → Type 0
+StepGives a kept now new (Ok outs) = (new ≡ tables_after a kept now) × (outs ≡ outputs_of a kept now) × AllFit (counted_sets a kept now)
+StepGives a kept now new (Err TooManyRows) = SomeIsOver (counted_sets a kept now)
+StepGives a kept now new (Err NoMemory) = Unit {0}

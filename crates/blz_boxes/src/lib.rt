@@ -16,3 +16,6 @@ pub use kind::ProgramKind;
 pub use latest::LatestShell;
 pub use number::NumberShell;
 pub use split::SplitShell;
+
+#[cfg(test)]
+mod tests;

@@ -184,11 +184,16 @@ numbered_more first refs i d lt =
 abbrev pub fresh_of : BTreeMap Row ℤ → List Row → List Row
 fresh_of m rows = filter (λ row. not (is_some (get record_cmp m row))) rows
 
-pub numbered_is : (m : BTreeMap Row ℤ) (rows : List Row) → IsOrdered record_cmp m → IsRowSet rows → numbered (numbered_records m) rows ≡ numbered_from (btree_map_len m + 1) (fresh_of m rows)
+numbered_is : (m : BTreeMap Row ℤ) (rows : List Row) → IsOrdered record_cmp m → IsRowSet rows → numbered (numbered_records m) rows ≡ numbered_from (btree_map_len m + 1) (fresh_of m rows)
 numbered_is m rows ordered sorted =
     ap (λ l. numbered_from (length (numbered_records m) + 1) (filter (λ row. not (is_numbered (numbered_records m) row)) l)) (set_of-sorted rows sorted)
     ∙ ap (numbered_from (length (numbered_records m) + 1)) (filter_agree (λ row. not (is_numbered (numbered_records m) row)) (λ row. not (is_some (get record_cmp m row))) (λ row. ap not (is_kept m ordered row)) rows)
     ∙ ap (λ n. numbered_from (n + 1) (fresh_of m rows)) (count_numbers m ordered)
+
+-- the same of the records and the count that the code has
+pub numbered_by : (m : BTreeMap Row ℤ) (rows found : List Row) (count : ℕ) → IsOrdered record_cmp m → IsRowSet rows → found ≡ fresh_of m rows → count ≡ btree_map_len m → numbered_from (count + 1) found ≡ numbered (numbered_records m) rows
+numbered_by m rows found count ordered sorted is_fresh is_count =
+    ap (numbered_from (count + 1)) is_fresh ∙ ap (λ n. numbered_from (n + 1) (fresh_of m rows)) is_count ∙ sym (numbered_is m rows ordered sorted)
 
 pub fresh_sorted : (m : BTreeMap Row ℤ) (rows : List Row) → IsRowSet rows → IsRowSet (fresh_of m rows)
 fresh_sorted m rows sorted = IsStrictlySortedBy-filter record_cmp (λ row. not (is_some (get record_cmp m row))) rows sorted

@@ -1,12 +1,12 @@
-use Rattle.std.proofs.Common.{rules, ◌≡◌, ◌∙◌, ◌+◌, ◌++◌, ap, sym, subst, length, arith}
+use Rattle.std.proofs.Common.{◌≡◌, ◌∙◌, ◌+◌, ◌++◌, ap, sym, subst, length, arith}
+use Rattle.std.proofs.lemmas.List.{length-map}
 use Rattle.blz_value.specs.Members.{Has}
 use Rattle.blz_value.specs.Record.{Row}
 use Rattle.blz_value.specs.Sets.{set_of, IsRowSet}
 use Rattle.blz_set.specs.References.{shown}
-use Rattle.std.proofs.lemmas.List.{length-map}
-use Rattle.bloom_ast.specs.StockSteps.{numbered, number_kept, number_out}
-use Rattle.blz_boxes.specs.Numbers.{numbered_records, numbered_from}
-use Rattle.blz_boxes.proofs.NumberRows.{fresh_of, fresh_sorted, fresh_absent, numbered_is, count_kept, over_from, out_within}
+use Rattle.bloom_ast.specs.StockSteps.{numbered, number_kept}
+use Rattle.blz_boxes.specs.Numbers.{numbered_records}
+use Rattle.blz_boxes.proofs.NumberRows.{fresh_sorted, fresh_absent, numbered_by, count_kept, over_from, out_within}
 use Rattle.blz_boxes.proofs.number_table.NumberTable.number.Goals as goal
 
 pub returns-then-len-count-clause-too_many : goal.returns-then-len-count-clause-too_many
@@ -17,12 +17,9 @@ returns-then-len-count-clause-too_many c =
 
 pub returns-in_err-out-clause-too_many : goal.returns-in_err-out-clause-too_many
 returns-in_err-out-clause-too_many c =
+    let fresh = ap shown c.deref.ensures.value ∙ c.in_ok-fresh.ensures in
     let made : c.in_ok-numbered.field-0.items ≡ numbered (numbered_records c.args.self.now.numbers) c.args.rows.now =
-    c.in_ok-numbered.ensures
-    ∙ ap (λ refs. numbered_from (c.len-count.result + 1) (shown refs)) c.deref.ensures.value
-    ∙ ap (numbered_from (c.len-count.result + 1)) c.in_ok-fresh.ensures
-    ∙ ap (λ n. numbered_from (n + 1) (fresh_of c.args.self.now.numbers c.args.rows.now)) c.len-count.ensures.len
-    ∙ sym (numbered_is c.args.self.now.numbers c.args.rows.now c.len-count.ensures.ordered c.requires) in
+    c.in_ok-numbered.ensures ∙ numbered_by c.args.self.now.numbers c.args.rows.now (shown c.deref.result.now) c.len-count.result c.len-count.ensures.ordered c.requires fresh c.len-count.ensures.len in
     over_from _ c.from_residual-in_err-out.result c.in_err-out.field-0.0 (set_of c.in_ok-numbered.field-0.items) (number_kept (numbered_records c.args.self.now.numbers) c.args.rows.now) c.from_residual-in_err-out.ensures.1 c.in_err-out.ensures
     (λ over. out_within (numbered_records c.args.self.now.numbers) c.args.rows.now (rw made at over))
 
@@ -38,22 +35,14 @@ keep_all-requires-clause-fresh c =
 
 pub returns-clause-kept : goal.returns-clause-kept
 returns-clause-kept c =
-    let made : numbered_from (c.len-count.result + 1) (shown c.deref-2.result.now) ≡ numbered (numbered_records c.args.self.now.numbers) c.args.rows.now =
-    ap (λ refs. numbered_from (c.len-count.result + 1) (shown refs)) c.deref-2.ensures.value
-    ∙ ap (numbered_from (c.len-count.result + 1)) c.in_ok-fresh.ensures
-    ∙ ap (λ n. numbered_from (n + 1) (fresh_of c.args.self.now.numbers c.args.rows.now)) c.len-count.ensures.len
-    ∙ sym (numbered_is c.args.self.now.numbers c.args.rows.now c.len-count.ensures.ordered c.requires) in
+    let fresh = ap shown c.deref-2.ensures.value ∙ c.in_ok-fresh.ensures in
+    let made = numbered_by c.args.self.now.numbers c.args.rows.now (shown c.deref-2.result.now) c.len-count.result c.len-count.ensures.ordered c.requires fresh c.len-count.ensures.len in
     c.in_ok-keep_all.ensures.kept ∙ ap (λ l. set_of (numbered_records c.args.self.now.numbers ++ l)) made
 
 pub returns-clause-out : goal.returns-clause-out
 returns-clause-out c =
-    let made : c.in_ok-numbered.field-0.items ≡ numbered (numbered_records c.args.self.now.numbers) c.args.rows.now =
-    c.in_ok-numbered.ensures
-    ∙ ap (λ refs. numbered_from (c.len-count.result + 1) (shown refs)) c.deref.ensures.value
-    ∙ ap (numbered_from (c.len-count.result + 1)) c.in_ok-fresh.ensures
-    ∙ ap (λ n. numbered_from (n + 1) (fresh_of c.args.self.now.numbers c.args.rows.now)) c.len-count.ensures.len
-    ∙ sym (numbered_is c.args.self.now.numbers c.args.rows.now c.len-count.ensures.ordered c.requires) in
-    c.in_ok-out.ensures.0 ∙ ap set_of made
+    let fresh = ap shown c.deref.ensures.value ∙ c.in_ok-fresh.ensures in
+    c.in_ok-out.ensures.0 ∙ ap set_of (c.in_ok-numbered.ensures ∙ numbered_by c.args.self.now.numbers c.args.rows.now (shown c.deref.result.now) c.len-count.result c.len-count.ensures.ordered c.requires fresh c.len-count.ensures.len)
 
 pub returns-clause-few : goal.returns-clause-few
 returns-clause-few c =

@@ -1,7 +1,7 @@
 -- The words of a text, cut at its first space, and the parts of a record.
-use Rattle.std.proofs.Common.{◌≡◌, ◌≢◌, ◌<◌, ◌≤◌, ◌+◌, ◌-◌, ℕ, zero, suc, Bool, true, false, cond, not, ◌||◌, List, [], ◌∷◌, ◌++◌, length, get_or, map, filter, take, drop, Option, Some, None, refl, ap, ◌∙◌, sym, inl, inr, append_assoc, arith, rules, pos}
+use Rattle.std.proofs.Common.{◌≡◌, ◌<◌, ◌≤◌, ◌+◌, ℕ, Bool, true, false, cond, not, List, [], ◌∷◌, ◌++◌, length, get_or, map, filter, take, drop, Some, None, refl, ap, ◌∙◌, sym, inl, inr, append_assoc, arith, pos}
 use Rattle.std.specs.Prelude.{◌==◌}
-use Rattle.std.specs.List.{All, enumerate_from, remove, position_from, position_or_len, slice_split, before_first, after_first}
+use Rattle.std.specs.List.{enumerate_from, remove, position_from, position_or_len, slice_split}
 use Rattle.std.proofs.Math.Dec.{ltb}
 use Rattle.std.proofs.lemmas.Bool.{cases_eq, ne_eqb, ltb-true, ltb-false}
 use Rattle.std.proofs.lemmas.Simd.{map-map}

@@ -1,5 +1,5 @@
 -- What Number keeps and puts out, by the map of its numbers.
-use Rattle.std.proofs.Common.{◌≡◌, ◌≢◌, ℕ, ℤ, pos, zero, suc, ◌+◌, ◌-◌, ◌<◌, ◌≤◌, Bool, true, false, cond, not, List, [], ◌∷◌, ◌++◌, length, get_or, take, map, filter, Option, Some, None, is_some, refl, ap, ◌∙◌, sym, subst, inl, inr, ◌⊎◌, arith, append_assoc, length-append, Bor}
+use Rattle.std.proofs.Common.{◌≡◌, ℕ, ℤ, pos, zero, suc, ◌+◌, ◌-◌, ◌<◌, Bool, true, false, cond, not, List, [], ◌∷◌, ◌++◌, length, get_or, take, map, filter, Option, Some, None, is_some, refl, ap, ◌∙◌, sym, subst, inl, inr, arith, append_assoc, length-append, Bor}
 use Rattle.std.specs.Ordering.{is_eq, eq_by_cmp}
 use Rattle.std.specs.declared.cmp.Ordering.TheVariants.{Less}
 use Rattle.std.specs.List.{list_any, enumerate_from}
@@ -11,13 +11,12 @@ use Rattle.std.proofs.lemmas.List.{take_more, append-nil, map-append, length-map
 use Rattle.std.proofs.lemmas.List.Elements.{filter_agree}
 use Rattle.std.proofs.lemmas.List.Kept.{IsStrictlySortedBy-filter}
 use Rattle.std.proofs.lemmas.Map.Views.{All-found, Contains-from_lookup}
-use Rattle.blz_value.specs.declared.value.Value.{Value}
 use Rattle.blz_value.specs.declared.value.Value.TheVariants.{Int}
 use Rattle.blz_value.specs.Members.{Has}
 use Rattle.blz_value.specs.Record.{Row, record_cmp}
 use Rattle.blz_value.specs.RecordOrder.{record_cmp_total, record_cmp_exact}
 use Rattle.blz_value.specs.Sets.{set_of, IsRowSet}
-use Rattle.blz_value.proofs.Membership.{Has-get_or, Has-map, Has-from_map, Has-append_left, Has-append_right, Has-append_cases, Has-from_filter, any_from_Has, Has-from_any, Has-from_Contains, All-of_member, push_front}
+use Rattle.blz_value.proofs.Membership.{Has-get_or, Has-map, Has-from_map, Has-append_left, Has-append_right, Has-append_cases, Has-from_filter, any_from_Has, Has-from_any, Has-from_Contains, All-of_member}
 use Rattle.blz_value.proofs.SetLemmas.{all_has, below_not_in}
 use Rattle.blz_value.proofs.SetLaws.{Has-set_of, Has-from_set_of, sorted_set_of}
 use Rattle.blz_value.proofs.RowSets.{same_set_of, set_of-sorted, set_of-append_set, length-insert_key-new, length-set_of-append_right}

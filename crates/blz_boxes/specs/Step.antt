@@ -1,5 +1,5 @@
 -- One step of a shell, whose program may be none.
-use Rattle.std.specs.Prelude.{Option, None, Some, List, [], ◌++◌}
+use Rattle.std.specs.Prelude.{Option, None, Some, [], ◌++◌}
 use Rattle.bloom_ast.specs.declared.program.Program.{Program}
 use Rattle.bloom_ast.specs.declared.program.Program.TheVariants.{Module, Split, Latest, Number}
 use Rattle.bloom_ast.specs.Step.{Sets}

@@ -1,4 +1,4 @@
-use Rattle.std.proofs.Common.{◌≡◌, ◌∙◌, ap, sym, true, false}
+use Rattle.std.proofs.Common.{◌∙◌, ap, sym, true, false}
 use Rattle.std.proofs.lemmas.List.{append-nil}
 use Rattle.blz_boxes.proofs.LatestRows.{keys_step}
 use Rattle.blz_boxes.proofs.latest.keys_in_order.Goals as goal

@@ -1,11 +1,7 @@
 -- what is kept after the records so far
-use Rattle.std.proofs.Common.{◌≡◌, ◌≢◌, ◌≤◌, ◌+◌, ◌++◌, take, None, ◌⊎◌}
-use Rattle.std.specs.BTreeMap.{get, btree_map_len, IsOrdered}
-use Rattle.blz_value.specs.Members.{Has}
-use Rattle.blz_value.specs.Record.{Row, record_cmp}
-use Rattle.blz_value.specs.Sets.{set_of}
+use Rattle.std.proofs.Common.{◌≤◌, ◌+◌, take}
+use Rattle.std.specs.BTreeMap.{btree_map_len}
 use Rattle.blz_set.specs.References.{shown}
-use Rattle.blz_boxes.specs.Numbers.{numbered_records, numbered_from}
 use Rattle.blz_boxes.proofs.NumberRows.{StandsFor}
 use Rattle.blz_boxes.proofs.number_table.keep_all.Given as goal
 

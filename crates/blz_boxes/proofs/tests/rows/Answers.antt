@@ -1,6 +1,5 @@
 use Rattle.std.proofs.Common.{◌≡◌, sym, subst, length}
 use Rattle.std.specs.List.{All}
-use Rattle.blz_value.specs.Record.{Row}
 use Rattle.blz_value.proofs.RowSets.{All-set_of}
 use Rattle.blz_boxes.proofs.tests.rows.Goals as goal
 

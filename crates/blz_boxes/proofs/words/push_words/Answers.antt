@@ -1,6 +1,5 @@
-use Rattle.std.proofs.Common.{◌≡◌, ◌∙◌, ◌++◌, ◌∷◌, [], ap, sym, rules, length, get_or, take, append_assoc}
-use Rattle.blz_boxes.specs.Texts.{texts}
-use Rattle.blz_boxes.proofs.Cuts.{word_rows, word_rows_more}
+use Rattle.std.proofs.Common.{[], append_assoc}
+use Rattle.blz_boxes.proofs.Cuts.{word_rows_more}
 use Rattle.blz_boxes.proofs.words.push_words.Goals as goal
 
 pub loop-i-preserved : goal.loop-i-preserved

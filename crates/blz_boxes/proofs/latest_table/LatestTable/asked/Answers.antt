@@ -1,8 +1,3 @@
-use Rattle.std.proofs.Common.{rules, ◌≡◌, ◌∙◌, ap}
-use Rattle.blz_value.specs.Sets.{set_of}
-use Rattle.blz_set.specs.Answers.{Gives}
-use Rattle.bloom_ast.specs.StockSteps.{latest_out}
-use Rattle.blz_boxes.specs.KeptRecords.{records_of}
 use Rattle.blz_boxes.proofs.LatestRows.{asked_is}
 use Rattle.blz_boxes.proofs.latest_table.LatestTable.asked.Goals as goal
 

@@ -1,5 +1,4 @@
-use Rattle.std.proofs.Common.{rules, ◌≡◌, ◌∙◌, sym, ap, Some, None}
-use Rattle.std.specs.Option.{option_copied}
+use Rattle.std.proofs.Common.{rules, Some, None}
 use Rattle.std.specs.BTreeMap.{get}
 use Rattle.blz_value.specs.Record.{record_cmp}
 use Rattle.blz_boxes.proofs.LatestRows.{found_more}

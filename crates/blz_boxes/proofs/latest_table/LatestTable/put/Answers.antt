@@ -1,4 +1,4 @@
-use Rattle.std.proofs.Common.{rules, ◌≡◌, ap, length, List, arith}
+use Rattle.std.proofs.Common.{rules, ◌≡◌, ap, length, arith}
 use Rattle.std.specs.BTreeMap.{btree_map_len}
 use Rattle.blz_value.specs.Record.{Row}
 use Rattle.bloom_ast.specs.StockSteps.{latest_kept}

@@ -1,5 +1,5 @@
-use Rattle.std.proofs.Common.{rules, ◌≡◌, ◌<◌, ◌≤◌, ◌∙◌, ap, sym, ◌++◌, List, length, arith}
-use Rattle.std.specs.BTreeMap.{values, btree_map_len}
+use Rattle.std.proofs.Common.{◌≡◌, ◌<◌, ◌∙◌, ap, sym, ◌++◌, length, arith}
+use Rattle.std.specs.BTreeMap.{values}
 use Rattle.std.proofs.lemmas.List.{append-nil}
 use Rattle.std.proofs.lemmas.Map.Entries.{length-values_of}
 use Rattle.blz_set.specs.RecordSet.{row_limit}

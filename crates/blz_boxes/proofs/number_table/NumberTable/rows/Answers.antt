@@ -1,11 +1,9 @@
-use Rattle.std.proofs.Common.{◌≡◌, ◌<◌, ◌≤◌, ◌∙◌, ap, sym, ◌++◌, List, length, map, arith}
-use Rattle.std.specs.BTreeMap.{btree_map_len}
+use Rattle.std.proofs.Common.{◌≡◌, ◌<◌, ◌∙◌, ap, sym, ◌++◌, length, map, arith}
 use Rattle.std.proofs.lemmas.List.{append-nil, length-map}
 use Rattle.blz_set.specs.RecordSet.{row_limit}
 use Rattle.blz_value.specs.Record.{Row}
 use Rattle.blz_value.specs.Sets.{set_of}
 use Rattle.blz_value.proofs.RowSets.{length-set_of-le}
-use Rattle.blz_boxes.specs.Numbers.{with_number}
 use Rattle.blz_boxes.proofs.NumberRows.{entry_row}
 use Rattle.blz_boxes.proofs.number_table.NumberTable.rows.Goals as goal
 

@@ -1,0 +1,4 @@
+pub mod Cuts
+pub mod Records
+pub mod LatestRows
+pub mod NumberRows

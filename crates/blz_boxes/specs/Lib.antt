@@ -1,0 +1,5 @@
+pub mod Kind
+pub mod KeptRecords
+pub mod Numbers
+pub mod Step
+pub mod Texts

@@ -1,0 +1,65 @@
+//! The interface of a shell.
+ghost use Rattle.std.specs.Prelude.{◌≡◌, ◌<◌, ◌↔◌, length, Option, None, Some, Err, IsTrue, IsSome, OnOk, OnErr};
+ghost use Rattle.bloom_ast.specs.declared.program.Program.{Program as TheProgram};
+ghost use Rattle.bloom_ast.specs.Program.{IsStock};
+ghost use Rattle.bloom_ast.specs.Step.{Sets, set_at};
+ghost use Rattle.bloom_eval.specs.declared.fault.StepFault.TheVariants.{TooManyRows};
+ghost use Rattle.bloom_eval.specs.Evaluates.{AllFit, SomeIsOver};
+ghost use Rattle.blz_boxes.specs.declared.kind.ProgramKind.{ProgramKind as TheKind};
+ghost use Rattle.blz_boxes.specs.Kind.{kind_of};
+ghost use Rattle.blz_boxes.specs.Step.{Arrive, nothing_kept, tables_next, outs_next, counted_next};
+
+use bloom_ast::Program;
+use bloom_eval::{Arrivals, Outs, StepFault};
+use blz_set::RecordSet;
+use std::alloc::AllocError;
+
+/// A shell: it holds a program of its kind, or none, and steps it.
+pub trait Component: Drop {
+    /// The kind of program that fits, which no call changes.
+    ghost kind: { Self → TheKind };
+
+    /// The program that is loaded.
+    ghost loaded: { Self → Option TheProgram };
+
+    /// What is kept: one set for each table of the program.
+    ghost kept: { Self → Sets };
+
+    /// Whether a program can be loaded.
+    fn fits(&self, program: &Program) -> bool
+        requires stock { IsStock program.now }
+        ensures { IsTrue result ↔ (kind_of program.now ≡ kind self.now) };
+
+    /// Loads a program that fits, and empties what is kept. After want of memory there is no program.
+    fn load(&mut self, program: &Program) -> Result<(), AllocError>
+        requires stock { IsStock program.now }
+        requires fits { kind_of program.now ≡ kind self.old }
+        ensures kind { kind self.new ≡ kind self.old }
+        ensures loaded { OnOk result (loaded self.new ≡ Some program.now) }
+        ensures kept { OnOk result (kept self.new ≡ nothing_kept (Some program.now)) }
+        ensures err { OnErr result (loaded self.new ≡ None) };
+
+    /// Makes one step over what arrives, and makes `outs` what it puts out. TooManyRows comes exactly
+    /// where a set of the step is too large. After a fault only the program is known.
+    fn step(&mut self, now: &Arrivals, outs: &mut Outs) -> Result<(), StepFault>
+        requires program { IsSome (loaded self.old) }
+        requires arrivals { Arrive (loaded self.old) now.now }
+        ensures kind { kind self.new ≡ kind self.old }
+        ensures loaded { loaded self.new ≡ loaded self.old }
+        ensures kept { OnOk result (kept self.new ≡ tables_next (loaded self.old) (kept self.old) now.now) }
+        ensures outs { OnOk result (outs.new ≡ outs_next (loaded self.old) (kept self.old) now.now) }
+        ensures few { OnOk result (AllFit (counted_next (loaded self.old) (kept self.old) now.now)) }
+        ensures too_many { result ≡ Err TooManyRows → SomeIsOver (counted_next (loaded self.old) (kept self.old) now.now) };
+
+    /// Makes `into` the rows of a table, counted from 0.
+    fn kept_rows(&self, table: u32, into: &mut RecordSet) -> Result<(), AllocError>
+        requires program { IsSome (loaded self.now) }
+        requires within { table < length (kept self.now) }
+        ensures { OnOk result (into.new ≡ set_at (kept self.now) table) };
+
+    /// Empties what is kept, and leaves the program.
+    fn clear(&mut self)
+        ensures kind { kind self.new ≡ kind self.old }
+        ensures loaded { loaded self.new ≡ loaded self.old }
+        ensures kept { kept self.new ≡ nothing_kept (loaded self.old) };
+}

@@ -1,0 +1,82 @@
+//! The shell of Split.
+ghost use Rattle.std.specs.Prelude.{◌≡◌, [], None, OnOk};
+ghost use Rattle.std.specs.Option.{option_map};
+ghost use Rattle.bloom_ast.specs.declared.program.Program.TheVariants.{Split as SplitProgram};
+ghost use Rattle.blz_boxes.specs.declared.kind.ProgramKind.TheVariants.{Split as SplitKind};
+
+use crate::component::Component;
+use crate::program::{copy_columns, put_out};
+use crate::words::split_rows;
+use bloom_ast::Program;
+use bloom_eval::{Arrivals, Outs, StepFault};
+use blz_set::RecordSet;
+use blz_value::{Items, Str};
+use std::alloc::{AllocError, Global};
+
+// A loaded Split.
+#[derive(Drop)]
+struct SplitBody {
+    columns: Items<Str>,
+    split: u32,
+}
+
+/// A shell of Split, which keeps nothing.
+#[derive(Drop)]
+pub struct SplitShell {
+    alloc: Global,
+    body: Option<SplitBody>,
+}
+
+impl SplitShell {
+    /// A shell without a program.
+    pub fn new(alloc: Global) -> SplitShell
+        ensures { result.body ≡ None }
+    {
+        SplitShell { alloc, body: None }
+    }
+}
+
+impl Component for SplitShell {
+    ghost kind = { λ _. SplitKind };
+
+    ghost loaded = { λ shell. option_map (λ body. SplitProgram body.columns body.split) shell.body };
+
+    ghost kept = { λ _. [] };
+
+    fn fits(&self, program: &Program) -> bool {
+        matches!(program, Program::Split { .. })
+    }
+
+    fn load(&mut self, program: &Program) -> Result<(), AllocError> {
+        self.body = None;
+        let Program::Split { columns, split } = program else {
+            unreachable!()
+        };
+        self.body = Some(SplitBody {
+            columns: copy_columns(self.alloc, columns)?,
+            split: *split,
+        });
+        Ok(())
+    }
+
+    fn step(&mut self, now: &Arrivals, outs: &mut Outs) -> Result<(), StepFault> {
+        let Some(body) = &self.body else {
+            unreachable!()
+        };
+        let [arriving] = now.sets() else {
+            unreachable!()
+        };
+        let rows = split_rows(self.alloc, arriving.rows(), body.split)?;
+        put_out(self.alloc, outs, RecordSet::from_rows(rows)?)?;
+        Ok(())
+    }
+
+    fn kept_rows(&self, _table: u32, into: &mut RecordSet) -> Result<(), AllocError>
+        ensures { OnOk result (into.new ≡ []) }
+    {
+        *into = RecordSet::new(self.alloc);
+        Ok(())
+    }
+
+    fn clear(&mut self) {}
+}

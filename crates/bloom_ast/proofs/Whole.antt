@@ -4,6 +4,7 @@ use Rattle.std.specs.Global.{Vec}
 use Rattle.std.specs.List.{list_all}
 use Rattle.std.specs.Option.{option_or}
 use Rattle.blz_value.specs.Members.{Has}
+use Rattle.blz_value.proofs.Membership.{All-of_member}
 use Rattle.bloom_ast.specs.declared.fault.CheckFault.{CheckFault}
 use Rattle.bloom_ast.specs.declared.fault.CheckFault.TheVariants.{Bad, NoMemory}
 use Rattle.bloom_ast.specs.declared.fault.ModuleFault.{ModuleFault}
@@ -16,6 +17,7 @@ use Rattle.bloom_ast.specs.Columns.{columns_of}
 use Rattle.bloom_ast.specs.Fits.{query_fits}
 use Rattle.bloom_ast.specs.Heads.{names_of}
 use Rattle.bloom_ast.specs.Kinds.{has_kind, is_head, is_readable}
+use Rattle.bloom_ast.specs.Literals.{HasLiterals, RulesHaveLiterals}
 use Rattle.bloom_ast.specs.Lookup.{declared}
 use Rattle.bloom_ast.specs.Form.{RuleForm, Form}
 use Rattle.bloom_ast.specs.Reads.{arrows, facts_of}
@@ -45,8 +47,8 @@ module _ (cs : List Collection) (rules : List RuleForm) where
       let f = no_fault (At kind.MomentaryMix) (option_or (At kind.MixedScratch) None) d.1 in
       (a.0, b.0, c.0, d.0, f.0, (no_fault (At kind.MixedScratch) None f.1).0)
 
-  each_rule : At kind.TooMany ≡ None → fault_in (facts_of cs rules) later_kinds cs rules ≡ None → (r : RuleForm) → Has r rules → IsRule cs rules r
-  each_rule size clean r n =
+  each_rule : At kind.TooMany ≡ None → fault_in (facts_of cs rules) later_kinds cs rules ≡ None → RulesHaveLiterals rules → (r : RuleForm) → Has r rules → IsRule cs rules r
+  each_rule size clean literals r n =
       let none = parts clean in
       let known = rule_none cs (facts_of cs rules) rules kind.Unknown (unknown_rule cs) (λ i x. refl) none.1 r n in
       let columns = rule_none cs (facts_of cs rules) rules kind.Columns (columns_rule cs) (λ i x. refl) none.2 r n in
@@ -54,6 +56,7 @@ module _ (cs : List Collection) (rules : List RuleForm) where
       let fit = not_both (query_fits (declared cs) r.1) (length (columns_of (declared cs) r.1) == length (declared cs r.0)) columns in
       record {
         bounded = bounded cs (facts_of cs rules) rules size r n;
+        literals = All-of_member (λ x. HasLiterals x.1) rules r literals n;
         head = names.0;
         known = names.1;
         fits = fit.0;
@@ -64,9 +67,9 @@ module _ (cs : List Collection) (rules : List RuleForm) where
       }
 
 checks : (m : Form) (r : Result (Vec ℕ) CheckFault) → HasOwnNames m → kind_fault (facts_of m.collections m.rules) kind.TooMany m.collections m.rules ≡ None → Later m.collections m.rules r → ChecksHeads m r
-checks m (Ok heads) names size later =
+checks m (Ok heads) names size later = λ literals.
     let few = are_few m.collections (facts_of m.collections m.rules) m.rules size in
-    let each = each_rule m.collections m.rules size later.clean in
+    let each = each_rule m.collections m.rules size later.clean literals in
     record {
       names = names;
       clean = rw size later.clean;

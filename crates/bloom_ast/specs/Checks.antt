@@ -15,6 +15,7 @@ use Rattle.bloom_ast.specs.Form.{RuleForm, Form, Accepted}
 use Rattle.bloom_ast.specs.HeadKeys.{key_at, heads_on}
 use Rattle.bloom_ast.specs.Heads.{names_of, IsOrdered}
 use Rattle.bloom_ast.specs.Kinds.{has_kind, is_head, is_readable}
+use Rattle.bloom_ast.specs.Literals.{HasLiterals, RulesHaveLiterals}
 use Rattle.bloom_ast.specs.Lookup.{declared}
 use Rattle.bloom_ast.specs.Reads.{arrows, facts_of, keys_of}
 use Rattle.bloom_ast.specs.Reserved.{HasOwnNames}
@@ -24,9 +25,10 @@ pub record IsCollection (c : Collection) : Type 0 where
   pub width : IsTrue (is_width (length c.columns))
   pub distinct : IsFalse (repeats c.columns)
 
--- a rule's text is within the bounds, its names are known, its columns fit, it doesn't read its head, and it mixes no momentary parts with others
+-- a rule's text is within the bounds, its literals can be held, its names are known, its columns fit, it doesn't read its head, and it mixes no momentary parts with others
 pub record IsRule (cs : List Collection) (rules : List RuleForm) (r : RuleForm) : Type 0 where
   pub bounded : IsFalse (passes_bounds r.1)
+  pub literals : HasLiterals r.1
   pub head : IsTrue (has_kind is_head cs r.0)
   pub known : IsTrue (list_all (has_kind is_readable cs) (names_of r.1))
   pub fits : IsTrue (query_fits (declared cs) r.1)
@@ -54,8 +56,9 @@ Checks m (Err NoMemory) = Unit {0}
 
 -- ---- the parts of a check
 
+-- the heads in order where there is no fault and the literals can be held, and else the first fault
 abbrev pub ChecksHeads : Form → Result (Vec ℕ) CheckFault → Type 0
-ChecksHeads m (Ok heads) = IsChecked m heads.items
+ChecksHeads m (Ok heads) = RulesHaveLiterals m.rules → IsChecked m heads.items
 ChecksHeads m (Err (Bad fault)) = fault_of m ≡ Some fault
 ChecksHeads m (Err NoMemory) = Unit {0}
 

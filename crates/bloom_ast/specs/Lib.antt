@@ -18,4 +18,5 @@ pub mod Borrowed
 pub mod Faults
 pub mod Reserved
 pub mod HeadKeys
+pub mod Literals
 pub mod Checks

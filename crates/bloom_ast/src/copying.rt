@@ -1,10 +1,11 @@
 //! Copies of modules and of their parts.
 ghost use Rattle.std.specs.Prelude.{◌≡◌, take, IfOk};
 ghost use Rattle.bloom_ast.specs.Form.{formula_of, query_of, rule_form, rule_forms, form_of};
+ghost use Rattle.bloom_ast.specs.Literals.{IsLiteral, TermLiterals, FormulaLiterals, HasLiterals, RulesHaveLiterals};
 
 use crate::expr::{Expr, NamedAgg, Pred, Term};
 use crate::module::{Collection, Module, Rule};
-use blz_value::{Items, Str};
+use blz_value::{Items, Str, Value};
 use std::alloc::{AllocError, Global};
 
 fn copy_names(alloc: Global, names: &[Str]) -> Result<Items<Str>, AllocError>
@@ -27,14 +28,29 @@ fn copy_pairs(alloc: Global, pairs: &[(Str, Str)]) -> Result<Items<(Str, Str)>, 
     Ok(Items::from_vec(copies))
 }
 
+// An equal value. To lend a text shows that it is in UTF-8.
+fn copy_literal(value: &Value) -> Result<Value, AllocError>
+    ensures copied { IfOk result (λ copy. copy ≡ value.now) }
+    ensures literal { IfOk result (λ _. IsLiteral value.now) }
+{
+    match value {
+        Value::Int(number) => Ok(Value::Int(*number)),
+        Value::Text(text) => {
+            let _lent = text.as_str();
+            Ok(Value::Text(text.copy()?))
+        }
+    }
+}
+
 impl Term {
     /// An equal term of its own.
     pub fn copy(&self) -> Result<Term, AllocError>
-        ensures { IfOk result (λ term. term ≡ self.now) }
+        ensures copied { IfOk result (λ term. term ≡ self.now) }
+        ensures literals { IfOk result (λ _. TermLiterals self.now) }
     {
         match self {
             Term::Column(name) => Ok(Term::Column(name.copy()?)),
-            Term::Literal(value) => Ok(Term::Literal(value.copy()?)),
+            Term::Literal(value) => Ok(Term::Literal(copy_literal(value)?)),
         }
     }
 }
@@ -42,7 +58,8 @@ impl Term {
 impl Pred {
     /// An equal predicate of its own.
     pub fn copy(&self, alloc: Global) -> Result<Pred, AllocError>
-        ensures { IfOk result (λ pred. formula_of pred ≡ formula_of self.now) }
+        ensures copied { IfOk result (λ pred. formula_of pred ≡ formula_of self.now) }
+        ensures literals { IfOk result (λ _. FormulaLiterals (formula_of self.now)) }
     {
         match self {
             Pred::Compare { left, op, right } => Ok(Pred::Compare {
@@ -82,7 +99,8 @@ impl NamedAgg {
 impl Expr {
     /// An equal expression of its own.
     pub fn copy(&self, alloc: Global) -> Result<Expr, AllocError>
-        ensures { IfOk result (λ expr. query_of expr ≡ query_of self.now) }
+        ensures copied { IfOk result (λ expr. query_of expr ≡ query_of self.now) }
+        ensures literals { IfOk result (λ _. HasLiterals (query_of self.now)) }
     {
         match self {
             Expr::Base(name) => Ok(Expr::Base(name.copy()?)),
@@ -133,7 +151,8 @@ impl Collection {
 impl Rule {
     /// An equal rule of its own.
     pub fn copy(&self, alloc: Global) -> Result<Rule, AllocError>
-        ensures { IfOk result (λ rule. rule_form rule ≡ rule_form self.now) }
+        ensures copied { IfOk result (λ rule. rule_form rule ≡ rule_form self.now) }
+        ensures literals { IfOk result (λ _. HasLiterals (query_of self.now.body)) }
     {
         Ok(Rule {
             head: self.head.copy()?,
@@ -156,7 +175,8 @@ fn copy_collections(
 }
 
 fn copy_rules(alloc: Global, rules: &[Rule]) -> Result<Items<Rule>, AllocError>
-    ensures { IfOk result (λ copies. rule_forms copies ≡ rule_forms rules.now) }
+    ensures copied { IfOk result (λ copies. rule_forms copies ≡ rule_forms rules.now) }
+    ensures literals { IfOk result (λ _. RulesHaveLiterals (rule_forms rules.now)) }
 {
     let mut copies = Vec::new(alloc);
     for rule in rules {
@@ -168,7 +188,8 @@ fn copy_rules(alloc: Global, rules: &[Rule]) -> Result<Items<Rule>, AllocError>
 impl Module {
     /// An equal module of its own.
     pub fn copy(&self, alloc: Global) -> Result<Module, AllocError>
-        ensures { IfOk result (λ copy. form_of copy ≡ form_of self.now) }
+        ensures copied { IfOk result (λ copy. form_of copy ≡ form_of self.now) }
+        ensures literals { IfOk result (λ _. RulesHaveLiterals (rule_forms self.now.rules)) }
     {
         Ok(Module {
             name: self.name.copy()?,

@@ -22,5 +22,8 @@ mod SpelledLemmas
 mod LaidLemmas
 mod ApartLemmas
 mod MeaningLemmas
+mod BoundLemmas
+mod TerminalLemmas
+mod CheckedLemmas
 mod TextLemmas
 mod LiteralLemmas

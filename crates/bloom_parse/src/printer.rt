@@ -7,6 +7,7 @@ ghost use Rattle.bloom_parse.specs.Trees as trees;
 ghost use Rattle.bloom_parse.specs.Spelling as spelling;
 ghost use Rattle.bloom_parse.specs.Layout as spec;
 ghost use Rattle.bloom_parse.specs.Printing as printing;
+ghost use Rattle.bloom_parse.specs.Parsing.{IsTextOf};
 
 use bloom_ast::{Checked, Collection, Expr, Kind, NamedAgg, Pred, Rule, Term};
 use blz_value::{Op, Str, Value, write_value};
@@ -358,9 +359,11 @@ fn push_rules(alloc: Global, rules: &[Rule], into: &mut Vec<u8>) -> Result<(), A
     Ok(())
 }
 
-/// The text of a module: the heading, each declaration and each rule on a line of its own.
+/// The text of a module: the heading, each declaration and each rule on a line of its own. What
+/// `parse` reads of it is the module again.
 pub fn print(alloc: Global, module: &Checked) -> Result<Vec<u8>, AllocError>
-    ensures { IfOk result (λ text. text.items ≡ spec.printed module.now.form) }
+    ensures text { IfOk result (λ text. text.items ≡ spec.printed module.now.form) }
+    ensures read_again { IfOk result (λ text. IsTextOf text.items module.now.form) }
 {
     let module = module.module();
     let mut text = Vec::new(alloc);

@@ -1,15 +1,14 @@
 -- Sets of collections, whose rows have their widths.
-use Rattle.std.proofs.Common.{◌≡◌, ◌≢◌, ◌<◌, ◌≤◌, ◌+◌, ℕ, zero, suc, Bool, true, false, cond, List, [], ◌∷◌, ◌++◌, length, take, map, filter, slice_get, Option, None, Some, refl, ap, ◌∙◌, sym, subst, ◌⊎◌, inl, inr, arith}
+use Rattle.std.proofs.Common.{◌≡◌, ◌≢◌, ℕ, zero, suc, Bool, true, false, cond, List, [], ◌∷◌, length, take, map, filter, slice_get, Option, None, Some, refl, ap, ◌∙◌, sym, subst, ◌⊎◌, inl, inr, arith}
 use Rattle.std.specs.Prelude.{slice_set}
 use Rattle.std.specs.List.{zip}
-use Rattle.std.specs.Option.{option_map, option_map_or}
+use Rattle.std.specs.Option.{option_map_or}
 use Rattle.std.proofs.lemmas.List.FromFn.{length-map-range_with_len}
 use Rattle.blz_value.specs.Record.{Row}
 use Rattle.bloom_ast.specs.declared.module.Kind.{Kind}
 use Rattle.bloom_ast.specs.declared.module.Kind.TheVariants.{Input, Output, Table, Scratch}
 use Rattle.bloom_ast.specs.declared.module.Collection.{Collection}
 use Rattle.bloom_ast.specs.Query.{Name}
-use Rattle.bloom_ast.specs.Heads.{IsDerived}
 use Rattle.bloom_ast.specs.Kinds.{same_kind, of_kind, kind_at, place_in_kind}
 use Rattle.bloom_ast.specs.Lookup.{collection_number, declared}
 use Rattle.bloom_ast.specs.Program.{columns_of_kind}

@@ -1,4 +1,4 @@
-use Rattle.std.proofs.Common.{Some, ◌≡◌, ◌∙◌, sym, ap, arith, List, ◌∷◌, ◌++◌, []}
+use Rattle.std.proofs.Common.{Some, ◌∙◌, sym, ap, arith}
 use Rattle.bloom_ast.specs.declared.module.Kind.TheVariants.{Input, Table}
 use Rattle.bloom_ast.specs.Kinds.{place_in_kind}
 use Rattle.bloom_ast.specs.Step.{set_at, begun}

@@ -2,7 +2,7 @@ use Rattle.std.proofs.Common.{◌≡◌, ◌∙◌, length, Ok, ap, sym, subst}
 use Rattle.std.proofs.lemmas.List.{length-map}
 use Rattle.bloom_ast.specs.declared.module.Kind.TheVariants.{Input, Output, Table}
 use Rattle.bloom_ast.specs.declared.module.Collection.{Collection}
-use Rattle.bloom_ast.specs.Form.{Form, Accepted}
+use Rattle.bloom_ast.specs.Form.{Form}
 use Rattle.bloom_ast.specs.Kinds.{of_kind}
 use Rattle.bloom_ast.specs.Program.{columns_of_kind}
 use Rattle.bloom_ast.specs.Step.{Sets, at_start, sets_of_kind}

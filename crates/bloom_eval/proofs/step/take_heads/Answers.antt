@@ -1,10 +1,9 @@
-use Rattle.std.proofs.Common.{◌≡◌, ◌+◌, ◌∷◌, ◌∙◌, ℕ, List, Ok, Err, drop, get_or, length, ap, sym, subst, arith}
+use Rattle.std.proofs.Common.{◌+◌, ◌∷◌, ◌∙◌, List, Ok, Err, drop, get_or, length, ap, sym, subst, arith}
 use Rattle.std.proofs.lemmas.List.{length-map, drop_more, drop_all}
 use Rattle.blz_value.specs.Members.{Has}
-use Rattle.bloom_ast.specs.Query.{Name}
-use Rattle.bloom_ast.specs.Form.{RuleForm, rule_forms}
+use Rattle.bloom_ast.specs.Form.{rule_forms}
 use Rattle.bloom_ast.specs.Lookup.{declared}
-use Rattle.bloom_ast.specs.Step.{Sets, rows_named}
+use Rattle.bloom_ast.specs.Step.{rows_named}
 use Rattle.bloom_ast.specs.declared.module.Collection.{Collection}
 use Rattle.bloom_ast.specs.declared.module.Rule.{Rule}
 use Rattle.bloom_eval.specs.Parts.{rows_in, sets_in, AreWide}

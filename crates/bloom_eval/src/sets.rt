@@ -1,5 +1,5 @@
 //! What a program keeps, what arrives at its ports, and what it puts out: lists of sets.
-ghost use Rattle.std.specs.Prelude.{◌≡◌, ◌<◌, [], length, slice_set};
+ghost use Rattle.std.specs.Prelude.{◌≡◌, ◌<◌, [], length, map, slice_set};
 ghost use Rattle.bloom_ast.specs.Step.{set_at};
 
 use blz_set::RecordSet;
@@ -34,6 +34,15 @@ impl Kept {
         ensures { result.now ≡ self.now }
     {
         &self.sets
+    }
+
+    /// Empties each set.
+    pub fn clear(&mut self, alloc: Global)
+        ensures { self.new ≡ map (λ rows. []) self.old }
+    {
+        for set in self.sets.iter_mut() {
+            *set = RecordSet::new(alloc);
+        }
     }
 
     /// Takes a set, and leaves the empty one in its place.

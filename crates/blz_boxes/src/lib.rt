@@ -7,6 +7,7 @@ mod latest;
 mod latest_table;
 mod number;
 mod number_table;
+mod plain;
 mod program;
 mod split;
 mod words;
@@ -15,6 +16,7 @@ pub use component::Component;
 pub use kind::ProgramKind;
 pub use latest::LatestShell;
 pub use number::NumberShell;
+pub use plain::PlainShell;
 pub use split::SplitShell;
 
 #[cfg(test)]

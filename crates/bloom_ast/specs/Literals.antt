@@ -17,10 +17,12 @@ abbrev pub IsLiteral : Value → Type 0
 IsLiteral (Int n) = FitsSigned w64 n
 IsLiteral (Text bytes) = IsUtf8 bytes
 
+-- a literal is one of those
 abbrev pub TermLiterals : Term → Type 0
 TermLiterals (Column name) = Unit {0}
 TermLiterals (Literal value) = IsLiteral value
 
+-- each literal of a predicate is
 abbrev pub FormulaLiterals : Formula → Type 0
 FormulaLiterals (compare l o r) = TermLiterals l × TermLiterals r
 FormulaLiterals (both a b) = FormulaLiterals a × FormulaLiterals b
@@ -37,6 +39,6 @@ HasLiterals (notin a b pairs) = HasLiterals a × HasLiterals b
 HasLiterals (group q keys agg name) = HasLiterals q
 HasLiterals (at_least q keys bound) = HasLiterals q × FitsSigned w64 bound
 
--- those of each rule are
+-- each literal and bound of the rules is
 abbrev pub RulesHaveLiterals : List RuleForm → Type 0
 RulesHaveLiterals rules = All (λ r. HasLiterals r.1) rules

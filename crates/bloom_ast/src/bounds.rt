@@ -9,10 +9,10 @@ use crate::expr::{Expr, Pred, Term};
 use blz_value::Value;
 
 /// Most levels that are open at once.
-const MOST_LEVELS: u32 = 32;
+pub const MOST_LEVELS: u32 = 32;
 
 /// Most comparisons in a select.
-const MOST_COMPARISONS: u32 = 32;
+pub const MOST_COMPARISONS: u32 = 32;
 
 /// Most bytes of a text literal.
 const MOST_BYTES: usize = 64;

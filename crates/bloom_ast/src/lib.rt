@@ -17,6 +17,7 @@ mod program;
 mod reads;
 mod reserved;
 
+pub use bounds::{MOST_COMPARISONS, MOST_LEVELS};
 pub use checked::Checked;
 pub use checking::check;
 pub use expr::{Expr, NamedAgg, Pred, Term};

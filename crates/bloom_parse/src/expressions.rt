@@ -5,7 +5,7 @@ ghost use Rattle.bloom_parse.specs.ReadingSingle.{Gives};
 ghost use Rattle.bloom_parse.specs.ReadingExprs.{operator_of, base_at, opened_by, select_by, project_by, parts_by, keyed_by, group_by, at_least_by, by_operator, expr_at};
 
 use crate::lists::{aggregate, item, items, keys, pairs};
-use crate::predicates::pred;
+use crate::predicates::{MORE_COMPARISONS, pred};
 use crate::read_fault::ReadFault;
 use crate::single::{as_word, behind_first, bound, mark, name};
 use crate::terminal::{Mark, Terminal, Word};
@@ -73,7 +73,7 @@ fn select(alloc: Global, room: u32, terminals: &[Terminal]) -> ExprRead<'_>
     ensures { Gives (λ x. (query_of x.0, x.1.now)) result (select_by (expr_at room) room terminals.now) }
 {
     let (part, rest) = opened(alloc, room, terminals)?;
-    let (test, _, rest) = pred(alloc, room, 31, rest)?;
+    let (test, _, rest) = pred(alloc, room, MORE_COMPARISONS, rest)?;
     let rest = mark(Mark::Close, rest)?;
     Ok((Expr::Select(Box::new(alloc, part)?, test), rest))
 }

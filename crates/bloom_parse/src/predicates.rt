@@ -8,8 +8,11 @@ ghost use Rattle.bloom_parse.specs.ReadingPredicates.{opening_of, link_of, unit_
 use crate::read_fault::ReadFault;
 use crate::single::{behind_first, mark, operand, sign};
 use crate::terminal::{Mark, Terminal, Word};
-use bloom_ast::Pred;
+use bloom_ast::{MOST_COMPARISONS, Pred};
 use std::alloc::Global;
+
+/// Most comparisons of a select behind its first.
+pub(crate) const MORE_COMPARISONS: u32 = MOST_COMPARISONS - 1;
 
 /// A predicate, how many `and` and `or` may still come, and the rest.
 type PredRead<'a> = Result<(Pred, u32, &'a [Terminal]), ReadFault>;
@@ -131,7 +134,7 @@ fn chain(alloc: Global, room: u32, left: u32, first: Pred, terminals: &[Terminal
     let mut product = first;
     let mut left = left;
     let mut rest = terminals;
-    for _ in 0..31u32 {
+    for _ in 0..MORE_COMPARISONS {
         match link_at(rest) {
             Link::And => {
                 if left == 0 {

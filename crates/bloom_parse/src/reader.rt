@@ -11,7 +11,7 @@ use crate::lists::names;
 use crate::read_fault::ReadFault;
 use crate::single::{arrow, behind_first, is_name_first, mark, module_word, name};
 use crate::terminal::{Mark, Terminal, Word};
-use bloom_ast::{Collection, Kind, Module, Rule};
+use bloom_ast::{Collection, Kind, MOST_LEVELS, Module, Rule};
 use blz_value::Items;
 use std::alloc::Global;
 
@@ -88,7 +88,7 @@ fn rule(alloc: Global, terminals: &[Terminal]) -> Result<(Rule, &[Terminal]), Re
 {
     let (head, rest) = name(alloc, terminals)?;
     let rest = arrow(rest)?;
-    let (body, rest) = expr(alloc, 32, rest)?;
+    let (body, rest) = expr(alloc, MOST_LEVELS, rest)?;
     let rest = mark(Mark::Semicolon, rest)?;
     Ok((Rule { head, body }, rest))
 }

@@ -2,3 +2,4 @@ pub mod Cuts
 pub mod Records
 pub mod LatestRows
 pub mod NumberRows
+pub mod Tables

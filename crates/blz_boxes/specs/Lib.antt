@@ -3,3 +3,4 @@ pub mod KeptRecords
 pub mod Numbers
 pub mod Step
 pub mod Texts
+pub mod KeptSets

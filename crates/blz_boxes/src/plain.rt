@@ -4,10 +4,12 @@ ghost use Rattle.std.specs.Option.{option_map, option_map_or};
 ghost use Rattle.bloom_ast.specs.declared.module.Kind.TheVariants.{Input, Table};
 ghost use Rattle.bloom_ast.specs.declared.program.Program.TheVariants.{Module as ModuleProgram};
 ghost use Rattle.bloom_ast.specs.Program.{columns_of_kind};
-ghost use Rattle.bloom_ast.specs.Step.{tables_after, outputs_of};
+ghost use Rattle.bloom_ast.specs.ProgramStep.{tables_after_step, outputs_of_step};
 ghost use Rattle.bloom_eval.specs.Evaluates.{AllFit, SomeIsOver};
-ghost use Rattle.bloom_eval.specs.StepAnswers.{AreSetsOf, counted_sets};
+ghost use Rattle.bloom_eval.specs.StepAnswers.{AreSetsOf};
 ghost use Rattle.bloom_eval.specs.declared.fault.StepFault.TheVariants.{TooManyRows};
+ghost use Rattle.blz_boxes.specs.KeptSets.{AreSetsOf-prop};
+ghost use Rattle.blz_boxes.specs.Step.{counted};
 ghost use Rattle.blz_boxes.specs.declared.kind.ProgramKind.TheVariants.{Module as ModuleKind};
 
 use crate::component::Component;
@@ -21,7 +23,7 @@ use std::alloc::{AllocError, Global};
 struct PlainBody {
     program: Checked,
     kept: Kept,
-    ghost tables: { AreSetsOf (columns_of_kind Table program.form.collections) kept },
+    ghost tables: { AreSetsOf (columns_of_kind Table program.form.collections) kept } by { AreSetsOf-prop (columns_of_kind Table program.form.collections) kept },
 }
 
 /// A shell of modules, which evaluates each rule anew in each step.
@@ -69,10 +71,10 @@ impl PlainBody {
     fn step(&mut self, alloc: Global, now: &Arrivals, outs: &mut Outs) -> Result<(), StepFault>
         requires ports { AreSetsOf (columns_of_kind Input self.old.program.form.collections) now.now }
         ensures program { self.new.program ≡ self.old.program }
-        ensures kept { OnOk result (self.new.kept ≡ tables_after self.old.program self.old.kept now.now) }
-        ensures outs { OnOk result (outs.new ≡ outputs_of self.old.program self.old.kept now.now) }
-        ensures few { OnOk result (AllFit (counted_sets self.old.program self.old.kept now.now)) }
-        ensures too_many { result ≡ Err TooManyRows → SomeIsOver (counted_sets self.old.program self.old.kept now.now) }
+        ensures kept { OnOk result (self.new.kept ≡ tables_after_step (ModuleProgram self.old.program) self.old.kept now.now) }
+        ensures outs { OnOk result (outs.new ≡ outputs_of_step (ModuleProgram self.old.program) self.old.kept now.now) }
+        ensures few { OnOk result (AllFit (counted (ModuleProgram self.old.program) self.old.kept now.now)) }
+        ensures too_many { result ≡ Err TooManyRows → SomeIsOver (counted (ModuleProgram self.old.program) self.old.kept now.now) }
     {
         *outs = step_plain(alloc, &self.program, &mut self.kept, now)?;
         Ok(())

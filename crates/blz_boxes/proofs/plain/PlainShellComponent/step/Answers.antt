@@ -1,0 +1,14 @@
+use Rattle.std.proofs.Common.{◌≡◌, [], Option, Some, Err, OnOk, sym, subst}
+use Rattle.std.specs.Option.{option_map, option_map_or}
+use Rattle.bloom_ast.specs.declared.program.Program.TheVariants.{Module as ModuleProgram}
+use Rattle.bloom_eval.specs.declared.fault.StepFault.TheVariants.{TooManyRows}
+use Rattle.bloom_eval.specs.Evaluates.{AllFit, SomeIsOver}
+use Rattle.blz_boxes.specs.declared.plain.PlainBody.{PlainBody}
+use Rattle.blz_boxes.specs.Step.{counted_next}
+use Rattle.blz_boxes.proofs.plain.PlainShellComponent.step.Goals as goal
+
+pub returns-clause-few : goal.returns-clause-few
+returns-clause-few c = subst (λ (loaded : Option PlainBody). OnOk c.step.result (AllFit (counted_next (option_map (λ body. ModuleProgram body.program) loaded) (option_map_or (λ body. body.kept) loaded []) c.args.now.now))) (sym c.in-Some.is) c.step.ensures.few
+
+pub returns-clause-too_many : goal.returns-clause-too_many
+returns-clause-too_many c = subst (λ (loaded : Option PlainBody). c.step.result ≡ Err TooManyRows → SomeIsOver (counted_next (option_map (λ body. ModuleProgram body.program) loaded) (option_map_or (λ body. body.kept) loaded []) c.args.now.now)) (sym c.in-Some.is) c.step.ensures.too_many

@@ -1,12 +1,12 @@
-//! Steps of the stock bodies, each through the interface of shells.
-ghost use Rattle.std.specs.Prelude.{◌≡◌, ◌∷◌, [], codes, length, IfOk, All};
+//! Steps of a module and of the stock bodies, each through the interface of shells.
+ghost use Rattle.std.specs.Prelude.{◌≡◌, ◌<◌, ◌∷◌, [], codes, length, Some, IsSome, IfOk, All};
 ghost use Rattle.blz_value.specs.Record.{Row};
 ghost use Rattle.bloom_ast.specs.declared.program.Program.TheVariants.{Split as SplitProgram, Latest as LatestProgram, Number as NumberProgram};
-ghost use Rattle.bloom_ast.specs.Program.{port_columns};
+ghost use Rattle.bloom_ast.specs.Program.{IsStock, port_columns, table_columns};
 ghost use Rattle.bloom_eval.specs.StepAnswers.{AreSetsOf};
 
 use super::*;
-use bloom_ast::Program;
+use bloom_ast::{Collection, Expr, Kind, Module, NamedAgg, Program, Rule, check, has_own_names};
 use bloom_eval::{Arrivals, Outs};
 use blz_set::RecordSet;
 use blz_value::{Items, Record, Str, Value, write_record};
@@ -100,6 +100,73 @@ fn put_and_ask(alloc: Global, pairs: &[(&str, i64)], asked: &str) -> Result<Arri
     Ok(Arrivals::from_sets(sets))
 }
 
+// Names divided by spaces.
+fn names(alloc: Global, text: &str) -> Result<Items<Str>, AllocError> {
+    let mut items = Vec::new(alloc);
+    for name in text.split(' ') {
+        items.push(Str::from_text(alloc, name)?)?;
+    }
+    Ok(Items::from_vec(items))
+}
+
+fn collection(
+    alloc: Global,
+    kind: Kind,
+    name: &str,
+    columns: &str,
+) -> Result<Collection, AllocError> {
+    Ok(Collection {
+        kind,
+        name: Str::from_text(alloc, name)?,
+        columns: names(alloc, columns)?,
+    })
+}
+
+fn rule(alloc: Global, head: &str, body: Expr) -> Result<Rule, AllocError> {
+    Ok(Rule {
+        head: Str::from_text(alloc, head)?,
+        body,
+    })
+}
+
+// A module that counts the clicks of each campaign.
+fn tally(alloc: Global) -> Result<Module, AllocError> {
+    let mut collections = Vec::new(alloc);
+    collections.push(collection(alloc, Kind::Input, "clicks", "campaign id")?)?;
+    collections.push(collection(alloc, Kind::Output, "sums", "campaign n")?)?;
+    collections.push(collection(alloc, Kind::Table, "seen", "campaign id")?)?;
+    let clicks = Expr::Base(Str::from_text(alloc, "clicks")?);
+    let seen = Box::new(alloc, Expr::Base(Str::from_text(alloc, "seen")?))?;
+    let keys = names(alloc, "campaign")?;
+    let counted = Expr::Group(seen, keys, NamedAgg::Count, Str::from_text(alloc, "n")?);
+    let mut rules = Vec::new(alloc);
+    rules.push(rule(alloc, "seen", clicks)?)?;
+    rules.push(rule(alloc, "sums", counted)?)?;
+    Ok(Module {
+        name: Str::from_text(alloc, "tally")?,
+        collections: Items::from_vec(collections),
+        rules: Items::from_vec(rules),
+    })
+}
+
+// What arrives at the one port of a program, which has two columns.
+#[tactic(auto, using(crate::proofs::Tables::one_port_wide))]
+fn one_port_of(
+    rt: &impl Abort,
+    alloc: Global,
+    program: &Program,
+    pairs: &[(&str, i64)],
+) -> Result<Arrivals, Fail>
+    requires { IsStock program.now }
+    ensures { IfOk result (AreSetsOf (port_columns program.now)) }
+{
+    assert!(rt; program.port_count() == 1);
+    assert!(rt; program.port_width(0) == 2);
+    let mut sets = Vec::new(alloc);
+    sets.push(rows(alloc, pairs)?)?;
+    Ok(Arrivals::from_sets(sets))
+}
+
 // Compares sets with their text, in which each row is written in order.
 fn expect_sets(
     rt: &impl Abort,
@@ -123,21 +190,100 @@ fn expect_kept(rt: &impl Abort, alloc: Global, set: RecordSet, expected: &str) -
     expect_sets(rt, alloc, sets.as_slice(), expected)
 }
 
-#[test]
-fn boxed_shells(rt: HostRuntime) -> Result<(), Fail> {
-    let alloc = rt.alloc();
+// Steps a shell of Latest with two records of a key, and asks for the key.
+fn step_latest(rt: &impl Abort, alloc: Global, mut shell: Box<dyn Component>) -> Result<(), Fail> {
     let program = latest_program(alloc)?;
     let now = put_and_ask(alloc, &[("a", 1), ("a", 2)], "a")?;
-    let mut shell: Box<dyn Component> = Box::new(alloc, LatestShell::new(alloc))?;
     assert!(rt; shell.fits(&program));
     shell.load(&program)?;
     let mut outs = Outs::from_sets(Vec::new(alloc));
     shell.step(&now, &mut outs)?;
-    expect_sets(&rt, alloc, outs.sets(), "(\"a\", 2)")?;
+    expect_sets(rt, alloc, outs.sets(), "(\"a\", 2)")?;
     let mut kept = RecordSet::new(alloc);
     shell.clear();
     shell.kept_rows(0, &mut kept)?;
-    expect_kept(&rt, alloc, kept, "")
+    expect_kept(rt, alloc, kept, "")
+}
+
+// Steps a loaded shell with what arrives at its one port, and gives what it puts out.
+fn step_clicks(
+    rt: &impl Abort,
+    alloc: Global,
+    shell: &mut Box<dyn Component>,
+    program: &Program,
+    clicks: &[(&str, i64)],
+) -> Result<Outs, Fail>
+    requires stock { IsStock program.now }
+    requires loaded { loaded shell.old ≡ Some program.now }
+    ensures loaded { loaded shell.new ≡ Some program.now }
+    ensures kept { IfOk result (λ outs. length (kept shell.new) ≡ length (table_columns program.now)) }
+{
+    let now = one_port_of(rt, alloc, program, clicks)?;
+    let mut outs = Outs::from_sets(Vec::new(alloc));
+    shell.step(&now, &mut outs)?;
+    Ok(outs)
+}
+
+// Compares the first table of a loaded shell.
+fn expect_table(
+    rt: &impl Abort,
+    alloc: Global,
+    shell: &Box<dyn Component>,
+    expected: &str,
+) -> Result<(), Fail>
+    requires loaded { IsSome (loaded shell.now) }
+    requires table { 0 < length (kept shell.now) }
+{
+    let mut rows = RecordSet::new(alloc);
+    shell.kept_rows(0, &mut rows)?;
+    expect_kept(rt, alloc, rows, expected)
+}
+
+// Steps a loaded tally twice, and empties it.
+fn step_twice(
+    rt: &impl Abort,
+    alloc: Global,
+    shell: &mut Box<dyn Component>,
+    program: &Program,
+) -> Result<(), Fail>
+    requires stock { IsStock program.now }
+    requires loaded { loaded shell.old ≡ Some program.now }
+    requires table { length (table_columns program.now) ≡ 1 }
+{
+    let outs = step_clicks(rt, alloc, shell, program, &[("1", 10)])?;
+    expect_sets(rt, alloc, outs.sets(), "(1, 1)")?;
+    let outs = step_clicks(rt, alloc, shell, program, &[("1", 11)])?;
+    expect_sets(rt, alloc, outs.sets(), "(1, 2)")?;
+    expect_table(rt, alloc, shell, "(1, 10)(1, 11)")?;
+    shell.clear();
+    expect_table(rt, alloc, shell, "")
+}
+
+// Steps a shell of modules with the clicks of a tally, one after the other.
+fn step_tally(rt: &impl Abort, alloc: Global, shell: &mut Box<dyn Component>) -> Result<(), Fail> {
+    let written = tally(alloc)?;
+    assert!(rt; has_own_names(&written));
+    let program = Program::Module(check(alloc, &written)?);
+    assert!(rt; program.table_count() == 1);
+    assert!(rt; shell.fits(&program));
+    shell.load(&program)?;
+    step_twice(rt, alloc, shell, &program)
+}
+
+#[test]
+fn boxed_shells(rt: HostRuntime) -> Result<(), Fail> {
+    let alloc = rt.alloc();
+    let mut shells: Vec<Box<dyn Component>> = Vec::new(alloc);
+    shells.push(Box::new(alloc, PlainShell::new(alloc))?)?;
+    shells.push(Box::new(alloc, LatestShell::new(alloc))?)?;
+    if let Some(shell) = shells.pop() {
+        step_latest(&rt, alloc, shell)?;
+    }
+    if let Some(mut shell) = shells.pop() {
+        step_tally(&rt, alloc, &mut shell)?;
+    }
+    assert!(rt; shells.is_empty());
+    Ok(())
 }
 
 #[test]

@@ -1,24 +1,21 @@
 -- The tokens of terminals that are laid out as a text are these terminals.
-use Rattle.std.proofs.Common.{◌≡◌, ℕ, ◌<◌, ◌^◌, Bool, true, false, cond, ◌||◌, ◌&&◌, ◌==◌, List, [], ◌∷◌, ◌++◌, Option, Some, None, length, refl, ap, ◌∙◌, sym, subst, arith, append_assoc}
+use Rattle.std.proofs.Common.{◌≡◌, ℕ, ◌<◌, ◌^◌, true, false, ◌||◌, ◌==◌, List, [], ◌∷◌, ◌++◌, Some, length, refl, ap, ◌∙◌, sym, subst, arith, append_assoc}
 use Rattle.std.specs.Prelude.{ℤ, pos, negsuc, FitsSigned}
 use Rattle.std.specs.Int.{w64}
 use Rattle.std.specs.Char.{is_ascii_digit}
 use Rattle.std.specs.Fmt.{signed_decimal, decimal}
 use Rattle.std.specs.List.{AllByRecursion, list_all}
 use Rattle.std.proofs.lemmas.Bool.Decides.{nat_tests}
-use Rattle.blz_value.specs.declared.test.Op.{Op}
 use Rattle.blz_value.specs.declared.test.Op.TheVariants.{Eq, Ne, Lt, Le, Gt, Ge}
 use Rattle.blz_value.specs.Name.{is_name, is_name_start, is_name_byte}
 use Rattle.bloom_parse.specs.declared.terminal.Terminal.{Terminal}
 use Rattle.bloom_parse.specs.declared.terminal.Terminal.TheVariants as terminals
-use Rattle.bloom_parse.specs.declared.terminal.Word.{Word}
 use Rattle.bloom_parse.specs.declared.terminal.Word.TheVariants as words
-use Rattle.bloom_parse.specs.declared.terminal.Mark.{Mark}
 use Rattle.bloom_parse.specs.declared.terminal.Mark.TheVariants as marks
 use Rattle.bloom_parse.specs.declared.token.Token.{Token}
-use Rattle.bloom_parse.specs.Spelling.{spelled, IsTerminal, word_bytes}
+use Rattle.bloom_parse.specs.Spelling.{spelled, IsTerminal}
 use Rattle.bloom_parse.specs.Tokens.{front, is_white, behind_blanks, token_at, Lexes}
-use Rattle.bloom_parse.specs.Layout.{before, behind, laid, text_of}
+use Rattle.bloom_parse.specs.Layout.{before, behind, text_of}
 use Rattle.bloom_parse.proofs.RunLemmas.{and_true}
 use Rattle.bloom_parse.proofs.SpelledLemmas.{Stops, plain_name_again, word_again, number_again, text_again, decimal_digits, decimal_some}
 

@@ -1,5 +1,5 @@
 -- Tokens, one after another.
-use Rattle.std.proofs.Common.{◌≡◌, ℕ, List, [], ◌∷◌, ◌++◌, Option, Some, None, length, refl, ap, ◌∙◌, sym, subst, append_assoc, false}
+use Rattle.std.proofs.Common.{◌≡◌, ℕ, List, [], ◌∷◌, ◌++◌, Some, None, length, refl, ap, ◌∙◌, sym, subst, append_assoc, false}
 use Rattle.std.proofs.lemmas.List.{append-nil}
 use Rattle.bloom_parse.specs.declared.terminal.Terminal.{Terminal}
 use Rattle.bloom_parse.specs.declared.token.Token.{Token}

@@ -1,5 +1,5 @@
 -- The tree of a module means the module.
-use Rattle.std.proofs.Common.{◌≡◌, ◌≢◌, ℕ, Bool, true, false, cond, List, [], ◌∷◌, ◌++◌, map, drop, refl, ap, ◌∙◌, sym, length}
+use Rattle.std.proofs.Common.{◌≡◌, ◌≢◌, Bool, true, false, cond, List, [], ◌∷◌, ◌++◌, map, drop, refl, ap, ◌∙◌, length}
 use Rattle.std.specs.List.{AllByRecursion}
 use Rattle.std.specs.Str.{bytes_eq}
 use Rattle.std.proofs.lemmas.Slice.Eq.{bytes_eq-Decides}
@@ -8,9 +8,7 @@ use Rattle.bloom_ast.specs.Form.{RuleForm, Form}
 use Rattle.bloom_ast.specs.Query.{Name, Formula, Query}
 use Rattle.bloom_ast.specs.Query.Formula.{compare, both, either, not_so}
 use Rattle.bloom_ast.specs.Query.Query.{base, select, project, join, notin, group, at_least}
-use Rattle.bloom_parse.specs.declared.terminal.Terminal.{Terminal}
 use Rattle.bloom_parse.specs.declared.terminal.Terminal.TheVariants as terminals
-use Rattle.bloom_parse.specs.declared.token.Token.{Token}
 use Rattle.bloom_parse.specs.Trees.{ors_formula, ands_formula, unit_formula, Item, item_pair, expr_query, collection_form, tree_rule, module_text, module_form}
 use Rattle.bloom_parse.specs.Layout.{Levels, levels, item_of, tree_of, first_name, collection_tree, rule_tree, module_tree, printed}
 use Rattle.bloom_parse.specs.Places.{IsModuleText}

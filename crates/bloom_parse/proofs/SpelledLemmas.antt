@@ -1,17 +1,17 @@
 -- What is spelled is read again.
-use Rattle.std.proofs.Common.{◌≡◌, ℕ, zero, suc, ◌+◌, ◌-◌, ◌*◌, ◌/◌, ◌%◌, ◌^◌, ◌<◌, ◌≤◌, Bool, true, false, cond, ◌||◌, ◌&&◌, ◌==◌, List, [], ◌∷◌, ◌++◌, Option, Some, None, Result, Ok, Err, length, drop, take, refl, ap, ◌∙◌, sym, subst, arith, w64, append_assoc, nat_lt, nat_le}
+use Rattle.std.proofs.Common.{◌≡◌, ℕ, zero, suc, ◌+◌, ◌-◌, ◌*◌, ◌/◌, ◌%◌, ◌^◌, ◌<◌, ◌≤◌, Bool, true, false, cond, ◌&&◌, ◌==◌, List, [], ◌∷◌, ◌++◌, Option, Some, None, Result, Ok, Err, length, drop, take, refl, ap, ◌∙◌, sym, arith, w64, append_assoc, nat_lt, nat_le}
 use Rattle.std.specs.Prelude.{ℤ, pos, negsuc, FitsSigned}
 use Rattle.std.proofs.Math.Numerals.{one-add}
-use Rattle.std.proofs.lemmas.Bool.{lt-ltb, ltb-true, eqb-true}
+use Rattle.std.proofs.lemmas.Bool.{ltb-true, eqb-true}
 use Rattle.std.proofs.lemmas.Bool.Decides.{nat_tests}
 use Rattle.std.proofs.lemmas.Fmt.{decimal_is_IsNumeral, parse-signed_decimal}
 use Rattle.std.proofs.Math.Seq.{take-append_seam, drop-append_seam}
 use Rattle.std.specs.Char.{is_ascii_digit}
 use Rattle.std.specs.Fmt.{signed_decimal, decimal}
 use Rattle.std.specs.List.{prefix_len, list_all}
-use Rattle.std.specs.Option.{option_map, option_map_or, option_and_then}
-use Rattle.std.specs.Str.{IsUtf8, all_ascii_digits, is_utf8}
-use Rattle.std.specs.Str.Parse.{IsNumeral, ParsesSigned, without_leading_sign, signed_digits_value}
+use Rattle.std.specs.Option.{option_map_or, option_and_then}
+use Rattle.std.specs.Str.{IsUtf8, all_ascii_digits}
+use Rattle.std.specs.Str.Parse.{without_leading_sign, signed_digits_value}
 use Rattle.blz_value.specs.Name.{is_name, is_name_start, is_name_byte}
 use Rattle.blz_value.specs.Text.{escaped, escaped_byte, hex_digit, value_text}
 use Rattle.blz_value.specs.declared.value.Value.TheVariants as values
@@ -20,9 +20,9 @@ use Rattle.bloom_parse.specs.declared.terminal.Terminal.TheVariants as terminals
 use Rattle.bloom_parse.specs.declared.terminal.Word.{Word}
 use Rattle.bloom_parse.specs.declared.terminal.Word.TheVariants as words
 use Rattle.bloom_parse.specs.Spelling.{word_of, word_bytes}
-use Rattle.bloom_parse.specs.Tokens.{front, named, is_number, numbered, number_size, and_rest, name_front, number_front, hex_value, is_control, hex_front, escape_front, byte_front, closing_front, bytes_front, with_bytes, literal, text_front}
+use Rattle.bloom_parse.specs.Tokens.{front, named, is_number, numbered, number_size, and_rest, name_front, number_front, hex_value, is_control, hex_front, byte_front, closing_front, bytes_front, with_bytes, literal, text_front}
 use Rattle.bloom_parse.proofs.RunLemmas.{and_true}
-use Rattle.bloom_parse.proofs.NumberLemmas.{number_read, number_bad, numeral_of, model}
+use Rattle.bloom_parse.proofs.NumberLemmas.{number_read, numeral_of, model}
 use Rattle.bloom_parse.proofs.ByteLemmas.{bytes_closed, bytes_more, literal_read}
 
 -- the text ends, or goes on with a byte that doesn't pass

@@ -1,6 +1,6 @@
 -- How a module is printed: the tokens of its tree, each with the white space that belongs to it.
-use Rattle.std.specs.Prelude.{◌≡◌, ℕ, if◌then◌else◌, List, [], ◌∷◌, ◌++◌, map, drop, codes}
-use Rattle.std.specs.List.{All, flat_map}
+use Rattle.std.specs.Prelude.{ℕ, if◌then◌else◌, List, [], ◌∷◌, ◌++◌, map, drop, codes}
+use Rattle.std.specs.List.{flat_map}
 use Rattle.std.specs.Str.{bytes_eq}
 use Rattle.bloom_ast.specs.declared.module.Collection.{Collection}
 use Rattle.bloom_ast.specs.Form.{RuleForm, Form}
@@ -9,9 +9,7 @@ use Rattle.bloom_ast.specs.Query.Formula.{compare, both, either, not_so}
 use Rattle.bloom_ast.specs.Query.Query.{base, select, project, join, notin, group, at_least}
 use Rattle.bloom_parse.specs.declared.terminal.Terminal.{Terminal}
 use Rattle.bloom_parse.specs.declared.terminal.Terminal.TheVariants as terminals
-use Rattle.bloom_parse.specs.declared.terminal.Word.{Word}
 use Rattle.bloom_parse.specs.declared.terminal.Word.TheVariants as words
-use Rattle.bloom_parse.specs.declared.terminal.Mark.{Mark}
 use Rattle.bloom_parse.specs.declared.terminal.Mark.TheVariants as marks
 use Rattle.bloom_parse.specs.Spelling.{spelled}
 use Rattle.bloom_parse.specs.Trees.{UnitTree, AndsTree, OrsTree, Item, ExprTree, CollectionTree, RuleTree, ModuleTree, module_text}

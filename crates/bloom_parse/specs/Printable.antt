@@ -1,5 +1,5 @@
 -- What a module has to have so that its text gives it back.
-use Rattle.std.specs.Prelude.{◌≢◌, List, []}
+use Rattle.std.specs.Prelude.{◌≢◌, []}
 use Rattle.std.specs.List.{AllByRecursion}
 use Rattle.bloom_ast.specs.Form.{Form}
 use Rattle.bloom_ast.specs.Query.{Query}

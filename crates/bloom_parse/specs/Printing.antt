@@ -1,6 +1,5 @@
 -- What the printer's functions write.
-use Rattle.std.specs.Prelude.{ℕ, ℤ, Bool, true, false, if◌then◌else◌, List, [], ◌∷◌, ◌++◌, map, codes}
-use Rattle.std.specs.List.{flat_map}
+use Rattle.std.specs.Prelude.{ℤ, Bool, true, false, List, [], ◌∷◌, ◌++◌, map}
 use Rattle.bloom_ast.specs.Query.{Name}
 use Rattle.bloom_parse.specs.declared.terminal.Terminal.{Terminal}
 use Rattle.bloom_parse.specs.declared.terminal.Terminal.TheVariants as terminals
@@ -9,7 +8,7 @@ use Rattle.bloom_parse.specs.declared.terminal.Word.TheVariants as words
 use Rattle.bloom_parse.specs.declared.terminal.Mark.TheVariants as marks
 use Rattle.bloom_parse.specs.declared.printer.Place.{Place}
 use Rattle.bloom_parse.specs.declared.printer.Place.TheVariants.{Whole, Side, Single}
-use Rattle.bloom_parse.specs.Trees.{Item, word, mark, keys_text, agg_text, unit_text, ands_text, ors_text, item_text, more_items_text, more_names_text}
+use Rattle.bloom_parse.specs.Trees.{word, mark, keys_text, agg_text, unit_text, ands_text, ors_text, item_text, more_items_text, more_names_text}
 use Rattle.bloom_parse.specs.Layout.{Levels, item_of}
 
 -- a predicate where it stands

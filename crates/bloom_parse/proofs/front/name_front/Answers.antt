@@ -1,4 +1,3 @@
-use Rattle.std.proofs.Common.{◌≡◌, rules, true}
 use Rattle.blz_value.specs.Name.{is_name_byte}
 use Rattle.bloom_parse.proofs.RunLemmas.{run_passes}
 use Rattle.bloom_parse.proofs.front.name_front.Goals as goal

@@ -1,4 +1,4 @@
-use Rattle.std.proofs.Common.{◌≡◌, ℕ, List, [], ◌∷◌, ◌++◌, ap, ◌∙◌, sym, append_assoc}
+use Rattle.std.proofs.Common.{ℕ, List, [], ◌∷◌, ap, ◌∙◌, sym, append_assoc}
 use Rattle.blz_value.specs.Text.{escaped}
 use Rattle.bloom_parse.specs.Tokens.{front}
 use Rattle.bloom_parse.proofs.LiteralLemmas.{text_back}

@@ -1,7 +1,7 @@
-use Rattle.std.proofs.Common.{◌≡◌, sym, ap, ◌∙◌, subst, rules, ◌++◌, ◌∷◌, [], length, ◌<◌, List, ℕ, Some, None}
+use Rattle.std.proofs.Common.{sym, ap, ◌∙◌, subst, ◌++◌, ◌∷◌, [], length, ◌<◌, List, ℕ}
 use Rattle.std.specs.Option.{option_map}
 use Rattle.bloom_parse.specs.declared.terminal.Terminal.{Terminal}
-use Rattle.bloom_parse.specs.Tokens.{HasTokens, front, last_of}
+use Rattle.bloom_parse.specs.Tokens.{HasTokens}
 use Rattle.bloom_parse.proofs.ShorterLemmas.{lex_shorter}
 use Rattle.bloom_parse.proofs.LexLemmas.{lex_done}
 use Rattle.bloom_parse.proofs.lexer.lexed.Goals as goal

@@ -1,4 +1,4 @@
-use Rattle.std.proofs.Common.{◌≡◌, ◌∙◌, [], map, sym, subst}
+use Rattle.std.proofs.Common.{◌∙◌, sym, subst}
 use Rattle.bloom_ast.specs.declared.module.Kind.TheVariants.{Table}
 use Rattle.bloom_ast.specs.Program.{columns_of_kind}
 use Rattle.bloom_ast.specs.Step.{Sets}

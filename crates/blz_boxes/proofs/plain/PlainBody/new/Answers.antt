@@ -1,4 +1,4 @@
-use Rattle.std.proofs.Common.{◌≡◌, ◌∙◌, [], List, map, ap, sym, subst}
+use Rattle.std.proofs.Common.{◌≡◌, ◌∙◌, List, ap, sym, subst}
 use Rattle.bloom_ast.specs.declared.module.Kind.TheVariants.{Table}
 use Rattle.bloom_ast.specs.declared.module.Collection.{Collection}
 use Rattle.bloom_ast.specs.Form.{Form, Accepted}

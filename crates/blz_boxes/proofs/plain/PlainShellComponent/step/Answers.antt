@@ -1,4 +1,4 @@
-use Rattle.std.proofs.Common.{◌≡◌, [], Option, Some, Err, OnOk, sym, subst}
+use Rattle.std.proofs.Common.{◌≡◌, [], Option, Err, OnOk, sym, subst}
 use Rattle.std.specs.Option.{option_map, option_map_or}
 use Rattle.bloom_ast.specs.declared.program.Program.TheVariants.{Module as ModuleProgram}
 use Rattle.bloom_eval.specs.declared.fault.StepFault.TheVariants.{TooManyRows}

@@ -65,7 +65,23 @@ tr <= rights;
 joined <= group(join(project(tl, x), tr, x = x), [k], count as n);
 ";
 
+const CACHE: &str = "module cache;
+input response(id, n);
+output answers(id, n);
+table stored(id, n);
+stored <= response;
+answers <= stored;
+";
+
 const GOSSIP: &str = "module gossip;
+input told(item);
+output tells(item);
+table known(item);
+known <= told;
+tells <= known;
+";
+
+const GROUPING: &str = "module gossip;
 input told(item);
 output tells(item);
 table known(item);
@@ -118,7 +134,7 @@ fn module_fault(rt: &impl Abort, alloc: Global, text: &[u8]) -> Result<Option<Mo
 #[test]
 fn module_texts_are_read_back(rt: HostRuntime) -> Result<(), Fail> {
     let texts = [
-        COUNT, COMMIT, CAMPAIGN, POOR, THRESHOLD, LOOSE, GOSSIP, COPY,
+        COUNT, COMMIT, CAMPAIGN, POOR, THRESHOLD, LOOSE, CACHE, GOSSIP, GROUPING, COPY,
     ];
     for text in texts {
         let again = printed(&rt, rt.alloc(), text.as_bytes())?;
@@ -192,7 +208,12 @@ fn faults_of_modules_have_their_places(rt: HostRuntime) -> Result<(), Fail> {
             ModulePlace::Rule(1),
         ),
         (
-            "module m; input words(id); output counts(n); table seen(a, b, c, d, e, f, g, h, i);",
+            "module count_words;
+input words(id, batch, at, word);
+output counts(word, batch, n);
+table seen(id, batch, at, word, a, b, c, d, e);
+seen <= words;
+counts <= group(seen, [word, batch], count as n);",
             ModuleKind::TooMany,
             ModulePlace::Collection(3),
         ),

@@ -142,7 +142,7 @@ begun_ends (Some Scratch) kept now ruled is = absurd (elim is [ inl e ↦ cc | i
 
 module _ (a : Accepted) (kept now : Sets) (ordered : IsOrdered a.form.collections a.form.rules a.heads) where
   -- what a collection holds at the end, by its number
-  ends : (k : ℕ) → IsDerived a.form.collections k ⊎ ((kind_at a.form.collections k ≡ None) ⊎ (kind_at a.form.collections k ≡ Some Input))
+  pub ends : (k : ℕ) → IsDerived a.form.collections k ⊎ ((kind_at a.form.collections k ≡ None) ⊎ (kind_at a.form.collections k ≡ Some Input))
       → set_at (at_end a kept now) k ≡ ended (kind_at a.form.collections k) (set_at kept (place_in_kind Table a.form.collections k)) (set_at now (place_in_kind Input a.form.collections k)) (ruled_at a.form (at_end a kept now) k)
   ends k (inl derived) =
       let cs = a.form.collections in

@@ -9,3 +9,5 @@ pub mod Ordering
 pub mod Whole
 pub mod Unfolding
 pub mod Small
+pub mod Wide
+pub mod NameNumbers

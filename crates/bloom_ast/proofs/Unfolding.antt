@@ -35,7 +35,7 @@ place_below t i (c ∷ cs) = elim (cases_Bool (t c)) [
     weaker None h = tt
     weaker (Some k) h = omega arith
 
-number_small : (cs : List Collection) (name : Name) → collection_number cs name ≤ length cs
+pub number_small : (cs : List Collection) (name : Name) → collection_number cs name ≤ length cs
 number_small cs name = go (position_from (is_named name) 0 cs) refl (place_below (is_named name) 0 cs)
   where
     go : (o : Option ℕ) → position_from (is_named name) 0 cs ≡ o → IfSome o (λ k. k < 0 + length cs) → collection_number cs name ≤ length cs
@@ -48,7 +48,7 @@ module _ (cs : List Collection) (rules : List RuleForm) (few : length cs ≤ 32)
   single : (r : RuleForm) (to : ℕ) → IsSingle (record { from = record { bits = set_of_name cs r.0 }; to = record { bits = to } })
   single r to = record { number = collection_number cs r.0; small = omega (arith, number_small cs r.0); is = refl }
 
-  arrows_single : (fd : Fd) → Has fd (arrows cs rules) → IsSingle fd
+  pub arrows_single : (fd : Fd) → Has fd (arrows cs rules) → IsSingle fd
   arrows_single fd n = let from = Has-from_map (arrow cs) fd rules n in subst (λ (z : Fd). IsSingle z) from.2 (single from.0 (named cs from.0.1))
 
   scratches_single : (fd : Fd) → Has fd (scratch_arrows cs rules) → IsSingle fd
@@ -112,7 +112,7 @@ module _ (cs : List Collection) (rules : List RuleForm) (q : Query) (few : lengt
 
 -- inputs are numbers below 64
 
-bit_of-above : (n : ℕ) → nat_lt n 64 ≡ false → bit_of n ≡ 0
+pub bit_of-above : (n : ℕ) → nat_lt n 64 ≡ false → bit_of n ≡ 0
 unfolding bit_of
 bit_of-above n f = rw f refl
 
@@ -122,18 +122,18 @@ bit_of-lt n = elim (cases_Bool (nat_lt n 64)) [
   | inr f ↦ rw (bit_of-above n f) (omega arith)
 ]
 
-bit_if-lt : (b : Bool) (n : ℕ) → bit_if b n < 2 ^ 64
+pub bit_if-lt : (b : Bool) (n : ℕ) → bit_if b n < 2 ^ 64
 bit_if-lt true n = bit_of-lt n
 bit_if-lt false n = omega arith
 
-with_all-lt : {X : Type 0} (f : X → ℕ) → ((x : X) → f x < 2 ^ 64) → (s : ℕ) (xs : List X) → s < 2 ^ 64 → with_all s (map f xs) < 2 ^ 64
+pub with_all-lt : {X : Type 0} (f : X → ℕ) → ((x : X) → f x < 2 ^ 64) → (s : ℕ) (xs : List X) → s < 2 ^ 64 → with_all s (map f xs) < 2 ^ 64
 with_all-lt f small s [] lt = lt
 with_all-lt f small s (x ∷ xs) lt = with_all-lt f small (bit_or s (f x)) xs (or_lt 64 s (f x) lt (small x))
 
 inputs-lt : (cs : List Collection) → kind_set is_input cs < 2 ^ 64
 inputs-lt cs = with_all-lt (λ place. bit_if (is_input place.1.kind) place.0) (λ place. bit_if-lt (is_input place.1.kind) place.0) 0 (enumerate_from 0 cs) (omega arith)
 
-bit_small : (s k : ℕ) → s < 2 ^ 64 → IsBitSet s k → k < 64
+pub bit_small : (s k : ℕ) → s < 2 ^ 64 → IsBitSet s k → k < 64
 bit_small s k lt set = elim (cases_Bool (nat_lt k 64)) [
   | inl t ↦ search rules
   | inr f ↦ absurd (let le : 64 ≤ k = search rules in omega (arith, bit_at_above s 64 k lt le, set_one s k set))

@@ -20,3 +20,7 @@ pub mod Reserved
 pub mod HeadKeys
 pub mod Literals
 pub mod Checks
+pub mod Widths
+pub mod Tests
+pub mod Numbered
+pub mod NumberedParts

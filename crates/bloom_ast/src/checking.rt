@@ -207,5 +207,5 @@ pub fn check(alloc: Global, module: &Module) -> Result<Checked, CheckFault>
 {
     let heads = clean_heads(alloc, module)?;
     let module = module.copy(alloc)?;
-    Ok(Checked::new(module, heads))
+    Ok(Checked::new(alloc, module, heads)?)
 }

@@ -1,5 +1,5 @@
 //! The columns of an expression, and whether they fit its operators.
-ghost use Rattle.std.specs.Prelude.{◌≡◌, ◌∷◌, [], ◌++◌, ◌&&◌, true, pos, int_lt, ◌<◌, drop, map, length, IfOk};
+ghost use Rattle.std.specs.Prelude.{◌≡◌, ◌≤◌, ◌∷◌, [], ◌++◌, ◌&&◌, true, pos, int_lt, ◌<◌, drop, map, length, IfOk, IfSome};
 ghost use Rattle.std.specs.Option.{option_and_then};
 ghost use Rattle.fd_closure.specs.Names as places;
 ghost use Rattle.bloom_ast.specs.Borrowed.{names_in, is_in_pair, others_from, keep, fitting, found_in};
@@ -93,7 +93,8 @@ fn aggregate_fits(columns: &[&Str], agg: &NamedAgg) -> bool
     }
 }
 
-fn borrowed<'a>(alloc: Global, names: &'a [Str]) -> Result<Vec<&'a Str>, AllocError>
+/// References to names.
+pub(crate) fn borrowed<'a>(alloc: Global, names: &'a [Str]) -> Result<Vec<&'a Str>, AllocError>
     ensures { IfOk result (λ refs. names_in refs.items ≡ names.now) }
 {
     let mut refs = Vec::new(alloc);
@@ -103,8 +104,11 @@ fn borrowed<'a>(alloc: Global, names: &'a [Str]) -> Result<Vec<&'a Str>, AllocEr
     Ok(refs)
 }
 
-// The second names.
-fn seconds<'a>(alloc: Global, pairs: &'a [(Str, Str)]) -> Result<Vec<&'a Str>, AllocError>
+/// The second names.
+pub(crate) fn seconds<'a>(
+    alloc: Global,
+    pairs: &'a [(Str, Str)],
+) -> Result<Vec<&'a Str>, AllocError>
     ensures { IfOk result (λ refs. names_in refs.items ≡ map (λ pair. pair.1) pairs.now) }
 {
     let mut refs = Vec::new(alloc);
@@ -147,7 +151,8 @@ fn kept<'a>(columns: Vec<&'a Str>, fit: bool) -> Option<Vec<&'a Str>>
 }
 
 fn place_of(names: &[&Str], name: &Str) -> Option<usize>
-    ensures { result ≡ places.place_of (names_in names.now) name.now }
+    ensures place { result ≡ places.place_of (names_in names.now) name.now }
+    ensures within { IfSome result (λ place. place < length names.now) }
 {
     for (place, held) in names.iter().enumerate() {
         if held.equals(name) {
@@ -157,8 +162,10 @@ fn place_of(names: &[&Str], name: &Str) -> Option<usize>
     None
 }
 
-fn column_number(names: &[&Str], name: &Str) -> usize
-    ensures { result ≡ columns_spec.column_number (names_in names.now) name.now }
+/// The number of the first column of this name; where there is none, how many columns there are.
+pub(crate) fn column_number(names: &[&Str], name: &Str) -> usize
+    ensures number { result ≡ columns_spec.column_number (names_in names.now) name.now }
+    ensures within { result ≤ length names.now }
 {
     place_of(names, name).unwrap_or(names.len())
 }
@@ -172,8 +179,8 @@ fn is_paired(right: &[&Str], pairs: &[(Str, Str)], number: usize) -> bool
         .any(|(_, second)| column_number(right, second) == number)
 }
 
-// The left columns, followed by the right ones that stand in no pair.
-fn joined<'a>(
+/// The left columns, followed by the right ones that stand in no pair.
+pub(crate) fn joined<'a>(
     left: Vec<&'a Str>,
     right: &[&'a Str],
     pairs: &[(Str, Str)],

@@ -13,6 +13,8 @@ mod fits;
 mod laws;
 mod lookup;
 mod module;
+mod numbered;
+mod numbering;
 mod program;
 mod reads;
 mod reserved;
@@ -24,6 +26,7 @@ pub use expr::{Expr, NamedAgg, Pred, Term};
 pub use fault::{CheckFault, ModuleFault, ModuleKind, ModulePlace};
 pub use laws::{reads_law, step_law};
 pub use module::{Collection, Kind, Module, Rule};
+pub use numbered::{NumberedExpr, NumberedRule};
 pub use program::Program;
 pub use reserved::{has_own_names, is_reserved};
 

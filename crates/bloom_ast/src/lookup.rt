@@ -1,5 +1,5 @@
 //! What a module says of a name.
-ghost use Rattle.std.specs.Prelude.{◌≡◌, ◌≤◌, length};
+ghost use Rattle.std.specs.Prelude.{◌≡◌, ◌≤◌, ◌<◌, length, IfSome};
 ghost use Rattle.std.specs.List.{list_any, position_from};
 ghost use Rattle.std.specs.Option.{option_map};
 ghost use Rattle.bloom_ast.specs.Kinds as kinds;
@@ -15,14 +15,16 @@ fn collection_named<'a>(collections: &'a [Collection], name: &Str) -> Option<&'a
 }
 
 fn place_of(collections: &[Collection], name: &Str) -> Option<usize>
-    ensures { result ≡ position_from (spec.is_named name.now) 0 collections.now }
+    ensures place { result ≡ position_from (spec.is_named name.now) 0 collections.now }
+    ensures within { IfSome result (λ place. place < length collections.now) }
 {
     collections.iter().position(|c| c.name.equals(name))
 }
 
 /// The number of the first collection of this name; where there is none, how many there are.
 pub(crate) fn collection_number(collections: &[Collection], name: &Str) -> usize
-    ensures { result ≡ spec.collection_number collections.now name.now }
+    ensures number { result ≡ spec.collection_number collections.now name.now }
+    ensures within { result ≤ length collections.now }
 {
     place_of(collections, name).unwrap_or(collections.len())
 }

@@ -14,8 +14,8 @@ use Rattle.bloom_ast.specs.Kinds.{same_kind, of_kind, kind_at, place_in_kind}
 use Rattle.bloom_ast.specs.Step.{Sets, set_at, begun, begun_at}
 use Rattle.std.specs.Option.{option_map}
 use Rattle.std.proofs.lemmas.Option.{slice_get-get_or}
-use Rattle.bloom_eval.specs.declared.part.Rows.{Rows}
-use Rattle.bloom_eval.specs.Parts.{rows_in, sets_in}
+use Rattle.bloom_eval.specs.declared.rows.Rows.{Rows}
+use Rattle.bloom_eval.specs.Held.{rows_in, sets_in}
 use Rattle.bloom_eval.specs.Begin.{left_by, place_after, AreLeft}
 
 -- the place of a kind behind a collection

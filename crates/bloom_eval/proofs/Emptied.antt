@@ -1,5 +1,5 @@
 -- Sets that are emptied one after another.
-use Rattle.std.proofs.Common.{◌≡◌, ◌<◌, ◌+◌, ℕ, zero, suc, List, [], ◌∷◌, ◌++◌, length, map, take, drop, slice_set, refl, arith, ap}
+use Rattle.std.proofs.Common.{◌≡◌, ◌<◌, ℕ, zero, suc, List, [], ◌∷◌, ◌++◌, length, map, take, drop, slice_set, refl, arith, ap}
 use Rattle.blz_value.specs.Record.{Row}
 use Rattle.bloom_ast.specs.Step.{Sets}
 

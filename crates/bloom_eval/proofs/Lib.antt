@@ -1,5 +1,4 @@
-pub mod ColumnLemmas
-pub mod Wide
+pub mod ByNumbers
 pub mod Evaluation
 pub mod Rules
 pub mod Beginning

@@ -1,26 +1,28 @@
 -- Adding the rows of rules to a set, one rule after the other.
-use Rattle.std.proofs.Common.{◌≡◌, ◌<◌, ◌≤◌, ◌+◌, ℕ, zero, suc, Bool, cond, ◌∷◌, ◌++◌, [], drop, get_or, List, length, Result, Ok, Err, refl, ap, ◌∙◌, sym, subst, inl, inr, arith}
-use Rattle.std.specs.Prelude.{◌==◌, slice_set}
-use Rattle.std.proofs.lemmas.List.{append_assoc, append-nil, drop_more, drop_all, get_or-set_same, get_or-set_other}
-use Rattle.std.proofs.lemmas.Bool.{cases_eq}
-use Rattle.bloom_eval.specs.Parts.{AreWide}
-use Rattle.blz_value.specs.Members.{Has}
+use Rattle.std.proofs.Common.{◌≡◌, ◌≢◌, ◌<◌, ◌≤◌, ◌+◌, ℕ, zero, suc, Bool, cond, ◌∷◌, ◌++◌, [], drop, get_or, List, length, Result, Ok, Err, refl, ap, ◌∙◌, sym, subst, inl, inr, arith}
+use Rattle.std.specs.Prelude.{slice_set}
+use Rattle.std.proofs.lemmas.List.{append_assoc, append-nil, drop_all, get_or-set_same}
+use Rattle.std.proofs.lemmas.Bool.{eq-eqb, ne_eqb}
+use Rattle.std.proofs.lemmas.Slice.Zip.{AllZip-long}
 use Rattle.blz_value.specs.Record.{Row}
 use Rattle.blz_value.specs.Sets.{set_of, IsRowSet}
-use Rattle.blz_value.proofs.Membership.{Has-append_left, Has-append_right, Has-append_cases, Has-map, Has-get_or}
+use Rattle.blz_value.proofs.Membership.{Has-append_left, Has-append_right, Has-append_cases}
 use Rattle.blz_value.proofs.RowSets.{set_of-sorted, set_of-append_set, length-set_of-append_left}
 use Rattle.blz_set.specs.RecordSet.{row_limit}
 use Rattle.blz_set.specs.declared.fault.SetFault.{SetFault}
 use Rattle.blz_set.specs.declared.fault.SetFault.TheVariants.{TooManyRows, NoMemory}
 use Rattle.bloom_ast.specs.Query.{Name}
-use Rattle.bloom_ast.specs.Form.{RuleForm, rule_form, rule_forms}
+use Rattle.bloom_ast.specs.Form.{RuleForm}
 use Rattle.bloom_ast.specs.declared.module.Collection.{Collection}
-use Rattle.bloom_ast.specs.declared.module.Rule.{Rule}
+use Rattle.bloom_ast.specs.declared.numbered.NumberedRule.{NumberedRule}
 use Rattle.bloom_ast.specs.Lookup.{collection_number, declared}
+use Rattle.bloom_ast.specs.Numbered.{IsNumberedRule, AreNumbered}
 use Rattle.bloom_ast.specs.Rows.{rows_of}
 use Rattle.bloom_ast.specs.Step.{Sets, set_at, rows_named, union_of, rules_at}
+use Rattle.bloom_eval.specs.NumberedRows.{numbered_rows, numbered_sets}
 use Rattle.bloom_eval.specs.Evaluates.{part_sets, AllFit}
-use Rattle.bloom_eval.specs.Counted.{rule_sets, AddsOne, Adds, TakesHead}
+use Rattle.bloom_eval.specs.Counted.{rule_sets, AddsRows, Adds, TakesHead}
+use Rattle.bloom_eval.proofs.ByNumbers.{same_rows, same_sets}
 
 module _ (columns : Name → List Name) (env : Name → List Row) where
   -- the union with one rule more
@@ -45,7 +47,7 @@ module _ (columns : Name → List Name) (env : Name → List Row) where
   adds_one rule rules old new (Err NoMemory) fit adds = tt
 
   -- the first rule is refused
-  pub first_refused : (X : Type 0) (rule : RuleForm) (rules : List RuleForm) (old mid new : List Row) (fault : SetFault) → AddsOne {X = X} columns env rule.1 old mid (Err fault) → Adds {X = X} columns env (rule ∷ rules) old new (Err fault)
+  pub first_refused : (X : Type 0) (rule : RuleForm) (rules : List RuleForm) (old mid new : List Row) (fault : SetFault) → AddsRows {X = X} (rows_of columns env rule.1) (part_sets columns env rule.1) old mid (Err fault) → Adds {X = X} columns env (rule ∷ rules) old new (Err fault)
   first_refused X rule rules old mid new TooManyRows over = elim over.stands [
     | inl e ↦ record {
       rows = set_of (old ++ union_of columns env (rule ∷ rules));
@@ -56,27 +58,45 @@ module _ (columns : Name → List Name) (env : Name → List Row) where
   ]
   first_refused X rule rules old mid new NoMemory over = tt
 
--- the rules of a collection, with one more in front
-pub rules_at-cons : (cs : List Collection) (rule : RuleForm) (rules : List RuleForm) (head : ℕ) (b : Bool) → b ≡ (collection_number cs rule.0 == head) → rules_at cs (rule ∷ rules) head ≡ cond b (rule ∷ rules_at cs rules head) (rules_at cs rules head)
-rules_at-cons cs rule rules head b is = ap (λ (t : Bool). cond t (rule ∷ rules_at cs rules head) (rules_at cs rules head)) (sym is)
+-- ---- rules by numbers
 
--- the rules from one on
-pub rules_from : (rules : List Rule) (i : ℕ) (rule : Rule) → i < length rules → rule ≡ get_or rules i rule → rule_forms (drop i rules) ≡ rule_form rule ∷ rule_forms (drop (i + 1) rules)
-rules_from rules i rule lt is = ap rule_forms (drop_more rules i rule lt) ∙ ap (λ (r : Rule). rule_form r ∷ rule_forms (drop (i + 1) rules)) (sym is)
+-- the rules from a place on begin with one whose form by numbers is this rule
+pub record IsFormAt (cs : List Collection) (forms : List RuleForm) (i : ℕ) (rule : NumberedRule) : Type 0 where
+  pub form : RuleForm
+  pub from : drop i forms ≡ form ∷ drop (i + 1) forms
+  pub is : IsNumberedRule cs form rule
 
-pub rule_in : (rules : List Rule) (i : ℕ) (rule : Rule) → i < length rules → rule ≡ get_or rules i rule → Has (rule_form rule) (rule_forms rules)
-rule_in rules i rule lt is = subst (λ (r : Rule). Has (rule_form r) (rule_forms rules)) (sym is) (Has-map rule_form (get_or rules i rule) rules (Has-get_or rules i rule lt))
+pub form_at : (cs : List Collection) (forms : List RuleForm) (rules : List NumberedRule) (i : ℕ) (rule : NumberedRule) → AreNumbered cs forms rules → i < length rules → rule ≡ get_or rules i rule → IsFormAt cs forms i rule
+form_at cs [] [] i rule all lt is = absurd (omega (arith, lt))
+form_at cs [] (r ∷ rules) i rule all lt is = absurd all
+form_at cs (f ∷ forms) [] i rule all lt is = absurd all
+form_at cs (f ∷ forms) (r ∷ rules) zero rule all lt is = record { form = f; from = refl; is = subst (λ (held : NumberedRule). IsNumberedRule cs f held) (sym is) all.0 }
+form_at cs (f ∷ forms) (r ∷ rules) (suc i) rule all lt is =
+    let at = form_at cs forms rules i rule all.1 (omega (arith, lt)) is in
+    let next : suc (i + 1) ≡ suc i + 1 = omega arith in
+    record { form = at.form; from = at.from ∙ ap (λ n. at.form ∷ drop n (f ∷ forms)) next; is = at.is }
 
--- past the last rule there are none
-pub none_from : (rules : List Rule) (i : ℕ) → length rules ≤ i → rule_forms (drop i rules) ≡ []
-none_from rules i le = ap rule_forms (drop_all i rules le)
+-- a rule is one of the head that has its number, and of no other
 
--- sets stay wide where one is emptied
-pub wide_without : (cs : List Collection) (sets : Sets) (head : ℕ) → head < length sets → ((name : Name) → AreWide (length (declared cs name)) (rows_named cs sets name)) → (name : Name) → AreWide (length (declared cs name)) (rows_named cs (slice_set sets head []) name)
-wide_without cs sets head lt wide name = elim (cases_eq head (collection_number cs name)) [
-  | inl e ↦ subst (λ (rows : List Row). AreWide (length (declared cs name)) rows) (sym (ap (set_at (slice_set sets head [])) (sym e) ∙ get_or-set_same sets head [] [] lt)) (λ k d lt. absurd (omega (arith, lt)))
-  | inr ne ↦ subst (λ (rows : List Row). AreWide (length (declared cs name)) rows) (sym (get_or-set_other sets head (collection_number cs name) [] [] (λ e. ne (sym e)))) (wide name)
-]
+pub own_rule : (cs : List Collection) (form : RuleForm) (forms : List RuleForm) (rule : NumberedRule) (head : ℕ) → IsNumberedRule cs form rule → rule.head ≡ head → rules_at cs (form ∷ forms) head ≡ form ∷ rules_at cs forms head
+own_rule cs form forms rule head is same = ap (λ (b : Bool). cond b (form ∷ rules_at cs forms head) (rules_at cs forms head)) (eq-eqb (collection_number cs form.0) head (sym is.head ∙ same))
+
+pub other_rule : (cs : List Collection) (form : RuleForm) (forms : List RuleForm) (rule : NumberedRule) (head : ℕ) → IsNumberedRule cs form rule → rule.head ≢ head → rules_at cs (form ∷ forms) head ≡ rules_at cs forms head
+other_rule cs form forms rule head is differ = ap (λ (b : Bool). cond b (form ∷ rules_at cs forms head) (rules_at cs forms head)) (ne_eqb (collection_number cs form.0) head (λ same. differ (is.head ∙ same)))
+
+-- past the last rule there are no forms
+pub none_from : (cs : List Collection) (forms : List RuleForm) (rules : List NumberedRule) (i : ℕ) → AreNumbered cs forms rules → length rules ≤ i → drop i forms ≡ []
+none_from cs forms rules i all le = drop_all i forms (omega (arith, AllZip-long (IsNumberedRule cs) forms rules all, le))
+
+-- the rows of a rule by numbers are those of its form
+pub adds_named : (X : Type 0) (cs : List Collection) (sets : Sets) (form : RuleForm) (rule : NumberedRule) (old new : List Row) (r : Result X SetFault) → IsNumberedRule cs form rule → AddsRows {X = X} (numbered_rows sets rule.body) (numbered_sets sets rule.body) old new r
+    → AddsRows {X = X} (rows_of (declared cs) (rows_named cs sets) form.1) (part_sets (declared cs) (rows_named cs sets) form.1) old new r
+adds_named X cs sets form rule old new r is adds =
+    let rows = same_rows cs sets form.1 rule.body is.body in
+    let parts = same_sets cs sets form.1 rule.body is.body in
+    subst (λ (A : Type 0). A) (λ i. AddsRows {X = X} (rows i) (parts i) old new r) adds
+
+-- ---- a head
 
 set-twice : (sets : Sets) (head : ℕ) (first second : List Row) → slice_set (slice_set sets head first) head second ≡ slice_set sets head second
 set-twice [] head first second = refl

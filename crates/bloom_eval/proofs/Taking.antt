@@ -25,12 +25,12 @@ use Rattle.bloom_ast.specs.Step.{Sets, set_at, rows_named, ended, rules_at, unio
 use Rattle.bloom_ast.specs.Equations.{Env}
 use Rattle.bloom_ast.proofs.Numbers.{get-within, derived-some, derived-no_port}
 use Rattle.bloom_ast.proofs.Equated.{same_rows, same_union, names_none, untouched}
-use Rattle.bloom_eval.specs.Parts.{AreWide}
+use Rattle.bloom_ast.specs.Widths.{AreWide}
 use Rattle.bloom_eval.specs.Evaluates.{parts_of, part_sets, AllFit, SomeIsOver}
 use Rattle.bloom_eval.specs.Counted.{rule_sets, TakesHead}
 use Rattle.bloom_eval.specs.StepAnswers.{IsRunnable, counted_at}
 use Rattle.bloom_eval.specs.Taken.{AreSetsOfAll, AreBegun, all_taken, TakesHeads}
-use Rattle.bloom_eval.proofs.Wide.{wide_rows}
+use Rattle.bloom_ast.proofs.Wide.{wide_rows}
 use Rattle.bloom_eval.proofs.Widths.{columns_at, columns-number, length-sets_of_all, wide_at, set_wide, wide_named}
 
 -- ---- what an expression names decides the rows of its parts

@@ -16,8 +16,8 @@ use Rattle.bloom_ast.specs.Step.{Sets, set_at, rows_named, begun, begun_at, at_s
 use Rattle.bloom_ast.proofs.Numbers.{get-number, derived-no_port}
 use Rattle.bloom_ast.proofs.Equated.{starts}
 use Rattle.bloom_eval.specs.Begin.{AreLeft}
-use Rattle.bloom_eval.specs.Parts.{AreWide}
-use Rattle.bloom_eval.specs.StepAnswers.{AreSetsOf}
+use Rattle.bloom_ast.specs.Widths.{AreWide}
+use Rattle.bloom_ast.specs.Widths.{AreSetsOf}
 use Rattle.bloom_eval.specs.Taken.{AreSetsOfAll, AreBegun}
 
 -- the columns of the collection with the number

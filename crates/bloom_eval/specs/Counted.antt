@@ -7,9 +7,8 @@ use Rattle.blz_set.specs.declared.fault.SetFault.{SetFault}
 use Rattle.blz_set.specs.declared.fault.SetFault.TheVariants.{TooManyRows, NoMemory}
 use Rattle.bloom_ast.specs.declared.module.Collection.{Collection}
 use Rattle.bloom_ast.specs.Lookup.{declared}
-use Rattle.bloom_ast.specs.Query.{Name, Query}
+use Rattle.bloom_ast.specs.Query.{Name}
 use Rattle.bloom_ast.specs.Form.{RuleForm}
-use Rattle.bloom_ast.specs.Rows.{rows_of}
 use Rattle.bloom_ast.specs.Step.{Sets, set_at, rows_named, rules_at, union_of}
 use Rattle.bloom_eval.specs.Evaluates.{part_sets, AllFit, SomeIsOver}
 
@@ -17,11 +16,11 @@ use Rattle.bloom_eval.specs.Evaluates.{part_sets, AllFit, SomeIsOver}
 abbrev pub rule_sets : (Name → List Name) → (Name → List Row) → List RuleForm → Sets
 rule_sets columns env rules = flat_map (λ rule. part_sets columns env rule.1) rules
 
--- the rows of an expression were added to a set; TooManyRows comes exactly where they make it too large, or a part has too many rows
-abbrev pub AddsOne : {X : Type 0} → (Name → List Name) → (Name → List Row) → Query → (old new : List Row) → Result X SetFault → Type 0
-AddsOne columns env q old new (Ok x) = (new ≡ set_of (old ++ rows_of columns env q)) × AllFit (part_sets columns env q)
-AddsOne columns env q old new (Err TooManyRows) = SomeIsOver (set_of (old ++ rows_of columns env q) ∷ part_sets columns env q)
-AddsOne columns env q old new (Err NoMemory) = Unit {0}
+-- rows were added to a set; TooManyRows comes exactly where they make it too large, or one of the sets that they come from has too many rows
+abbrev pub AddsRows : {X : Type 0} → (rows : List Row) (sets : Sets) → (old new : List Row) → Result X SetFault → Type 0
+AddsRows rows sets old new (Ok x) = (new ≡ set_of (old ++ rows)) × AllFit sets
+AddsRows rows sets old new (Err TooManyRows) = SomeIsOver (set_of (old ++ rows) ∷ sets)
+AddsRows rows sets old new (Err NoMemory) = Unit {0}
 
 -- the rows of some rules were added to a set; TooManyRows comes exactly where they make it too large, or a part of a body has too many rows
 abbrev pub Adds : {X : Type 0} → (Name → List Name) → (Name → List Row) → List RuleForm → (old new : List Row) → Result X SetFault → Type 0

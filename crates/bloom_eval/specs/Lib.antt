@@ -1,6 +1,6 @@
 pub mod Faults
-pub mod Parts
-pub mod Tests
+pub mod Held
+pub mod NumberedRows
 pub mod Evaluates
 pub mod Counted
 pub mod StepAnswers

@@ -1,9 +1,7 @@
 -- What a step asks of a module and of its sets, and what it answers.
 use Rattle.std.specs.Prelude.{ℕ, ◌≡◌, Result, Ok, Err, List, ◌++◌, length, map}
-use Rattle.std.specs.List.{AllZip}
 use Rattle.blz_value.specs.Members.{Has}
 use Rattle.bloom_ast.specs.declared.module.Collection.{Collection}
-use Rattle.bloom_ast.specs.Query.{Name}
 use Rattle.bloom_ast.specs.Form.{RuleForm, Accepted}
 use Rattle.bloom_ast.specs.Lookup.{collection_number, declared}
 use Rattle.bloom_ast.specs.Columns.{columns_of}
@@ -11,24 +9,18 @@ use Rattle.bloom_ast.specs.Heads.{IsOrdered}
 use Rattle.bloom_ast.specs.Step.{Sets, set_at, rows_named, at_end, tables_after, outputs_of}
 use Rattle.bloom_eval.specs.declared.fault.StepFault.{StepFault}
 use Rattle.bloom_eval.specs.declared.fault.StepFault.TheVariants.{TooManyRows, NoMemory}
-use Rattle.bloom_eval.specs.Parts.{AreWide}
-use Rattle.bloom_eval.specs.Evaluates.{AllFit, SomeIsOver, IsGood}
+use Rattle.bloom_eval.specs.Evaluates.{AllFit, SomeIsOver}
 use Rattle.bloom_eval.specs.Counted.{rule_sets}
 
--- a rule has a head that is no port, a body whose parts have few columns and whose predicates name columns that are there, and as many columns in the body as in the head
+-- a rule has a head that is no port, and as many columns in the body as in the head
 pub record IsGoodRule (cs : List Collection) (heads : List ℕ) (rule : RuleForm) : Type 0 where
   pub head : Has (collection_number cs rule.0) heads
-  pub body : IsGood (declared cs) rule.1
   pub wide : length (columns_of (declared cs) rule.1) ≡ length (declared cs rule.0)
 
 -- the heads of a module are in order, and its rules are good
 pub record IsRunnable (a : Accepted) : Type 0 where
   pub ordered : IsOrdered a.form.collections a.form.rules a.heads
   pub rules : (rule : RuleForm) → Has rule a.form.rules → IsGoodRule a.form.collections a.heads rule
-
--- one set for each list of columns, with rows of that width
-abbrev pub AreSetsOf : List (List Name) → Sets → Type 0
-AreSetsOf columns sets = AllZip (λ names rows. AreWide (length names) rows) columns sets
 
 -- the sets that count, where the collections hold these at the end: the sets of tables, scratches and outputs, and the rows of each part of each rule's body
 abbrev pub counted_at : Accepted → Sets → Sets

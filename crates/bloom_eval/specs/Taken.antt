@@ -5,17 +5,13 @@ use Rattle.blz_set.specs.declared.fault.SetFault.{SetFault}
 use Rattle.blz_set.specs.declared.fault.SetFault.TheVariants.{TooManyRows, NoMemory}
 use Rattle.bloom_ast.specs.declared.module.Kind.TheVariants.{Table}
 use Rattle.bloom_ast.specs.declared.module.Collection.{Collection}
-use Rattle.bloom_ast.specs.declared.module.Module.{Module}
-use Rattle.bloom_ast.specs.Form.{Accepted, form_of}
+use Rattle.bloom_ast.specs.Form.{Accepted}
 use Rattle.bloom_ast.specs.Heads.{IsDerived}
 use Rattle.bloom_ast.specs.Kinds.{kind_at}
 use Rattle.bloom_ast.specs.Step.{Sets, set_at, with_head}
 use Rattle.bloom_eval.specs.Evaluates.{AllFit, SomeIsOver}
-use Rattle.bloom_eval.specs.StepAnswers.{AreSetsOf, counted_at}
-
--- a module with an order of its heads
-abbrev pub ordered_by : Module → List ℕ → Accepted
-ordered_by m heads = record { form = form_of m; heads = heads }
+use Rattle.bloom_ast.specs.Widths.{AreSetsOf}
+use Rattle.bloom_eval.specs.StepAnswers.{counted_at}
 
 -- one set for each collection, with rows of its width
 abbrev pub AreSetsOfAll : List Collection → Sets → Type 0

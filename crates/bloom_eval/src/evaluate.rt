@@ -1,93 +1,72 @@
 //! The evaluation of expressions over what the collections hold.
-ghost use Rattle.std.specs.Prelude.{◌≡◌, ◌≤◌, ◌<◌, length, IfOk, IfSome};
-ghost use Rattle.std.specs.List.{position_from};
+ghost use Rattle.std.specs.Prelude.{◌≡◌, ◌≤◌, List, length};
+ghost use Rattle.blz_value.specs.Record.{Row};
+ghost use Rattle.blz_set.specs.Answers.{Gives};
 ghost use Rattle.blz_set.specs.RecordSet.{row_limit};
-ghost use Rattle.bloom_ast.specs.Query.{Name};
-ghost use Rattle.bloom_ast.specs.Form.{query_of};
-ghost use Rattle.bloom_ast.specs.Lookup.{is_named, declared};
-ghost use Rattle.bloom_ast.specs.Step.{rows_named};
-ghost use Rattle.bloom_eval.specs.Parts.{rows_in, sets_in, shown, AreWide};
-ghost use Rattle.bloom_eval.specs.Evaluates.{IsGood, Evaluates};
+ghost use Rattle.bloom_ast.specs.Step.{set_at};
+ghost use Rattle.bloom_eval.specs.Held.{rows_in, sets_in};
+ghost use Rattle.bloom_eval.specs.NumberedRows.{numbered_rows, numbered_sets, TestsFit};
+ghost use Rattle.bloom_eval.specs.Evaluates.{GivesRows, Evaluates};
 
-use crate::part::{Part, Rows, names_of};
-use bloom_ast::{Collection, Expr};
+use crate::rows::Rows;
+use bloom_ast::NumberedExpr;
 use blz_set::{RecordSet, SetFault};
-use blz_value::Str;
-use std::alloc::{AllocError, Global};
+use std::alloc::Global;
 
-/// The number of the first collection of a name.
-pub(crate) fn number_of(collections: &[Collection], name: &Str) -> Option<usize>
-    ensures within { IfSome result (λ number. number < length collections.now) }
-    ensures computed { result ≡ position_from (is_named name.now) 0 collections.now }
+// The rows of a collection, which are lent. A number that no collection has stands for the empty set.
+fn base_rows<'a>(alloc: Global, held: &'a [Rows<'_>], number: u32) -> Rows<'a>
+    ensures rows { rows_in result ≡ set_at (sets_in held.now) number }
+    ensures small { length (rows_in result) ≤ row_limit }
 {
-    collections
-        .iter()
-        .position(|collection| collection.name.equals(name))
+    match held.get(number as usize) {
+        Some(rows) => Rows::Lent(rows.as_set()),
+        None => Rows::Own(RecordSet::new(alloc)),
+    }
 }
 
-// The rows of a collection, which are lent. A name that no collection has stands for the empty set.
-fn base_part<'a>(
-    alloc: Global,
-    collections: &'a [Collection],
-    held: &'a [Rows<'_>],
-    name: &Str,
-) -> Result<Part<'a>, AllocError>
-    requires same { length held.now ≡ length collections.now }
-    ensures columns { IfOk result (λ part. shown part.columns.items ≡ declared collections.now name.now) }
-    ensures rows { IfOk result (λ part. rows_in part.rows ≡ rows_named collections.now (sets_in held.now) name.now) }
-    ensures small { IfOk result (λ part. length (rows_in part.rows) ≤ row_limit) }
+#[tactic(auto, using(crate::proofs::Evaluation::gives_rows, crate::proofs::Evaluation::gives_fault))]
+fn owned<'a>(set: Result<RecordSet, SetFault>) -> Result<Rows<'a>, SetFault>
+    ensures { (rows : List Row) → Gives rows set → GivesRows rows result }
 {
-    match number_of(collections, name) {
-        Some(number) => Ok(Part {
-            columns: names_of(alloc, collections[number].columns.as_slice())?,
-            rows: Rows::Lent(held[number].as_set()),
-        }),
-        None => Ok(Part {
-            columns: Vec::new(alloc),
-            rows: Rows::Own(RecordSet::new(alloc)),
-        }),
-    }
+    Ok(Rows::Own(set?))
 }
 
 /// The rows of an expression. It recurses as deep as the expression.
 pub(crate) fn evaluate<'a>(
     alloc: Global,
-    expr: &'a Expr,
-    collections: &'a [Collection],
+    expr: &NumberedExpr,
     held: &'a [Rows<'_>],
-) -> Result<Part<'a>, SetFault>
-    requires same { length held.now ≡ length collections.now }
-    requires wide { (name : Name) → AreWide (length (declared collections.now name)) (rows_named collections.now (sets_in held.now) name) }
-    requires good { IsGood (declared collections.now) (query_of expr.now) }
-    ensures { Evaluates (declared collections.now) (rows_named collections.now (sets_in held.now)) (query_of expr.now) result }
+) -> Result<Rows<'a>, SetFault>
+    requires { TestsFit (sets_in held.now) expr.now }
+    ensures { Evaluates (numbered_rows (sets_in held.now) expr.now) (numbered_sets (sets_in held.now) expr.now) result }
 {
     match expr {
-        Expr::Base(name) => Ok(base_part(alloc, collections, held, name)?),
-        Expr::Select(part, pred) => {
-            let part = evaluate(alloc, part, collections, held)?;
-            part.select(alloc, pred)
+        NumberedExpr::Base(number) => Ok(base_rows(alloc, held, *number)),
+        NumberedExpr::Select(part, test) => {
+            let part = evaluate(alloc, part, held)?;
+            owned(part.as_set().select(test))
         }
-        Expr::Project(part, items) => {
-            let part = evaluate(alloc, part, collections, held)?;
-            part.project(alloc, items.as_slice())
+        NumberedExpr::Project(part, columns) => {
+            let part = evaluate(alloc, part, held)?;
+            owned(part.as_set().project(columns.as_slice()))
         }
-        Expr::Join(left, right, pairs) => {
-            let left = evaluate(alloc, left, collections, held)?;
-            let right = evaluate(alloc, right, collections, held)?;
-            left.join(alloc, right, pairs.as_slice())
+        NumberedExpr::Join(left, right, pairs) => {
+            let left = evaluate(alloc, left, held)?;
+            let right = evaluate(alloc, right, held)?;
+            owned(left.as_set().join(right.as_set(), pairs.as_slice()))
         }
-        Expr::NotIn(left, right, pairs) => {
-            let left = evaluate(alloc, left, collections, held)?;
-            let right = evaluate(alloc, right, collections, held)?;
-            left.antijoin(alloc, &right, pairs.as_slice())
+        NumberedExpr::NotIn(left, right, pairs) => {
+            let left = evaluate(alloc, left, held)?;
+            let right = evaluate(alloc, right, held)?;
+            owned(left.as_set().antijoin(right.as_set(), pairs.as_slice()))
         }
-        Expr::Group(part, keys, agg, name) => {
-            let part = evaluate(alloc, part, collections, held)?;
-            part.group(alloc, keys.as_slice(), agg, name)
+        NumberedExpr::Group(part, keys, agg) => {
+            let part = evaluate(alloc, part, held)?;
+            owned(part.as_set().group(keys.as_slice(), *agg))
         }
-        Expr::AtLeast(part, keys, bound) => {
-            let part = evaluate(alloc, part, collections, held)?;
-            part.at_least(alloc, keys.as_slice(), *bound)
+        NumberedExpr::AtLeast(part, keys, bound) => {
+            let part = evaluate(alloc, part, held)?;
+            owned(part.as_set().at_least(keys.as_slice(), *bound))
         }
     }
 }

@@ -2,10 +2,10 @@
 ghost use Rattle.std.specs.Prelude.{◌≡◌, ◌++◌, length, OnOk, IfOk};
 ghost use Rattle.bloom_ast.specs.declared.module.Kind.TheVariants.{Output, Table};
 ghost use Rattle.bloom_ast.specs.Step.{sets_of_kind};
-ghost use Rattle.bloom_eval.specs.Parts.{rows_in, sets_in};
+ghost use Rattle.bloom_eval.specs.Held.{rows_in, sets_in};
 ghost use Rattle.bloom_eval.specs.Finish.{placed};
 
-use crate::part::{Rows, take_rows};
+use crate::rows::{Rows, take_rows};
 use crate::sets::{Kept, Outs};
 use bloom_ast::{Collection, Kind};
 use blz_set::RecordSet;

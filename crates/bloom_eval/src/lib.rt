@@ -3,11 +3,10 @@
 #![tactic(auto)]
 
 mod begin;
-mod columns;
 mod evaluate;
 mod fault;
 mod finish;
-mod part;
+mod rows;
 mod sets;
 mod step;
 

@@ -1,74 +1,54 @@
 //! One step of a module.
-ghost use Rattle.std.specs.Prelude.{◌≡◌, ◌<◌, ◌==◌, [], length, slice_set, IfOk, OnOk};
-ghost use Rattle.blz_value.specs.Members.{Has};
-ghost use Rattle.bloom_ast.specs.Query.{Name};
-ghost use Rattle.bloom_ast.specs.Form.{RuleForm, query_of, rule_forms};
-ghost use Rattle.bloom_ast.specs.Lookup.{collection_number, declared};
+ghost use Rattle.std.specs.Prelude.{◌≡◌, ◌<◌, [], length, slice_set, IfOk, OnOk};
+ghost use Rattle.bloom_ast.specs.Lookup.{declared};
 ghost use Rattle.bloom_ast.specs.declared.module.Kind.TheVariants.{Input, Table};
 ghost use Rattle.bloom_ast.specs.Program.{columns_of_kind};
 ghost use Rattle.bloom_ast.specs.Step.{set_at, rows_named, rules_at};
-ghost use Rattle.bloom_eval.specs.Parts.{sets_in, AreWide};
-ghost use Rattle.bloom_eval.specs.Evaluates.{IsGood};
-ghost use Rattle.bloom_eval.specs.Counted.{AddsOne, Adds, TakesHead};
-ghost use Rattle.bloom_eval.specs.StepAnswers.{IsRunnable, AreSetsOf, StepGives};
-ghost use Rattle.bloom_eval.specs.Taken.{ordered_by, AreSetsOfAll, AreBegun, TakesHeads};
+ghost use Rattle.bloom_eval.specs.Held.{sets_in};
+ghost use Rattle.bloom_eval.specs.NumberedRows.{numbered_rows, numbered_sets, TestsFit};
+ghost use Rattle.bloom_eval.specs.Counted.{AddsRows, Adds, TakesHead};
+ghost use Rattle.bloom_ast.specs.Widths.{AreSetsOf};
+ghost use Rattle.bloom_eval.specs.StepAnswers.{IsRunnable, StepGives};
+ghost use Rattle.bloom_eval.specs.Taken.{AreSetsOfAll, AreBegun, TakesHeads};
 
 use crate::begin::begin;
-use crate::evaluate::{evaluate, number_of};
+use crate::evaluate::evaluate;
 use crate::fault::StepFault;
 use crate::finish::finish;
-use crate::part::{Rows, take_rows};
+use crate::rows::{Rows, take_rows};
 use crate::sets::{Arrivals, Kept, Outs};
-use bloom_ast::{Checked, Collection, Module, Rule};
+use bloom_ast::{Checked, NumberedRule};
 use blz_set::{RecordSet, SetFault};
 use std::alloc::{AllocError, Global};
 
-// Whether a rule is one of the collection with the number.
-fn is_rule_of(collections: &[Collection], rule: &Rule, head: usize) -> bool
-    requires { head < length collections.now }
-    ensures { result ≡ (collection_number collections.now rule.now.head == head) }
-{
-    match number_of(collections, &rule.head) {
-        Some(number) => number == head,
-        None => false,
-    }
-}
-
 // Adds the rows of a rule's body to a set.
-fn add_rule<'a>(
+fn add_rule(
     alloc: Global,
-    collections: &'a [Collection],
-    rule: &'a Rule,
-    held: &'a [Rows<'_>],
+    rule: &NumberedRule,
+    held: &[Rows<'_>],
     set: &mut RecordSet,
 ) -> Result<(), SetFault>
-    requires same { length held.now ≡ length collections.now }
-    requires wide { (name : Name) → AreWide (length (declared collections.now name)) (rows_named collections.now (sets_in held.now) name) }
-    requires good { IsGood (declared collections.now) (query_of rule.now.body) }
-    ensures { AddsOne (declared collections.now) (rows_named collections.now (sets_in held.now)) (query_of rule.now.body) set.old set.new result }
+    requires { TestsFit (sets_in held.now) rule.now.body }
+    ensures { AddsRows (numbered_rows (sets_in held.now) rule.now.body) (numbered_sets (sets_in held.now) rule.now.body) set.old set.new result }
 {
-    let part = evaluate(alloc, &rule.body, collections, held)?;
-    set.union_in(part.rows.as_set())
+    let rows = evaluate(alloc, &rule.body, held)?;
+    set.union_in(rows.as_set())
 }
 
 // Adds to a set what the rules of a head give. After a fault the set has some of it.
-fn add_rules<'a>(
+fn add_rules(
     alloc: Global,
-    collections: &'a [Collection],
-    rules: &'a [Rule],
-    held: &'a [Rows<'_>],
-    head: usize,
+    program: &Checked,
+    held: &[Rows<'_>],
+    head: u32,
     set: &mut RecordSet,
 ) -> Result<(), SetFault>
-    requires same { length held.now ≡ length collections.now }
-    requires within { head < length collections.now }
-    requires wide { (name : Name) → AreWide (length (declared collections.now name)) (rows_named collections.now (sets_in held.now) name) }
-    requires good { (rule : RuleForm) → Has rule (rule_forms rules.now) → IsGood (declared collections.now) rule.1 }
-    ensures { Adds (declared collections.now) (rows_named collections.now (sets_in held.now)) (rules_at collections.now (rule_forms rules.now) head) set.old set.new result }
+    requires { AreSetsOfAll program.now.form.collections (sets_in held.now) }
+    ensures { Adds (declared program.now.form.collections) (rows_named program.now.form.collections (sets_in held.now)) (rules_at program.now.form.collections program.now.form.rules head) set.old set.new result }
 {
-    for rule in rules {
-        if is_rule_of(collections, rule, head) {
-            add_rule(alloc, collections, rule, held, set)?;
+    for rule in program.rules() {
+        if rule.head == head {
+            add_rule(alloc, rule, held, set)?;
         }
     }
     let _rows = set.rows();
@@ -93,41 +73,38 @@ fn put_set(held: &mut Vec<Rows<'_>>, number: usize, set: RecordSet)
 }
 
 // Takes a head: its set gets what its rules give.
-fn take_head<'a>(
+fn take_head(
     alloc: Global,
-    collections: &'a [Collection],
-    rules: &'a [Rule],
+    program: &Checked,
     held: &mut Vec<Rows<'_>>,
-    head: usize,
+    head: u32,
 ) -> Result<(), SetFault>
-    requires same { length held.old.items ≡ length collections.now }
-    requires within { head < length collections.now }
-    requires wide { (name : Name) → AreWide (length (declared collections.now name)) (rows_named collections.now (sets_in held.old.items) name) }
-    requires good { (rule : RuleForm) → Has rule (rule_forms rules.now) → IsGood (declared collections.now) rule.1 }
-    ensures { TakesHead collections.now (rule_forms rules.now) head (sets_in held.old.items) (sets_in held.new.items) result }
+    requires within { head < length held.old.items }
+    requires wide { AreSetsOfAll program.now.form.collections (sets_in held.old.items) }
+    ensures { TakesHead program.now.form.collections program.now.form.rules head (sets_in held.old.items) (sets_in held.new.items) result }
 {
-    let mut set = take_set(alloc, held, head)?;
-    add_rules(alloc, collections, rules, held, head, &mut set)?;
-    put_set(held, head, set);
+    let number = head as usize;
+    let mut set = take_set(alloc, held, number)?;
+    add_rules(alloc, program, held, head, &mut set)?;
+    put_set(held, number, set);
     Ok(())
 }
 
 // Takes the heads of a module in their order.
 fn take_heads(
     alloc: Global,
-    written: &Module,
+    program: &Checked,
     heads: &[u32],
     held: &mut Vec<Rows<'_>>,
 ) -> Result<(), SetFault>
-    requires runnable { IsRunnable (ordered_by written.now heads.now) }
-    requires begun { AreBegun written.now.collections (sets_in held.old.items) }
-    ensures taken { TakesHeads (ordered_by written.now heads.now) (sets_in held.old.items) (sets_in held.new.items) result }
-    ensures wide { OnOk result (AreSetsOfAll written.now.collections (sets_in held.new.items)) }
+    requires heads { heads.now ≡ program.now.heads }
+    requires runnable { IsRunnable program.now }
+    requires begun { AreBegun program.now.form.collections (sets_in held.old.items) }
+    ensures taken { TakesHeads program.now (sets_in held.old.items) (sets_in held.new.items) result }
+    ensures wide { OnOk result (AreSetsOfAll program.now.form.collections (sets_in held.new.items)) }
 {
-    let collections = written.collections.as_slice();
-    let rules = written.rules.as_slice();
     for head in heads {
-        take_head(alloc, collections, rules, held, *head as usize)?;
+        take_head(alloc, program, held, *head)?;
     }
     Ok(())
 }
@@ -150,7 +127,7 @@ pub fn step_plain(
     let written = program.module();
     let collections = written.collections.as_slice();
     let mut held = begin(alloc, collections, kept, now.sets())?;
-    take_heads(alloc, written, program.heads(), &mut held)?;
+    take_heads(alloc, program, program.heads(), &mut held)?;
     let (tables, outs) = finish(alloc, collections, held)?;
     *kept = tables;
     Ok(outs)

@@ -3,7 +3,7 @@ use Rattle.std.specs.Prelude.{List, [], ◌∷◌}
 use Rattle.std.proofs.Props.{props}
 use Rattle.bloom_ast.specs.Query.{Name}
 use Rattle.bloom_ast.specs.Step.{Sets}
-use Rattle.bloom_eval.specs.StepAnswers.{AreSetsOf}
+use Rattle.bloom_ast.specs.Widths.{AreSetsOf}
 
 pub AreSetsOf-prop : (columns : List (List Name)) (sets : Sets) → IsProp (AreSetsOf columns sets)
 AreSetsOf-prop [] [] = hlevel

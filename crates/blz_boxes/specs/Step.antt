@@ -5,7 +5,8 @@ use Rattle.bloom_ast.specs.declared.program.Program.TheVariants.{Module, Split, 
 use Rattle.bloom_ast.specs.Step.{Sets}
 use Rattle.bloom_ast.specs.Program.{port_columns}
 use Rattle.bloom_ast.specs.ProgramStep.{tables_after_step, outputs_of_step, empty_tables}
-use Rattle.bloom_eval.specs.StepAnswers.{AreSetsOf, counted_sets}
+use Rattle.bloom_ast.specs.Widths.{AreSetsOf}
+use Rattle.bloom_eval.specs.StepAnswers.{counted_sets}
 
 -- what arrives has one set for each port of the program, with rows of its width
 abbrev pub Arrive : Option Program → (now : Sets) → Type 0

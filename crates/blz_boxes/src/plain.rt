@@ -6,7 +6,7 @@ ghost use Rattle.bloom_ast.specs.declared.program.Program.TheVariants.{Module as
 ghost use Rattle.bloom_ast.specs.Program.{columns_of_kind};
 ghost use Rattle.bloom_ast.specs.ProgramStep.{tables_after_step, outputs_of_step};
 ghost use Rattle.bloom_eval.specs.Evaluates.{AllFit, SomeIsOver};
-ghost use Rattle.bloom_eval.specs.StepAnswers.{AreSetsOf};
+ghost use Rattle.bloom_ast.specs.Widths.{AreSetsOf};
 ghost use Rattle.bloom_eval.specs.declared.fault.StepFault.TheVariants.{TooManyRows};
 ghost use Rattle.blz_boxes.specs.KeptSets.{AreSetsOf-prop};
 ghost use Rattle.blz_boxes.specs.Step.{counted};

@@ -3,7 +3,7 @@ ghost use Rattle.std.specs.Prelude.{◌≡◌, ◌<◌, ◌∷◌, [], codes, le
 ghost use Rattle.blz_value.specs.Record.{Row};
 ghost use Rattle.bloom_ast.specs.declared.program.Program.TheVariants.{Split as SplitProgram, Latest as LatestProgram, Number as NumberProgram};
 ghost use Rattle.bloom_ast.specs.Program.{IsStock, port_columns, table_columns};
-ghost use Rattle.bloom_eval.specs.StepAnswers.{AreSetsOf};
+ghost use Rattle.bloom_ast.specs.Widths.{AreSetsOf};
 
 use super::*;
 use bloom_ast::{Collection, Expr, Kind, Module, NamedAgg, Program, Rule, check, has_own_names};

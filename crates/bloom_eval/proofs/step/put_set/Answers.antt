@@ -1,6 +1,6 @@
 use Rattle.std.proofs.lemmas.List.{map-set}
-use Rattle.bloom_eval.specs.Parts.{rows_in}
-use Rattle.bloom_eval.specs.declared.part.Rows.TheVariants.{Own}
+use Rattle.bloom_eval.specs.Held.{rows_in}
+use Rattle.bloom_eval.specs.declared.rows.Rows.TheVariants.{Own}
 use Rattle.bloom_eval.proofs.step.put_set.Goals as goal
 
 pub returns : goal.returns

@@ -1,9 +1,8 @@
 -- the heads that are left do the rest
 use Rattle.std.proofs.Common.{drop}
-use Rattle.bloom_eval.specs.Parts.{sets_in}
-use Rattle.bloom_eval.specs.Taken.{ordered_by}
+use Rattle.bloom_eval.specs.Held.{sets_in}
 use Rattle.bloom_eval.proofs.Taking.{IsAt}
 use Rattle.bloom_eval.proofs.step.take_heads.Given as goal
 
 abbrev pub invariant-loop-head : goal.invariant-loop-head
-invariant-loop-head l = IsAt (ordered_by l.written l.heads) (sets_in l.initial.held.items) (sets_in l.held.items) (drop l.head-index l.heads)
+invariant-loop-head l = IsAt l.program (sets_in l.initial.held.items) (sets_in l.held.items) (drop l.head-index l.heads)

@@ -4,7 +4,7 @@ use Rattle.bloom_ast.specs.declared.module.Collection.{Collection}
 use Rattle.bloom_ast.specs.Form.{Form, Accepted}
 use Rattle.bloom_ast.specs.Program.{columns_of_kind}
 use Rattle.bloom_ast.specs.Step.{Sets}
-use Rattle.bloom_eval.specs.StepAnswers.{AreSetsOf}
+use Rattle.bloom_ast.specs.Widths.{AreSetsOf}
 use Rattle.blz_boxes.proofs.Tables.{empties, empties_wide}
 use Rattle.blz_boxes.proofs.plain.PlainBody.new.Goals as goal
 

@@ -24,6 +24,8 @@ mod ApartLemmas
 mod MeaningLemmas
 mod BoundLemmas
 mod TerminalLemmas
+mod NameTokens
+mod NameLemmas
 mod CheckedLemmas
 mod TextLemmas
 mod LiteralLemmas

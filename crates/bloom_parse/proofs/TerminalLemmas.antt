@@ -1,5 +1,6 @@
 -- The terminals of a module whose names are its own and whose literals can be held.
-use Rattle.std.proofs.Common.{◌≡◌, ◌≤◌, not, ℕ, Bool, true, false, cond, nat_lt, None, List, [], ◌∷◌, ◌++◌, map, length, refl, sym, ◌∙◌, arith}
+use Rattle.std.proofs.Common.{◌≡◌, ◌≤◌, not, ℕ, Bool, true, false, cond, nat_lt, Some, None, List, [], ◌∷◌, ◌++◌, map, length, refl, sym, ap, ◌∙◌, arith}
+use Rattle.std.proofs.lemmas.Bool.{and_from}
 use Rattle.std.proofs.lemmas.Grind.{common_steps}
 use Rattle.std.proofs.lemmas.List.Folds.{list_all-append}
 use Rattle.std.proofs.lemmas.Slice.Eq.{bytes_eq-Decides}
@@ -53,6 +54,20 @@ name_terminal name e =
     let parts = both_true (is_name name) (not (is_reserved name)) e in
     (parts.0, none_found all_words name (not_true (is_reserved name) parts.1))
 
+-- and the other way: a name that is none of the words is not reserved
+none_among_by : (w : Word) (ws : List Word) (name : Name) → (find (λ x. bytes_eq name (word_bytes x)) ws ≡ None → list_any (λ x. bytes_eq x name) (map word_bytes ws) ≡ false)
+    → (same : Bool) → bytes_eq name (word_bytes w) ≡ same → cond same (Some w) (find (λ x. bytes_eq name (word_bytes x)) ws) ≡ None → list_any (λ x. bytes_eq x name) (map word_bytes (w ∷ ws)) ≡ false
+none_among_by w ws name others true e h = cc
+none_among_by w ws name others false e h = rw (other_way name (word_bytes w) e) (others h)
+
+none_among : (ws : List Word) (name : Name) → find (λ w. bytes_eq name (word_bytes w)) ws ≡ None → list_any (λ w. bytes_eq w name) (map word_bytes ws) ≡ false
+none_among [] name e = refl
+none_among (w ∷ ws) name e = none_among_by w ws name (none_among ws name) (bytes_eq name (word_bytes w)) refl e
+
+-- the name of a terminal is an own name
+pub terminal_name : (name : Name) → IsTerminal (terminals.Name name) → is_own_name name ≡ true
+terminal_name name h = and_from (is_name name) (not (is_reserved name)) h.0 (ap not (none_among all_words name h.1))
+
 abbrev pub Own : List Name → Type 0
 Own names = list_all is_own_name names ≡ true
 
@@ -68,6 +83,9 @@ own_first name names e = let parts = both_true (is_own_name name) (list_all is_o
 
 pub own_parts : (names more : List Name) → Own (names ++ more) → Own names × Own more
 own_parts names more e = both_true (list_all is_own_name names) (list_all is_own_name more) (sym (list_all-append is_own_name names more) ∙ e)
+
+pub own_both : (names more : List Name) → Own names → Own more → Own (names ++ more)
+own_both names more e f = list_all-append is_own_name names more ∙ and_from (list_all is_own_name names) (list_all is_own_name more) e f
 
 -- ---- predicates
 

@@ -1,6 +1,6 @@
 //! Worked modules as texts: read, checked, printed and read again, and cut short.
 use super::*;
-use bloom_ast::{CheckFault, Checked, ModuleFault, ModuleKind, ModulePlace, check, has_own_names};
+use bloom_ast::{CheckFault, Checked, ModuleFault, ModuleKind, ModulePlace, check};
 use std::alloc::{AllocError, Global};
 use std::process::Abort;
 use std::test::Fail;
@@ -112,7 +112,6 @@ fn checked(
 ) -> Result<Result<Checked, CheckFault>, ParseFault> {
     assert!(rt; text.len() < 1000);
     let module = parse(alloc, text)?;
-    assert!(rt; has_own_names(&module));
     Ok(check(alloc, &module))
 }
 

@@ -1,6 +1,7 @@
 //! The module of a text.
 ghost use Rattle.std.specs.Prelude.{◌≡◌, ◌<◌, ◌-◌, ◌^◌, length, IfOk, IfErr};
 ghost use Rattle.bloom_ast.specs.Form.{Form, form_of};
+ghost use Rattle.bloom_ast.specs.Reserved.{HasOwnNames};
 ghost use Rattle.bloom_parse.specs.Parsing.{IsTextOf, IsParseFault, GivesModule};
 
 use crate::lexer::{lexed, place_at};
@@ -15,6 +16,8 @@ use std::alloc::Global;
 pub fn parse(alloc: Global, text: &[u8]) -> Result<Module, ParseFault>
     requires { length text.now < 2 ^ 32 - 1 }
     ensures read { IfOk result (λ read. IsTextOf text.now (form_of read)) }
+    // Its names are those that `check` asks for.
+    ensures names { IfOk result (λ read. HasOwnNames (form_of read)) }
     // A text of a module is read as this one, unless memory runs out.
     ensures only { (m : Form) → IsTextOf text.now m → GivesModule m result }
     ensures fault { IfErr result (λ e. IsParseFault text.now e) }

@@ -6,13 +6,14 @@ use Rattle.path_annotate.specs.declared.note.Note.{Note}
 use Rattle.path_annotate.specs.declared.note.Note.TheVariants.{CR, CW, OR, OW}
 use Rattle.path_annotate.specs.Note.{is_write, gate_of, note_of, common_gate, covers_write, covers_gate, covers, combine}
 use Rattle.path_annotate.specs.Laws.{CoversLaw, CombineLaw}
-use Rattle.path_annotate.proofs.Sets.{within-refl, within-trans, within-antisym, and-within_l, and-within_r, within-and}
+use Rattle.fd_closure.proofs.Within.{within-refl, within-trans, within-antisym}
+use Rattle.path_annotate.proofs.Sets.{and-within_l, and-within_r, within-and}
 
-first_of_both : (x y : Bool) → (x && y) ≡ true → x ≡ true
+pub first_of_both : (x y : Bool) → (x && y) ≡ true → x ≡ true
 first_of_both true y h = refl
 first_of_both false y h = h
 
-second_of_both : (x y : Bool) → (x && y) ≡ true → y ≡ true
+pub second_of_both : (x y : Bool) → (x && y) ≡ true → y ≡ true
 second_of_both true y h = h
 second_of_both false y h = cc
 

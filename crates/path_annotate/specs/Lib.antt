@@ -1,2 +1,17 @@
 pub mod Note
 pub mod Laws
+pub mod Numbers
+pub mod Roots
+pub mod HeadRoots
+pub mod RootsLaw
+pub mod Gates
+pub mod Good
+pub mod ClosedForms
+pub mod Uses
+pub mod ReadLaws
+pub mod Annotation
+pub mod Copies
+pub mod ByNumber
+pub mod Readings
+pub mod ReadingUses
+pub mod CopiesLaw

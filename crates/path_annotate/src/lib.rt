@@ -1,10 +1,23 @@
-//! What the rules of a component do with what arrives: notes from a port to an output.
+//! What the rules of a component do with what arrives: roots, gates, and notes from a port to an
+//! output.
 #![tactic(auto)]
 
+mod annotation;
+mod collection_roots;
+mod kinds;
 mod laws;
 mod note;
+mod notes;
+mod read_laws;
+mod readings;
+mod stock;
 #[cfg(test)]
 mod tests;
+mod tracing;
+mod uses;
 
-pub use laws::{combine_law, covers_law};
+pub use annotation::{annotate, gate_of, roots};
+pub use laws::{combine_law, copies_law, covers_law, roots_law};
 pub use note::{Note, combine, covers};
+pub use notes::Notes;
+pub use read_laws::{feeds_law, good_law, uses_law};

@@ -1,4 +1,7 @@
 //! How notes combine and cover one another.
+mod worked;
+mod written;
+
 use crate::{Note, combine, covers};
 use fd_closure::Attrs;
 

@@ -1,0 +1,52 @@
+-- Uses of one port combine in any grouping.
+use Rattle.std.proofs.Common.{◌≡◌, ◌||◌, Bool, true, false, Option, None, Some, refl, ap, ◌∙◌, sym}
+use Rattle.std.proofs.lemmas.Nat.{and_assoc}
+use Rattle.fd_closure.specs.declared.attrs.Attrs.{Attrs}
+use Rattle.path_annotate.specs.declared.note.Note.{Note}
+use Rattle.path_annotate.specs.Note.{is_write, gate_of, note_of, common_gate, combine}
+use Rattle.path_annotate.specs.Uses.{both_uses}
+
+write-made : (w : Bool) (gate : Option Attrs) → is_write (note_of w gate) ≡ w
+write-made true None = refl
+write-made false None = refl
+write-made true (Some gate) = refl
+write-made false (Some gate) = refl
+
+gate-made : (w : Bool) (gate : Option Attrs) → gate_of (note_of w gate) ≡ gate
+gate-made true None = refl
+gate-made false None = refl
+gate-made true (Some gate) = refl
+gate-made false (Some gate) = refl
+
+or-assoc : (a b c : Bool) → ((a || b) || c) ≡ (a || (b || c))
+or-assoc true b c = refl
+or-assoc false b c = refl
+
+common-assoc : (a b c : Option Attrs) → common_gate (common_gate a b) c ≡ common_gate a (common_gate b c)
+common-assoc None None None = refl
+common-assoc None None (Some c) = refl
+common-assoc None (Some b) None = refl
+common-assoc None (Some b) (Some c) = refl
+common-assoc (Some a) None None = refl
+common-assoc (Some a) None (Some c) = refl
+common-assoc (Some a) (Some b) None = refl
+common-assoc (Some a) (Some b) (Some c) = ap (λ bits. let both : Attrs = record { bits = bits } in Some both) (and_assoc c.bits a.bits b.bits)
+
+combine-assoc : (a b c : Note) → combine (combine a b) c ≡ combine a (combine b c)
+combine-assoc a b c =
+    let w = is_write a || is_write b in
+    let v = is_write b || is_write c in
+    let g = common_gate (gate_of a) (gate_of b) in
+    let h = common_gate (gate_of b) (gate_of c) in
+    ap (λ x. note_of (x || is_write c) (common_gate (gate_of (note_of w g)) (gate_of c))) (write-made w g)
+    ∙ ap (λ x. note_of (w || is_write c) (common_gate x (gate_of c))) (gate-made w g)
+    ∙ ap (λ x. note_of x (common_gate g (gate_of c))) (or-assoc (is_write a) (is_write b) (is_write c))
+    ∙ ap (note_of (is_write a || v)) (common-assoc (gate_of a) (gate_of b) (gate_of c))
+    ∙ ap (λ x. note_of (is_write a || v) (common_gate (gate_of a) x)) (sym (gate-made v h))
+    ∙ ap (λ x. note_of (is_write a || x) (common_gate (gate_of a) (gate_of (note_of v h)))) (sym (write-made v h))
+
+pub both_uses_assoc : (a b c : Option Note) → both_uses (both_uses a b) c ≡ both_uses a (both_uses b c)
+both_uses_assoc None b c = refl
+both_uses_assoc (Some a) None c = refl
+both_uses_assoc (Some a) (Some b) None = refl
+both_uses_assoc (Some a) (Some b) (Some c) = ap Some (combine-assoc a b c)

@@ -1,0 +1,12 @@
+use Rattle.path_annotate.proofs.AllOrigins.{outputs_origins}
+use Rattle.path_annotate.proofs.ModuleOrigins.{module_expressions, module_rules}
+use Rattle.path_annotate.proofs.laws.copies_law.Goals as goal
+
+pub returns-clause-expressions : goal.returns-clause-expressions
+returns-clause-expressions c = module_expressions
+
+pub returns-clause-rules : goal.returns-clause-rules
+returns-clause-rules c = module_rules
+
+pub returns-clause-outputs : goal.returns-clause-outputs
+returns-clause-outputs c = outputs_origins

@@ -10,4 +10,5 @@ pub mod Whole
 pub mod Unfolding
 pub mod Small
 pub mod Wide
+pub mod StockWidths
 pub mod NameNumbers

@@ -4,7 +4,7 @@ use Rattle.bloom_ast.specs.declared.program.Program.{Program}
 use Rattle.bloom_ast.specs.declared.program.Program.TheVariants.{Module, Split, Latest, Number}
 use Rattle.bloom_ast.specs.Step.{Sets, set_at, tables_after, outputs_of}
 use Rattle.bloom_ast.specs.StockSteps.{keys_in_order, split_out, latest_kept, latest_out, number_kept, number_out}
-use Rattle.bloom_ast.specs.Program.{table_columns}
+use Rattle.bloom_ast.specs.Program.{port_columns, table_columns}
 
 -- the tables after a step over what is kept and what arrives
 abbrev pub tables_after_step : Program → (kept now : Sets) → Sets
@@ -29,6 +29,14 @@ program_step program kept now = (tables_after_step program kept now, outputs_of_
 -- one empty set for each table
 abbrev pub empty_tables : Program → Sets
 empty_tables program = map (λ columns. []) (table_columns program)
+
+-- nothing arrives: one empty set for each port
+abbrev pub no_arrivals : Program → Sets
+no_arrivals program = map (λ columns. []) (port_columns program)
+
+-- what the tables give by themselves: the outputs of a step with nothing arriving
+abbrev pub standing_outputs : Program → (kept : Sets) → Sets
+standing_outputs program kept = outputs_of_step program kept (no_arrivals program)
 
 -- the one-step answer: the outputs of a step from empty tables, with all of the arrivals
 abbrev pub answer_of : Program → Sets → Sets

@@ -111,8 +111,8 @@ fn take_heads(
 
 /// One step of a module that was checked: `kept` becomes the new tables, and the answer is the outputs.
 /// TooManyRows comes exactly where a table after the step, a scratch, an output, or an expression or a
-/// part of one in a rule has more than 262,144 rows in this step. After a fault each table is as it
-/// was or empty.
+/// part of one in a rule has more than 262,144 rows in this step. After a fault `kept` has one set for
+/// each table, with rows of its width, and nothing else is said of it.
 pub fn step_plain(
     alloc: Global,
     program: &Checked,

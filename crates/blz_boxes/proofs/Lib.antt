@@ -3,3 +3,4 @@ pub mod Records
 pub mod LatestRows
 pub mod NumberRows
 pub mod Tables
+pub mod KeptWidths

@@ -7,7 +7,8 @@ ghost use Rattle.bloom_eval.specs.declared.fault.StepFault.TheVariants.{TooManyR
 ghost use Rattle.bloom_eval.specs.Evaluates.{AllFit, SomeIsOver};
 ghost use Rattle.blz_boxes.specs.declared.kind.ProgramKind.{ProgramKind as TheKind};
 ghost use Rattle.blz_boxes.specs.Kind.{kind_of};
-ghost use Rattle.blz_boxes.specs.Step.{Arrive, nothing_kept, tables_next, outs_next, counted_next};
+ghost use Rattle.blz_boxes.specs.Step.{Arrive, AreTables, nothing_kept, tables_next, outs_next, outs_still, counted_next};
+ghost use Rattle.blz_boxes.specs.Changes.{AreChanges};
 
 use bloom_ast::Program;
 use bloom_eval::{Arrivals, Outs, StepFault};
@@ -40,7 +41,8 @@ pub trait Component: Drop {
         ensures err { OnErr result (loaded self.new ≡ None) };
 
     /// Makes one step over what arrives, and makes `outs` what it puts out. TooManyRows comes exactly
-    /// where a set of the step is too large. After a fault only the program is known.
+    /// where a set of the step is too large. After a fault the program is as it was, and each table
+    /// has some rows of its width.
     fn step(&mut self, now: &Arrivals, outs: &mut Outs) -> Result<(), StepFault>
         requires program { IsSome (loaded self.old) }
         requires arrivals { Arrive (loaded self.old) now.now }
@@ -49,13 +51,31 @@ pub trait Component: Drop {
         ensures kept { OnOk result (kept self.new ≡ tables_next (loaded self.old) (kept self.old) now.now) }
         ensures outs { OnOk result (outs.new ≡ outs_next (loaded self.old) (kept self.old) now.now) }
         ensures few { OnOk result (AllFit (counted_next (loaded self.old) (kept self.old) now.now)) }
-        ensures too_many { result ≡ Err TooManyRows → SomeIsOver (counted_next (loaded self.old) (kept self.old) now.now) };
+        ensures too_many { result ≡ Err TooManyRows → SomeIsOver (counted_next (loaded self.old) (kept self.old) now.now) }
+        ensures tables { AreTables (loaded self.new) (kept self.new) };
 
-    /// Makes `into` the rows of a table, counted from 0.
+    /// Makes one step as `step` does, but `outs` may lack rows that the tables of before already give,
+    /// with nothing arriving.
+    fn step_changes(&mut self, now: &Arrivals, outs: &mut Outs) -> Result<(), StepFault>
+        requires program { IsSome (loaded self.old) }
+        requires arrivals { Arrive (loaded self.old) now.now }
+        ensures kind { kind self.new ≡ kind self.old }
+        ensures loaded { loaded self.new ≡ loaded self.old }
+        ensures kept { OnOk result (kept self.new ≡ tables_next (loaded self.old) (kept self.old) now.now) }
+        ensures outs { OnOk result (AreChanges (outs_next (loaded self.old) (kept self.old) now.now) (outs_still (loaded self.old) (kept self.old)) outs.new) }
+        ensures few { OnOk result (AllFit (counted_next (loaded self.old) (kept self.old) now.now)) }
+        ensures too_many { result ≡ Err TooManyRows → SomeIsOver (counted_next (loaded self.old) (kept self.old) now.now) }
+        ensures tables { AreTables (loaded self.new) (kept self.new) }
+    {
+        self.step(now, outs)
+    }
+
+    /// Makes `into` the rows of a table, counted from 0. After want of memory it is as it was.
     fn kept_rows(&self, table: u32, into: &mut RecordSet) -> Result<(), AllocError>
         requires program { IsSome (loaded self.now) }
         requires within { table < length (kept self.now) }
-        ensures { OnOk result (into.new ≡ set_at (kept self.now) table) };
+        ensures ok { OnOk result (into.new ≡ set_at (kept self.now) table) }
+        ensures err { OnErr result (into.new ≡ into.old) };
 
     /// Empties what is kept, and leaves the program.
     fn clear(&mut self)

@@ -4,11 +4,15 @@ ghost use Rattle.std.specs.List.{list_any};
 ghost use Rattle.std.specs.Option.{option_map, option_map_or};
 ghost use Rattle.bloom_ast.specs.declared.program.Program.TheVariants.{Latest as LatestProgram};
 ghost use Rattle.bloom_ast.specs.StockSteps.{keys_in_order};
+ghost use Rattle.bloom_ast.specs.Program.{table_columns};
 ghost use Rattle.bloom_ast.specs.ProgramStep.{tables_after_step, outputs_of_step};
+ghost use Rattle.bloom_ast.specs.Step.{set_at};
+ghost use Rattle.bloom_ast.specs.Widths.{AreWide, AreSetsOf};
 ghost use Rattle.bloom_eval.specs.Evaluates.{AllFit, SomeIsOver};
 ghost use Rattle.bloom_eval.specs.declared.fault.StepFault.TheVariants.{TooManyRows};
 ghost use Rattle.blz_boxes.specs.declared.kind.ProgramKind.TheVariants.{Latest as LatestKind};
 ghost use Rattle.blz_boxes.specs.KeptRecords.{records_of};
+ghost use Rattle.blz_boxes.specs.KeptSets.{AreSetsOf-prop};
 ghost use Rattle.blz_boxes.specs.Step.{counted};
 
 use crate::component::Component;
@@ -27,6 +31,7 @@ struct LatestBody {
     keys: Items<u32>,
     table: LatestTable,
     ghost in_order: { table.columns.items ≡ keys_in_order (length columns) keys },
+    ghost tables: { AreSetsOf (table_columns (LatestProgram columns keys)) (records_of table.records ∷ []) } by { AreSetsOf-prop (table_columns (LatestProgram columns keys)) (records_of table.records ∷ []) },
 }
 
 /// A shell of Latest, which keeps a record for each key.
@@ -39,7 +44,8 @@ pub struct LatestShell {
 impl LatestShell {
     /// A shell without a program.
     pub fn new(alloc: Global) -> LatestShell
-        ensures { result.body ≡ None }
+        ensures loaded { ⟦<LatestShell as Component>⟧.loaded result ≡ None }
+        ensures kept { ⟦<LatestShell as Component>⟧.kept result ≡ [] }
     {
         LatestShell { alloc, body: None }
     }
@@ -68,7 +74,8 @@ fn keys_in_order(alloc: Global, count: usize, keys: &[u32]) -> Result<Vec<u32>, 
 impl LatestBody {
     // One step.
     fn step(&mut self, alloc: Global, now: &Arrivals, outs: &mut Outs) -> Result<(), StepFault>
-        requires { length now.now ≡ 2 }
+        requires two { length now.now ≡ 2 }
+        requires wide { AreWide (length self.old.columns) (set_at now.now 0) }
         ensures columns { self.new.columns ≡ self.old.columns }
         ensures keys { self.new.keys ≡ self.old.keys }
         ensures kept { OnOk result (records_of self.new.table.records ∷ [] ≡ tables_after_step (LatestProgram self.old.columns self.old.keys) (records_of self.old.table.records ∷ []) now.now) }

@@ -1,5 +1,5 @@
 //! The records that Latest keeps, by their keys.
-ghost use Rattle.std.specs.Prelude.{◌≡◌, ◌<◌, ◌≤◌, [], Err, IfOk, OnOk, length};
+ghost use Rattle.std.specs.Prelude.{◌≡◌, ◌<◌, ◌≤◌, [], Err, IfOk, OnOk, OnErr, length};
 ghost use Rattle.std.specs.List.{filter_map};
 ghost use Rattle.std.proofs.Props.{props};
 ghost use Rattle.std.specs.BTreeMap.{get, btree_map_len, IsOrdered};
@@ -77,13 +77,15 @@ impl LatestTable {
         }
     }
 
-    /// Keeps the last of some records with each key that occurs there. After a fault it keeps nothing.
+    /// Keeps the greatest of some records with each key that occurs there. After a fault it keeps
+    /// nothing.
     pub(crate) fn put(&mut self, rows: &[Record]) -> Result<(), StepFault>
         requires { IsRowSet rows.now }
         ensures columns { self.new.columns.items ≡ self.old.columns.items }
         ensures kept { OnOk result (records_of self.new.records ≡ latest_kept self.old.columns.items (records_of self.old.records) rows.now) }
         ensures few { OnOk result (length (records_of self.new.records) ≤ row_limit) }
         ensures too_many { result ≡ Err TooManyRows → row_limit < length (latest_kept self.old.columns.items (records_of self.old.records) rows.now) }
+        ensures err { OnErr result (records_of self.new.records ≡ []) }
     {
         let mut records = mem::replace(&mut self.records, BTreeMap::new(self.alloc));
         put_all(self.alloc, &mut records, &self.columns, rows)?;

@@ -2,10 +2,14 @@
 ghost use Rattle.std.specs.Prelude.{◌≡◌, [], ◌∷◌, None, Err, length, OnOk};
 ghost use Rattle.std.specs.Option.{option_map, option_map_or};
 ghost use Rattle.bloom_ast.specs.declared.program.Program.TheVariants.{Number as NumberProgram};
+ghost use Rattle.bloom_ast.specs.Program.{table_columns};
 ghost use Rattle.bloom_ast.specs.ProgramStep.{tables_after_step, outputs_of_step};
+ghost use Rattle.bloom_ast.specs.Step.{set_at};
+ghost use Rattle.bloom_ast.specs.Widths.{AreWide, AreSetsOf};
 ghost use Rattle.bloom_eval.specs.Evaluates.{AllFit, SomeIsOver};
 ghost use Rattle.bloom_eval.specs.declared.fault.StepFault.TheVariants.{TooManyRows};
 ghost use Rattle.blz_boxes.specs.declared.kind.ProgramKind.TheVariants.{Number as NumberKind};
+ghost use Rattle.blz_boxes.specs.KeptSets.{AreSetsOf-prop};
 ghost use Rattle.blz_boxes.specs.Numbers.{numbered_records};
 ghost use Rattle.blz_boxes.specs.Step.{counted};
 
@@ -23,6 +27,7 @@ use std::alloc::{AllocError, Global};
 struct NumberBody {
     columns: Items<Str>,
     table: NumberTable,
+    ghost tables: { AreSetsOf (table_columns (NumberProgram columns)) (numbered_records table.numbers ∷ []) } by { AreSetsOf-prop (table_columns (NumberProgram columns)) (numbered_records table.numbers ∷ []) },
 }
 
 /// A shell of Number, which keeps each record with its number.
@@ -35,7 +40,8 @@ pub struct NumberShell {
 impl NumberShell {
     /// A shell without a program.
     pub fn new(alloc: Global) -> NumberShell
-        ensures { result.body ≡ None }
+        ensures loaded { ⟦<NumberShell as Component>⟧.loaded result ≡ None }
+        ensures kept { ⟦<NumberShell as Component>⟧.kept result ≡ [] }
     {
         NumberShell { alloc, body: None }
     }
@@ -44,7 +50,8 @@ impl NumberShell {
 impl NumberBody {
     // One step.
     fn step(&mut self, alloc: Global, now: &Arrivals, outs: &mut Outs) -> Result<(), StepFault>
-        requires { length now.now ≡ 1 }
+        requires one { length now.now ≡ 1 }
+        requires wide { AreWide (length self.old.columns) (set_at now.now 0) }
         ensures columns { self.new.columns ≡ self.old.columns }
         ensures kept { OnOk result (numbered_records self.new.table.numbers ∷ [] ≡ tables_after_step (NumberProgram self.old.columns) (numbered_records self.old.table.numbers ∷ []) now.now) }
         ensures outs { OnOk result (outs.new ≡ outputs_of_step (NumberProgram self.old.columns) (numbered_records self.old.table.numbers ∷ []) now.now) }

@@ -1,5 +1,5 @@
 //! The records that Number keeps, with their numbers.
-ghost use Rattle.std.specs.Prelude.{◌≡◌, ◌<◌, ◌≤◌, ◌+◌, ◌^◌, [], ◌++◌, pos, not, filter, is_some, Err, None, IfOk, OnOk, length};
+ghost use Rattle.std.specs.Prelude.{◌≡◌, ◌<◌, ◌≤◌, ◌⊎◌, ◌+◌, ◌^◌, [], ◌++◌, pos, not, filter, is_some, Err, None, IfOk, OnOk, OnErr, length};
 ghost use Rattle.std.proofs.Props.{props};
 ghost use Rattle.std.specs.BTreeMap.{get, btree_map_len, IsOrdered};
 ghost use Rattle.blz_value.specs.Members.{Has};
@@ -17,6 +17,7 @@ use blz_set::{RecordSet, SetFault};
 use blz_value::{Record, Value};
 use std::alloc::{AllocError, Global};
 use std::collections::BTreeMap;
+use std::mem;
 
 /// A number for each record that came.
 #[derive(Drop)]
@@ -104,13 +105,14 @@ impl NumberTable {
     }
 
     /// Keeps the records that aren't kept yet, with the next numbers in their order, and answers
-    /// with them.
+    /// with them. After a fault it keeps what it kept, or nothing.
     pub(crate) fn number(&mut self, rows: &[Record]) -> Result<RecordSet, StepFault>
         requires { IsRowSet rows.now }
         ensures kept { OnOk result (numbered_records self.new.numbers ≡ number_kept (numbered_records self.old.numbers) rows.now) }
         ensures out { IfOk result (λ out. out ≡ number_out (numbered_records self.old.numbers) rows.now) }
         ensures few { OnOk result (length (number_kept (numbered_records self.old.numbers) rows.now) ≤ row_limit) }
         ensures too_many { result ≡ Err TooManyRows → row_limit < length (number_kept (numbered_records self.old.numbers) rows.now) }
+        ensures err { OnErr result ((numbered_records self.new.numbers ≡ numbered_records self.old.numbers) ⊎ (numbered_records self.new.numbers ≡ [])) }
     {
         let fresh = self.fresh(rows)?;
         let count = self.numbers.len();
@@ -118,7 +120,9 @@ impl NumberTable {
             return Err(StepFault::TooManyRows);
         }
         let out = RecordSet::from_rows(numbered(self.alloc, &fresh, count + 1)?)?;
-        keep_all(&mut self.numbers, &fresh, count + 1)?;
+        let mut numbers = mem::replace(&mut self.numbers, BTreeMap::new(self.alloc));
+        keep_all(&mut numbers, &fresh, count + 1)?;
+        self.numbers = numbers;
         Ok(out)
     }
 

@@ -36,7 +36,8 @@ pub struct PlainShell {
 impl PlainShell {
     /// A shell without a program.
     pub fn new(alloc: Global) -> PlainShell
-        ensures { result.body ≡ None }
+        ensures loaded { ⟦<PlainShell as Component>⟧.loaded result ≡ None }
+        ensures kept { ⟦<PlainShell as Component>⟧.kept result ≡ [] }
     {
         PlainShell { alloc, body: None }
     }

@@ -30,7 +30,8 @@ pub struct SplitShell {
 impl SplitShell {
     /// A shell without a program.
     pub fn new(alloc: Global) -> SplitShell
-        ensures { result.body ≡ None }
+        ensures loaded { ⟦<SplitShell as Component>⟧.loaded result ≡ None }
+        ensures kept { ⟦<SplitShell as Component>⟧.kept result ≡ [] }
     {
         SplitShell { alloc, body: None }
     }
@@ -71,11 +72,8 @@ impl Component for SplitShell {
         Ok(())
     }
 
-    fn kept_rows(&self, _table: u32, into: &mut RecordSet) -> Result<(), AllocError>
-        ensures { OnOk result (into.new ≡ []) }
-    {
-        *into = RecordSet::new(self.alloc);
-        Ok(())
+    fn kept_rows(&self, _table: u32, _into: &mut RecordSet) -> Result<(), AllocError> {
+        unreachable!()
     }
 
     fn clear(&mut self) {}

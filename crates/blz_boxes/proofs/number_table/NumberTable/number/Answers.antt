@@ -1,7 +1,8 @@
-use Rattle.std.proofs.Common.{◌≡◌, ◌∙◌, ◌++◌, ap, sym, subst, length, arith}
+use Rattle.std.proofs.Common.{rules, ◌≡◌, ◌∙◌, ◌++◌, ℤ, ap, sym, subst, length, arith}
+use Rattle.std.specs.BTreeMap.{BTreeMap, get}
 use Rattle.std.proofs.lemmas.List.{length-map}
 use Rattle.blz_value.specs.Members.{Has}
-use Rattle.blz_value.specs.Record.{Row}
+use Rattle.blz_value.specs.Record.{Row, record_cmp}
 use Rattle.blz_value.specs.Sets.{set_of, IsRowSet}
 use Rattle.blz_set.specs.References.{shown}
 use Rattle.bloom_ast.specs.StockSteps.{numbered, number_kept}
@@ -31,13 +32,15 @@ keep_all-requires-clause-sorted c =
 pub keep_all-requires-clause-fresh : goal.keep_all-requires-clause-fresh
 keep_all-requires-clause-fresh c =
     let fresh = ap shown c.deref-2.ensures.value ∙ c.in_ok-fresh.ensures in
-    λ row h. fresh_absent c.args.self.now.numbers c.args.rows.now row (subst (λ rows. Has row rows) fresh h)
+    let taken : c.replace-numbers.result ≡ c.args.self.now.numbers = search rules in
+    λ row h. ap (λ (m : BTreeMap Row ℤ). get record_cmp m row) taken ∙ fresh_absent c.args.self.now.numbers c.args.rows.now row (subst (λ rows. Has row rows) fresh h)
 
 pub returns-clause-kept : goal.returns-clause-kept
 returns-clause-kept c =
     let fresh = ap shown c.deref-2.ensures.value ∙ c.in_ok-fresh.ensures in
     let made = numbered_by c.args.self.now.numbers c.args.rows.now (shown c.deref-2.result.now) c.len-count.result c.len-count.ensures.ordered c.requires fresh c.len-count.ensures.len in
-    c.in_ok-keep_all.ensures.kept ∙ ap (λ l. set_of (numbered_records c.args.self.now.numbers ++ l)) made
+    let taken : c.replace-numbers.result ≡ c.args.self.now.numbers = search rules in
+    c.in_ok-keep_all.ensures.kept ∙ (λ i. set_of (numbered_records (taken i) ++ made i))
 
 pub returns-clause-out : goal.returns-clause-out
 returns-clause-out c =

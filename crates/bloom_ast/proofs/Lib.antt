@@ -8,6 +8,13 @@ pub mod Firsts
 pub mod Ordering
 pub mod Whole
 pub mod Unfolding
+pub mod Chosen
+pub mod KindSets
+pub mod Quiet
+pub mod SameEnds
+pub mod Standing
+pub mod StockStanding
+pub mod OverTables
 pub mod Small
 pub mod Wide
 pub mod StockWidths

@@ -11,6 +11,8 @@ pub mod StockSteps
 pub mod Program
 pub mod ProgramStep
 pub mod Equations
+pub mod OverTables
+pub mod Laws
 pub mod Reads
 pub mod Bounds
 pub mod Fits

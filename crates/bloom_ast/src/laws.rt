@@ -6,11 +6,16 @@ ghost use Rattle.bloom_ast.specs.declared.module.Kind.TheVariants.{Input, Output
 ghost use Rattle.bloom_ast.specs.Query.{Name, Query};
 ghost use Rattle.bloom_ast.specs.Form.{RuleForm, Accepted};
 ghost use Rattle.bloom_ast.specs.Kinds.{is_input};
-ghost use Rattle.bloom_ast.specs.Lookup.{kind_of};
+ghost use Rattle.bloom_ast.specs.Lookup.{declared, kind_of};
 ghost use Rattle.bloom_ast.specs.Heads.{IsOrdered};
 ghost use Rattle.bloom_ast.specs.Reads.{named, cone, direct, kind_set, is_momentary, NamesRule, NamesScratchRule};
-ghost use Rattle.bloom_ast.specs.Step.{Sets, outputs_of, tables_after};
-ghost use Rattle.bloom_ast.specs.Equations.{Env, Solves, end_env, set_named};
+ghost use Rattle.bloom_ast.specs.Step.{Sets, union_of, outputs_of, tables_after};
+ghost use Rattle.bloom_ast.specs.Equations.{Env, Solves, end_env, rules_of, set_named};
+ghost use Rattle.bloom_ast.specs.OverTables.{over, env_over};
+ghost use Rattle.bloom_ast.specs.Checks.{IsChecked};
+ghost use Rattle.bloom_ast.specs.Laws.{StandsStill, StepsSame};
+ghost use Rattle.bloom_ast.specs.declared.program.Program.TheVariants.{Module, Split, Latest, Number};
+ghost use Rattle.blz_value.specs.Sets.{IsRowSet};
 
 /// A step as equations: what the collections hold once the heads are taken is the one solution, and
 /// the new tables and the outputs are what it gives to the tables and outputs.
@@ -19,6 +24,29 @@ pub fn step_law()
     ensures one { (a : Accepted) (kept now env other : Env) → IsOrdered a.form.collections a.form.rules a.heads → Solves a.form kept now env → Solves a.form kept now other → (name : Name) → env name ≡ other name }
     ensures tables { (a : Accepted) (kept now : Sets) (name : Name) → kind_of a.form.collections name ≡ Some Table → set_named Table a.form.collections (tables_after a kept now) name ≡ end_env a kept now name }
     ensures outputs { (a : Accepted) (kept now : Sets) (name : Name) → kind_of a.form.collections name ≡ Some Output → set_named Output a.form.collections (outputs_of a kept now) name ≡ end_env a kept now name }
+{}
+
+/// After a step the next one, with nothing arriving, leaves the tables as they are, and each of its
+/// outputs lies within that of the step; over empty tables it puts out nothing.
+pub fn standing_law()
+    ensures modules { (a : Accepted) → IsChecked a.form a.heads → StandsStill (Module a) }
+    ensures split { (columns : List Name) (split : ℕ) → StandsStill (Split columns split) }
+    ensures latest { (columns : List Name) (keys : List ℕ) → StandsStill (Latest columns keys) }
+    ensures number { (columns : List Name) → StandsStill (Number columns) }
+{}
+
+/// What a step makes is the same for any two orders of heads in which each comes after those that its
+/// rules read.
+pub fn order_law()
+    ensures { (a : Accepted) (heads : List ℕ) → IsOrdered a.form.collections a.form.rules a.heads → IsOrdered a.form.collections a.form.rules heads → StepsSame a heads }
+{}
+
+/// What the collections hold over given tables is what their kinds say: ports what arrives, tables
+/// what is given, scratches and outputs the rows of their rules. What they hold at the end of a step
+/// is so over its new tables.
+pub fn tables_law()
+    ensures over { (a : Accepted) (tables now : Sets) → IsOrdered a.form.collections a.form.rules a.heads → ((name : Name) → kind_of a.form.collections name ≡ Some Table → IsRowSet (set_named Table a.form.collections tables name)) → (name : Name) → env_over a tables now name ≡ over (kind_of a.form.collections name) (set_named Table a.form.collections tables name) (set_named Input a.form.collections now name) (union_of (declared a.form.collections) (env_over a tables now) (rules_of a.form.rules name)) }
+    ensures end { (a : Accepted) (kept now : Sets) → IsOrdered a.form.collections a.form.rules a.heads → (name : Name) → end_env a kept now name ≡ env_over a (tables_after a kept now) now name }
 {}
 
 /// What an expression reads, one level at a time: in a cone are the collections that the expression names, and the cones of the bodies of

@@ -1,0 +1,94 @@
+-- Sets of the numbers of those elements of a list that pass a test.
+use Rattle.std.proofs.Common.{◌≡◌, ◌<◌, ◌^◌, ◌⊎◌, inl, inr, ℕ, Bool, true, false, nat_lt, bit_or, List, [], ◌∷◌, map, refl, rules, arith, sym, ◌∙◌}
+use Rattle.std.proofs.lemmas.Bool.{cases_Bool, cases_eq, or_cases, true≢false}
+use Rattle.std.proofs.lemmas.Nat.Bits.{bit_at-zero}
+use Rattle.blz_value.specs.Members.{Has}
+use Rattle.fd_closure.specs.Bits.{bit_of, meets}
+use Rattle.fd_closure.specs.Closure.{within}
+use Rattle.fd_closure.proofs.Within.{set_one, within-refl, within-trans, within-or_l, within-or_r}
+use Rattle.fd_closure.proofs.Members.{meets-some, within-meets, in-within, in-empty, in-or, in-bit_other}
+use Rattle.bloom_ast.specs.Reads.{with_all, bit_if}
+use Rattle.bloom_ast.proofs.Unfolding.{bit_of-above, bit_if-lt, with_all-lt}
+
+-- a set of one number has no other
+pub one_number : (n m : ℕ) → n < 64 → meets (bit_of n) (bit_of m) ≡ true → m ≡ n
+one_number n m lt h = elim (cases_Bool (nat_lt m 64)) [
+  | inr f ↦ absurd (let nothing : meets (bit_of n) 0 ≡ true = rw (bit_of-above m f) at h in true≢false (sym nothing ∙ in-empty n))
+  | inl t ↦ elim (cases_eq n m) [
+    | inl e ↦ sym e
+    | inr other ↦ absurd (
+        let small : m < 64 = search rules in
+        let there : meets (bit_of n) (bit_or 0 (bit_of m)) ≡ true = in-within n (bit_of m) (bit_or 0 (bit_of m)) lt h (within-or_r 0 (bit_of m)) in
+        true≢false (sym there ∙ in-bit_other n m 0 lt small other ∙ in-empty n)
+        )
+  ]
+]
+
+-- a number that is in a set is small
+pub member_small : (n s : ℕ) → meets (bit_of n) s ≡ true → n < 64
+member_small n s h = elim (cases_Bool (nat_lt n 64)) [
+  | inl t ↦ search rules
+  | inr f ↦ absurd (
+      let nothing : meets 0 s ≡ true = rw (bit_of-above n f) at h in
+      let bit = meets-some 0 s nothing in
+      omega (arith, set_one 0 bit.0 bit.1.0, bit_at-zero bit.0)
+      )
+]
+
+own_number : (n : ℕ) → n < 64 → meets (bit_of n) (bit_of n) ≡ true
+own_number n lt = within-meets n (bit_of n) lt (within-refl (bit_of n))
+
+from_bit_if : (b : Bool) (m n : ℕ) → n < 64 → meets (bit_of n) (bit_if b m) ≡ true → (b ≡ true) × (m ≡ n)
+from_bit_if true m n lt h = (refl, one_number n m lt h)
+from_bit_if false m n lt h = absurd (true≢false (sym h ∙ in-empty n))
+
+module _ {X : Type 0} (test : X → Bool) (number : X → ℕ) where
+  -- of each element that passes the test the set of its number
+  abbrev pub chosen : List X → List ℕ
+  chosen xs = map (λ x. bit_if (test x) (number x)) xs
+
+  -- an element with the number that passes the test
+  pub record IsChosen (xs : List X) (n : ℕ) : Type 0 where
+    pub element : X
+    pub stands : Has element xs
+    pub passes : test element ≡ true
+    pub is : number element ≡ n
+
+  chosen-later : (x : X) (xs : List X) (n : ℕ) → IsChosen xs n → IsChosen (x ∷ xs) n
+  chosen-later x xs n c = record { element = c.element; stands = inr c.stands; passes = c.passes; is = c.is }
+
+  chosen-first : (x : X) (xs : List X) (n : ℕ) → n < 64 → meets (bit_of n) (bit_if (test x) (number x)) ≡ true → IsChosen (x ∷ xs) n
+  chosen-first x xs n lt h = let both = from_bit_if (test x) (number x) n lt h in record { element = x; stands = inl refl; passes = both.0; is = both.1 }
+
+  chosen-from : (s : ℕ) (xs : List X) (n : ℕ) → n < 64 → meets (bit_of n) (with_all s (chosen xs)) ≡ true → (meets (bit_of n) s ≡ true) ⊎ IsChosen xs n
+  chosen-from s [] n lt h = inl h
+  chosen-from s (x ∷ xs) n lt h = elim (chosen-from (bit_or s (bit_if (test x) (number x))) xs n lt h) [
+    | inl t ↦ elim (or_cases _ _ (sym (in-or n s (bit_if (test x) (number x)) lt) ∙ t)) [ inl old ↦ inl old | inr new ↦ inr (chosen-first x xs n lt new) ]
+    | inr c ↦ inr (chosen-later x xs n c)
+  ]
+
+  -- who is in the set is the number of such an element
+  pub from_chosen : (xs : List X) (n : ℕ) → n < 64 → meets (bit_of n) (with_all 0 (chosen xs)) ≡ true → IsChosen xs n
+  from_chosen xs n lt h = elim (chosen-from 0 xs n lt h) [ inl none ↦ absurd (true≢false (sym none ∙ in-empty n)) | inr c ↦ c ]
+
+  chosen-keeps : (s : ℕ) (xs : List X) → within s (with_all s (chosen xs)) ≡ true
+  chosen-keeps s [] = within-refl s
+  chosen-keeps s (x ∷ xs) = within-trans s (bit_or s (bit_if (test x) (number x))) _ (within-or_l s (bit_if (test x) (number x))) (chosen-keeps (bit_or s (bit_if (test x) (number x))) xs)
+
+  chosen-at : (s : ℕ) (xs : List X) (x : X) → Has x xs → test x ≡ true → number x < 64 → meets (bit_of (number x)) (with_all s (chosen xs)) ≡ true
+  chosen-at s [] x n passes lt = absurd n
+  chosen-at s (y ∷ xs) x (inl e) passes lt =
+      let next = bit_or s (bit_if (test y) (number y)) in
+      let own : meets (bit_of (number x)) (bit_if (test x) (number x)) ≡ true = rw passes (own_number (number x) lt) in
+      let there : meets (bit_of (number x)) (bit_if (test y) (number y)) ≡ true = rw e own in
+      let here : meets (bit_of (number x)) next ≡ true = in-within (number x) (bit_if (test y) (number y)) next lt there (within-or_r s (bit_if (test y) (number y))) in
+      in-within (number x) next _ lt here (chosen-keeps next xs)
+  chosen-at s (y ∷ xs) x (inr n) passes lt = chosen-at (bit_or s (bit_if (test y) (number y))) xs x n passes lt
+
+  -- the number of such an element is in the set
+  pub in_chosen : (xs : List X) (x : X) → Has x xs → test x ≡ true → number x < 64 → meets (bit_of (number x)) (with_all 0 (chosen xs)) ≡ true
+  in_chosen xs x n passes lt = chosen-at 0 xs x n passes lt
+
+  -- the set has only small numbers
+  pub chosen-lt : (xs : List X) → with_all 0 (chosen xs) < 2 ^ 64
+  chosen-lt xs = with_all-lt (λ x. bit_if (test x) (number x)) (λ x. bit_if-lt (test x) (number x)) 0 xs (omega arith)

@@ -1,0 +1,5 @@
+use Rattle.bloom_ast.proofs.OverTables.{steps_same}
+use Rattle.bloom_ast.proofs.laws.order_law.Goals as goal
+
+pub returns : goal.returns
+returns c = steps_same

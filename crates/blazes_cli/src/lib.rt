@@ -5,8 +5,6 @@
 mod program;
 mod reply;
 mod status;
-#[cfg(test)]
-mod tests;
 mod topology_file;
 mod words;
 

@@ -5,8 +5,6 @@ mod label;
 mod laws;
 mod path;
 mod reconciliation;
-#[cfg(test)]
-mod tests;
 
 pub use label::{Base, Label, PathLabel, severity};
 pub use laws::{diverge_law, first_worst_law, monotone_law, no_better_law, severity_law};

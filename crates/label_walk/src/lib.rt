@@ -12,6 +12,3 @@ pub use label_list::Labels;
 pub use laws::small_labels_law;
 pub use small::is_small;
 pub use walk::labels;
-
-#[cfg(test)]
-mod tests;

@@ -9,6 +9,3 @@ mod values;
 
 pub use fault::TopoTextFault;
 pub use reading::read;
-
-#[cfg(test)]
-mod tests;

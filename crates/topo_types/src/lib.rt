@@ -19,6 +19,3 @@ pub use topology::{
     Spot, Stock, StreamEntry, Topology,
 };
 pub use validity::first_fault;
-
-#[cfg(test)]
-mod tests;

@@ -1,7 +1,5 @@
 //! Worked rows of the program, over files and a sink in memory.
-mod examples;
-
-use crate::{Status, blazes};
+use blazes_cli::{Status, blazes};
 use blz_outside::{MemFiles, MemSink};
 use std::alloc::Global;
 use std::test::Fail;
@@ -24,40 +22,25 @@ fn run(alloc: Global, text: &str, given: &[&str], most: usize) -> Result<(Status
     Ok((status, Vec::from_slice(alloc, out.bytes())?))
 }
 
-#[test]
-fn examples_have_the_labels_worked_out_by_hand(rt: HostRuntime) -> Result<(), Fail> {
-    let table = [
-        (examples::SOURCE_ALONE, examples::SOURCE_ALONE_LABELS),
-        (examples::NOTES_OW, examples::NOTES_OW_LABELS),
-        (examples::NOTES_CW, examples::NOTES_CW_LABELS),
-        (examples::NOTES_OR, examples::NOTES_OR_LABELS),
-        (examples::CLICK_STREAM, examples::CLICK_STREAM_LABELS),
-    ];
-    for (text, labels) in table {
-        let (status, written) = run(rt.alloc(), text, &["label", "t.toml"], 10_000)?;
-        assert_eq!(rt; status, Status::Done);
-        assert_eq!(rt; written.as_slice(), labels.as_bytes());
-    }
-    Ok(())
-}
+const SOURCE_ALONE: &str = r#"
+format = 2
+[[source]]
+name = "tweets"
+columns = ["id"]
+"#;
 
 #[test]
 fn a_sink_that_is_too_small_keeps_a_front(rt: HostRuntime) -> Result<(), Fail> {
     let whole = b"tweets Async\n";
     for most in 0..13 {
-        let (status, written) = run(
-            rt.alloc(),
-            examples::SOURCE_ALONE,
-            &["label", "t.toml"],
-            most,
-        )?;
+        let (status, written) = run(rt.alloc(), SOURCE_ALONE, &["label", "t.toml"], most)?;
         assert_eq!(rt; status, Status::WriteFault);
         assert!(rt;
             written.len() == most && whole.starts_with(&written),
             "{most} bytes"
         );
     }
-    let (status, written) = run(rt.alloc(), examples::SOURCE_ALONE, &["label", "t.toml"], 13)?;
+    let (status, written) = run(rt.alloc(), SOURCE_ALONE, &["label", "t.toml"], 13)?;
     assert_eq!(rt; status, Status::Done);
     assert_eq!(rt; written.as_slice(), whole.as_slice());
     Ok(())

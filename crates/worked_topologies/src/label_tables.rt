@@ -1,5 +1,6 @@
 //! Every cell of the table of paths, and what an output makes of its paths.
-use crate::{Base, Label, PathLabel, pass_path, reconcile};
+use label_rules::{Base, Label, PathLabel, pass_path, reconcile};
+use std::process::Abort;
 use topo_types::{Attrs, Fd, Mode, Note};
 
 const NONE: Attrs = Attrs { bits: 0 };
@@ -42,27 +43,35 @@ fn run(gate: Attrs) -> PathLabel {
     PathLabel::NdRead(gate, Base::Run)
 }
 
+// The mode, the columns of the port, the note, and a cell for each label.
+type Row = (Mode, Attrs, Note, [PathLabel; 5]);
+
+fn check_cells(rt: &impl Abort, table: &[Row]) {
+    for (mode, columns, note, cells) in table {
+        for (label, want) in LABELS.iter().zip(cells.iter()) {
+            let got = pass_path(*label, *note, *columns, *mode, &[]);
+            assert_eq!(rt; got, *want, "{label:?} over {note:?} in {mode:?}");
+        }
+    }
+}
+
 #[test]
-fn each_cell_of_the_table_of_paths(rt: HostRuntime) {
-    let (free, ordered) = (Mode::Free, Mode::Order);
-    let (pass, pass_other) = (Mode::Pass(KEY), Mode::Pass(OTHER));
-    let (wait, wait_other) = (Mode::Seal(KEY), Mode::Seal(OTHER));
-    let (reads, writes) = (Note::OR(KEY), Note::OW(KEY));
-    // The mode, the columns of the port, the note, and a cell for each label.
+fn a_seal_passes_where_the_mode_waits_for_its_key(rt: HostRuntime) {
+    let wait = Mode::Seal(KEY);
     let table = [
-        // The mode waits for the key of the seals, and the key lies in the gate.
         (wait, BOTH, Note::CR, [SEAL, ASYNC, RUN, INST, DIVERGE]),
         (wait, BOTH, Note::CW, [SEAL, ASYNC, RUN, TAINT, DIVERGE]),
+        // The key lies in the gate.
         (
             wait,
             BOTH,
-            reads,
+            Note::OR(KEY),
             [sealed(KEY), plain(KEY), run(KEY), INST, DIVERGE],
         ),
         (
             wait,
             BOTH,
-            writes,
+            Note::OW(KEY),
             [sealed(KEY), TAINT, TAINT, TAINT, DIVERGE],
         ),
         // The key doesn't lie in the gate.
@@ -78,75 +87,98 @@ fn each_cell_of_the_table_of_paths(rt: HostRuntime) {
             Note::OW(OTHER),
             [TAINT, TAINT, TAINT, TAINT, DIVERGE],
         ),
-        // The port lacks the column of the key.
+    ];
+    check_cells(&rt, &table);
+}
+
+#[test]
+fn a_gate_is_lost_where_the_port_lacks_the_column_of_the_key(rt: HostRuntime) {
+    let wait = Mode::Seal(KEY);
+    let table = [
         (wait, OTHER, Note::CR, [SEAL, ASYNC, RUN, INST, DIVERGE]),
         (wait, OTHER, Note::CW, [SEAL, ASYNC, RUN, TAINT, DIVERGE]),
         (
             wait,
             OTHER,
-            reads,
+            Note::OR(KEY),
             [sealed(NONE), plain(NONE), run(NONE), INST, DIVERGE],
         ),
-        (wait, OTHER, writes, [TAINT, TAINT, TAINT, TAINT, DIVERGE]),
-        // The mode waits for another key.
         (
-            wait_other,
-            BOTH,
-            Note::CR,
-            [ASYNC, ASYNC, RUN, INST, DIVERGE],
+            wait,
+            OTHER,
+            Note::OW(KEY),
+            [TAINT, TAINT, TAINT, TAINT, DIVERGE],
         ),
+    ];
+    check_cells(&rt, &table);
+}
+
+#[test]
+fn a_seal_is_lost_where_the_mode_waits_for_another_key(rt: HostRuntime) {
+    let wait = Mode::Seal(OTHER);
+    let table = [
+        (wait, BOTH, Note::CR, [ASYNC, ASYNC, RUN, INST, DIVERGE]),
+        (wait, BOTH, Note::CW, [ASYNC, ASYNC, RUN, TAINT, DIVERGE]),
         (
-            wait_other,
-            BOTH,
-            Note::CW,
-            [ASYNC, ASYNC, RUN, TAINT, DIVERGE],
-        ),
-        (
-            wait_other,
+            wait,
             BOTH,
             Note::OR(BOTH),
             [plain(BOTH), plain(BOTH), run(BOTH), INST, DIVERGE],
         ),
         (
-            wait_other,
+            wait,
             BOTH,
             Note::OW(BOTH),
             [TAINT, TAINT, TAINT, TAINT, DIVERGE],
         ),
-        // The mode passes the seals on.
+    ];
+    check_cells(&rt, &table);
+}
+
+#[test]
+fn a_mode_passes_only_seals_of_its_key_on(rt: HostRuntime) {
+    let (pass, other) = (Mode::Pass(KEY), Mode::Pass(OTHER));
+    let table = [
         (pass, OTHER, Note::CR, [SEAL, ASYNC, RUN, INST, DIVERGE]),
         (pass, OTHER, Note::CW, [SEAL, ASYNC, RUN, TAINT, DIVERGE]),
         (
             pass,
             OTHER,
-            reads,
+            Note::OR(KEY),
             [sealed(KEY), plain(KEY), run(KEY), INST, DIVERGE],
         ),
-        (pass, BOTH, writes, [TAINT, TAINT, TAINT, TAINT, DIVERGE]),
         (
-            pass_other,
+            pass,
             BOTH,
-            Note::CR,
-            [ASYNC, ASYNC, RUN, INST, DIVERGE],
+            Note::OW(KEY),
+            [TAINT, TAINT, TAINT, TAINT, DIVERGE],
         ),
-        // The mode has no use for seals.
+        (other, BOTH, Note::CR, [ASYNC, ASYNC, RUN, INST, DIVERGE]),
+    ];
+    check_cells(&rt, &table);
+}
+
+#[test]
+fn a_mode_without_a_key_has_no_use_for_seals(rt: HostRuntime) {
+    let (free, ordered) = (Mode::Free, Mode::Order);
+    let table = [
         (free, BOTH, Note::CR, [ASYNC, ASYNC, RUN, INST, DIVERGE]),
         (free, BOTH, Note::CW, [ASYNC, ASYNC, RUN, TAINT, DIVERGE]),
         (
             free,
             OTHER,
-            reads,
+            Note::OR(KEY),
             [plain(KEY), plain(KEY), run(KEY), INST, DIVERGE],
         ),
-        (free, BOTH, writes, [TAINT, TAINT, TAINT, TAINT, DIVERGE]),
+        (
+            free,
+            BOTH,
+            Note::OW(KEY),
+            [TAINT, TAINT, TAINT, TAINT, DIVERGE],
+        ),
         (ordered, BOTH, Note::CR, [ASYNC, ASYNC, RUN, INST, DIVERGE]),
     ];
-    for (mode, columns, note, cells) in &table {
-        for (label, want) in LABELS.iter().zip(cells.iter()) {
-            let got = pass_path(*label, *note, *columns, *mode, &[]);
-            assert_eq!(rt; got, *want, "{label:?} over {note:?} in {mode:?}");
-        }
-    }
+    check_cells(&rt, &table);
 }
 
 #[test]
@@ -171,7 +203,7 @@ fn a_dependency_makes_the_key_fit_the_gate(rt: HostRuntime) {
 }
 
 #[test]
-fn what_an_output_makes_of_its_paths(rt: HostRuntime) {
+fn an_output_is_as_bad_as_its_worst_path_unless_each_is_protected(rt: HostRuntime) {
     let (free, pass, wait) = (Mode::Free, Mode::Pass(KEY), Mode::Seal(KEY));
     let (seal, other) = (Label::Seal(KEY), PathLabel::Seal(OTHER));
     // The paths, the mode, and the label of the output at one replica and at several.

@@ -8,7 +8,7 @@ use Rattle.topo_types.specs.declared.topology.ComponentEntry.{ComponentEntry}
 use Rattle.topo_types.specs.declared.topology.Body.TheVariants as bodies
 use Rattle.topo_types.specs.declared.topology.ModeName.TheVariants.{Free}
 use Rattle.topo_types.specs.declared.topology.StreamEntry.{StreamEntry}
-use Rattle.topo_read.specs.Values.{name_in, columns_in, spot_in}
+use Rattle.topo_read.specs.Values.{name_in, some_names_in, spot_in}
 use Rattle.topo_read.specs.Tables.{at_key, list_at_key, unknown_key, side_in, declared_in}
 
 -- the text that names the place of a break; of a break in an entry it is at first the key alone
@@ -51,7 +51,7 @@ any_types columns = map (λ column. Any) columns
 unfoldable pub source_of : Members → Result SourceEntry Path
 source_of table = do
   name ← required name_in (codes "name") table
-  columns ← required columns_in (codes "columns") table
+  columns ← required some_names_in (codes "columns") table
   to ← optional_list spot_in (codes "to") table
   only ← only_keys (codes "name" ∷ codes "columns" ∷ codes "to" ∷ []) table
   Ok (record { name = name; columns = columns; types = any_types columns; seal = []; to = to })

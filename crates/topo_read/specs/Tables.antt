@@ -7,7 +7,7 @@ use Rattle.std.specs.Str.{bytes_eq}
 use Rattle.toml.specs.Data.{Data, Members, no_members, member, get_member, as_table}
 use Rattle.topo_types.specs.declared.topology.Side.{Side}
 use Rattle.topo_types.specs.declared.topology.Declared.{Declared}
-use Rattle.topo_read.specs.Values.{◌>>=◌, only_if, name_in, columns_in, note_in, list_in}
+use Rattle.topo_read.specs.Values.{◌>>=◌, only_if, name_in, names_in, note_in, list_in}
 
 -- what the value of a key gives; the key has to stand there
 abbrev pub at_key : {X : Type 0} → (Data → Option X) → List ℕ → Members → Option X
@@ -47,7 +47,7 @@ has_only known table = is_none (unknown_key known table)
 unfoldable pub side_of : Members → Option Side
 side_of table = do
   name ← at_key name_in (codes "name") table
-  columns ← at_key columns_in (codes "columns") table
+  columns ← at_key names_in (codes "columns") table
   only_if (has_only (codes "name" ∷ codes "columns" ∷ []) table) (record { name = name; columns = columns })
 
 -- the port or output that a value declares

@@ -40,14 +40,18 @@ all_in read (item value rest) = do
 abbrev pub list_in : {X : Type 0} → (Data → Option X) → Data → Option (List X)
 list_in read value = as_array value >>= all_in read
 
+-- a list of names
+abbrev pub names_in : Data → Option (List (List ℕ))
+names_in value = list_in name_in value
+
 -- a list that has an item
 abbrev pub one_or_more : {X : Type 0} → List X → Option (List X)
 one_or_more [] = None
 one_or_more (x ∷ xs) = Some (x ∷ xs)
 
 -- a list of names, one or more
-abbrev pub columns_in : Data → Option (List (List ℕ))
-columns_in value = list_in name_in value >>= one_or_more
+abbrev pub some_names_in : Data → Option (List (List ℕ))
+some_names_in value = names_in value >>= one_or_more
 
 -- `.`
 abbrev pub is_dot : ℕ → Bool

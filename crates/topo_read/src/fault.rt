@@ -18,8 +18,7 @@ pub enum TopoTextFault {
     #[error("the form breaks at {}", .path.as_str())]
     Form {
         /// The place of the first break: a key of the top level, as `format`, or one of an entry, as
-        /// `component[2].notes`. Entries are counted from 1, and a break inside a list of an entry has
-        /// the list's key.
+        /// `component[2].notes`, counted from 1.
         path: Str,
     },
     /// Memory ran out.

@@ -139,8 +139,7 @@ fn document_of(alloc: Global, bytes: &[u8]) -> Result<Table, TopoTextFault>
 /// The topology that the bytes of a TOML file give. A file of format 1 or 2 is read as format 2.
 ///
 /// NotToml comes where the bytes are no TOML document, and Form where the document isn't of the form of
-/// a topology, with the path of its first break: the top level comes first, then each source, component
-/// and stream, and within a table first the fields in their order and then unknown keys.
+/// a topology, with the path of its first break.
 pub fn read(alloc: Global, text: &[u8]) -> Result<Topology, TopoTextFault>
     ensures { IsReading text.now result }
 {

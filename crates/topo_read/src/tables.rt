@@ -7,6 +7,7 @@ ghost use Rattle.toml.specs.View.{view, table_view};
 ghost use Rattle.topo_read.specs.Gives.{GivesValue};
 ghost use Rattle.topo_read.specs.Tables as spec;
 ghost use Rattle.topo_read.specs.Tables.{side_in, declared_in};
+ghost use Rattle.topo_read.specs.Values as values;
 
 use crate::fault::ValueFault;
 use crate::values::{FromValue, list_in};
@@ -28,6 +29,20 @@ pub(crate) fn at_key<T: FromValue>(alloc: Global, table: &Table, key: &str) -> R
 {
     match get(table, key) {
         Some(value) => T::from_value(alloc, value),
+        None => Err(ValueFault::Break),
+    }
+}
+
+/// The list at a key; a missing key is a break.
+fn list_of_key<T: FromValue>(
+    alloc: Global,
+    table: &Table,
+    key: &str,
+) -> Result<Items<T>, ValueFault>
+    ensures { GivesValue (λ x. x) result (spec.at_key (values.list_in T.reading) key.now (table_view table.now)) }
+{
+    match get(table, key) {
+        Some(value) => list_in(alloc, value),
         None => Err(ValueFault::Break),
     }
 }
@@ -81,7 +96,7 @@ fn side_of(alloc: Global, table: &Table) -> Result<Side, ValueFault>
     ensures { GivesValue (λ side. side) result (spec.side_of (table_view table.now)) }
 {
     let name = at_key(alloc, table, "name")?;
-    let columns = at_key(alloc, table, "columns")?;
+    let columns = list_of_key(alloc, table, "columns")?;
     if !has_only(table, &["name", "columns"]) {
         return Err(ValueFault::Break);
     }

@@ -51,7 +51,7 @@ impl FromValue for Str {
 
 /// One or more names.
 impl FromValue for Items<Str> {
-    ghost reading = { spec.columns_in };
+    ghost reading = { spec.some_names_in };
 
     fn from_value(alloc: Global, value: &Value) -> Result<Items<Str>, ValueFault> {
         let names = list_in(alloc, value)?;

@@ -208,8 +208,8 @@ fn fault_in(
 }
 
 /// The first fault of the topology, None where it has none: the first kind that holds, at its first
-/// place in the order of sources, components and streams. Places count from 1. Of the kinds after
-/// Columns none is looked for, and the only error is want of memory.
+/// place in the order of sources, components and streams. Of the kinds after Columns none is looked
+/// for. The only error is want of memory.
 pub fn first_fault(alloc: Global, topology: &Topology) -> Result<Option<TopoFault>, AllocError>
     ensures { IfOk result (λ fault. fault ≡ fault_of topology.now) }
 {

@@ -286,7 +286,7 @@ const BREAKS_OF_COMPONENTS: [(&'static str, &'static str); 16] = [
     ),
     (
         "[[component]]\nname = 'c'\noutputs = [{ name = 'o', columns = [] }]",
-        "component[1].outputs",
+        "ok",
     ),
     (
         "[[component]]\nname = 'c'\noutputs = [{ name = 'o', columns = ['x'], to = [] }]",

@@ -16,8 +16,8 @@ use Rattle.bloom_ast.specs.Numbered.{IsNumbered}
 use Rattle.bloom_ast.specs.Rows.{rows_of}
 use Rattle.bloom_ast.specs.Step.{Sets, set_at, rows_named}
 use Rattle.bloom_ast.specs.Widths.{AreWide}
-use Rattle.bloom_eval.specs.NumberedRows.{numbered_rows, numbered_sets, TestsFit}
-use Rattle.bloom_eval.specs.Evaluates.{parts_of, part_sets}
+use Rattle.bloom_eval.specs.Code.NumberedRows.{numbered_rows, numbered_sets, TestsFit}
+use Rattle.bloom_eval.specs.StepAnswers.{parts_of, part_sets}
 use Rattle.bloom_ast.proofs.Wide.{wide_rows}
 
 module _ (cs : List Collection) (sets : Sets) where

@@ -9,9 +9,10 @@ use Rattle.blz_set.specs.declared.fault.SetFault.TheVariants.{TooManyRows, NoMem
 use Rattle.bloom_ast.specs.declared.numbered.NumberedExpr.{NumberedExpr}
 use Rattle.bloom_ast.specs.Step.{Sets}
 use Rattle.bloom_eval.specs.declared.rows.Rows.{Rows}
-use Rattle.bloom_eval.specs.Held.{rows_in}
-use Rattle.bloom_eval.specs.NumberedRows.{numbered_rows, numbered_sets}
-use Rattle.bloom_eval.specs.Evaluates.{AllFit, GivesRows, Evaluates}
+use Rattle.bloom_eval.specs.Code.Held.{rows_in}
+use Rattle.bloom_eval.specs.Code.NumberedRows.{numbered_rows, numbered_sets}
+use Rattle.bloom_eval.specs.Code.Evaluates.{GivesRows, Evaluates}
+use Rattle.bloom_eval.specs.StepAnswers.{AllFit}
 
 -- rows that were given
 pub gives_rows : (rows : List Row) (r : Result (List Row) SetFault) (set : List Row) (held : Rows) → r ≡ Ok set → rows_in held ≡ set → Gives rows r → GivesRows rows (Ok held)

@@ -6,3 +6,4 @@ pub mod Widths
 pub mod Taking
 pub mod Runnable
 pub mod Emptied
+pub mod CountedSame

@@ -1,9 +1,3 @@
-pub mod Faults
-pub mod Held
-pub mod NumberedRows
-pub mod Evaluates
-pub mod Counted
 pub mod StepAnswers
-pub mod Begin
-pub mod Taken
-pub mod Finish
+pub mod Laws
+pub mod Code

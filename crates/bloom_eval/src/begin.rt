@@ -3,8 +3,8 @@ ghost use Rattle.std.specs.Prelude.{◌≡◌, ◌<◌, ◌^◌, length, Some, I
 ghost use Rattle.bloom_ast.specs.declared.module.Kind.TheVariants.{Input, Table};
 ghost use Rattle.bloom_ast.specs.Kinds.{of_kind};
 ghost use Rattle.bloom_ast.specs.Step.{set_at, begun, at_start};
-ghost use Rattle.bloom_eval.specs.Held.{rows_in, sets_in};
-ghost use Rattle.bloom_eval.specs.Begin.{left_by, place_after, AreLeft};
+ghost use Rattle.bloom_eval.specs.Code.Held.{rows_in, sets_in};
+ghost use Rattle.bloom_eval.specs.Code.Begin.{left_by, place_after, AreLeft};
 
 use crate::rows::Rows;
 use crate::sets::Kept;

@@ -1,6 +1,6 @@
 //! Why a step is refused.
 ghost use Rattle.std.specs.Prelude.{◌≡◌};
-ghost use Rattle.bloom_eval.specs.Faults.{step_fault};
+ghost use Rattle.bloom_eval.specs.StepAnswers.{step_fault};
 ghost use Rattle.bloom_eval.specs.declared.fault.StepFault.TheVariants.{NoMemory};
 
 use blz_set::SetFault;

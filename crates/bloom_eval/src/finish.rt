@@ -2,8 +2,8 @@
 ghost use Rattle.std.specs.Prelude.{◌≡◌, ◌++◌, length, OnOk, IfOk};
 ghost use Rattle.bloom_ast.specs.declared.module.Kind.TheVariants.{Output, Table};
 ghost use Rattle.bloom_ast.specs.Step.{sets_of_kind};
-ghost use Rattle.bloom_eval.specs.Held.{rows_in, sets_in};
-ghost use Rattle.bloom_eval.specs.Finish.{placed};
+ghost use Rattle.bloom_eval.specs.Code.Held.{rows_in, sets_in};
+ghost use Rattle.bloom_eval.specs.Code.Finish.{placed};
 
 use crate::rows::{Rows, take_rows};
 use crate::sets::{Kept, Outs};

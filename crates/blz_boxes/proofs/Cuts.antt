@@ -16,7 +16,7 @@ use Rattle.blz_value.specs.Record.{Row}
 use Rattle.blz_value.specs.Test.{cell}
 use Rattle.blz_value.specs.declared.value.Value.TheVariants.{Int, Text}
 use Rattle.bloom_ast.specs.StockSteps.{is_space, words, parts_of, split_row}
-use Rattle.blz_boxes.specs.Texts.{texts}
+use Rattle.blz_boxes.specs.Code.Texts.{texts}
 
 -- a space is an ASCII byte
 is_space_ascii : (b : ℕ) → is_space b ≡ true → b < 128

@@ -7,7 +7,7 @@ use Rattle.std.specs.List.Sorted.{IsStrictlySortedBy}
 use Rattle.std.specs.Cmp.{tied_itself}
 use Rattle.std.specs.BTreeMap.{BTreeMap, get, values, is_at, IsOrdered}
 use Rattle.std.specs.Prelude.{◌==◌}
-use Rattle.std.proofs.lemmas.List.{take_more, append-nil, map-id}
+use Rattle.std.proofs.lemmas.List.{take_more, map-id}
 use Rattle.std.proofs.lemmas.List.Elements.{filter_map-append}
 use Rattle.std.proofs.lemmas.List.FromFn.{filter_of_map_range_with_len_more}
 use Rattle.std.proofs.lemmas.List.Folds.{list_any-append, list_all-append}
@@ -18,11 +18,11 @@ use Rattle.blz_value.specs.Sets.{set_of, IsRowSet}
 use Rattle.blz_value.specs.Operators.{cells}
 use Rattle.blz_value.proofs.Membership.{Has-append_left, Has-append_right, Has-append_cases, Has-filter, Has-from_filter, any_from_Has, Has-from_any, Has-get_or}
 use Rattle.blz_value.proofs.SetLemmas.{all_has}
-use Rattle.blz_value.proofs.SetLaws.{Has-set_of, Has-from_set_of, sorted_set_of}
-use Rattle.blz_value.proofs.RowSets.{same_set_of, set_of-sorted}
+use Rattle.blz_value.proofs.SetLaws.{Has-set_of, Has-from_set_of}
+use Rattle.blz_value.proofs.RowSets.{same_set_of}
 use Rattle.blz_set.proofs.Runs.{same_row}
 use Rattle.bloom_ast.specs.StockSteps.{has_key, is_latest, latest_kept, latest_out, keys_in_order}
-use Rattle.blz_boxes.specs.KeptRecords.{HaveKeys, records_of}
+use Rattle.blz_boxes.specs.Code.KeptRecords.{HaveKeys, records_of}
 use Rattle.blz_boxes.proofs.Records.{value_found, value_there, keys_after_put, values_from, values_old, value_new}
 
 -- ---- tests of lists with one element more
@@ -141,14 +141,6 @@ pub put_at : (keys : List ℕ) (kept rows : List Row) (i : ℕ) (row key copy : 
 put_at keys kept rows i row key copy old new is_key is_copy updates sorted lt is ordered_old ordered_new keys_old was =
     let at_key : (q : Row) → get record_cmp new q ≡ cond (is_at (record_cmp (cells keys row)) q) (Some row) (get record_cmp old q) = λ q. updates q ∙ ap (λ k. cond (is_at (record_cmp k) q) (Some copy) (get record_cmp old q)) is_key ∙ ap (λ r. cond (is_at (record_cmp (cells keys row)) q) (Some r) (get record_cmp old q)) is_copy in
     (keys_after_put keys row old new at_key keys_old, kept_at keys kept rows i row old new sorted lt is ordered_old ordered_new keys_old at_key was)
-
--- before any record is put
-pub kept_first : (keys : List ℕ) (rows : List Row) → set_of rows ≡ latest_kept keys (set_of rows) []
-kept_first keys rows = sym (ap set_of (append-nil (filter (stays keys []) (set_of rows)) ∙ all_stay (set_of rows)) ∙ set_of-sorted (set_of rows) (sorted_set_of rows))
-  where
-    all_stay : (rows : List Row) → filter (stays keys []) rows ≡ rows
-    all_stay [] = refl
-    all_stay (x ∷ rows) = ap (λ l. x ∷ l) (all_stay rows)
 
 -- ---- what is asked for
 

@@ -28,11 +28,11 @@ use Rattle.blz_set.specs.declared.fault.SetFault.{SetFault}
 use Rattle.blz_set.specs.declared.fault.SetFault.TheVariants as sets
 use Rattle.bloom_eval.specs.declared.fault.StepFault.{StepFault}
 use Rattle.bloom_eval.specs.declared.fault.StepFault.TheVariants as steps
-use Rattle.bloom_eval.specs.Faults.{step_fault}
+use Rattle.bloom_eval.specs.StepAnswers.{step_fault}
 use Rattle.blz_set.specs.References.{shown}
 use Rattle.blz_set.proofs.Runs.{same_row}
 use Rattle.bloom_ast.specs.StockSteps.{is_numbered, numbered, number_kept, number_out}
-use Rattle.blz_boxes.specs.Numbers.{with_number, numbered_records, numbered_from}
+use Rattle.blz_boxes.specs.Code.Numbers.{with_number, numbered_records, numbered_from}
 use Rattle.blz_boxes.proofs.Cuts.{enumerate_from-push}
 use Rattle.blz_boxes.proofs.Records.{count_entries}
 

@@ -18,7 +18,7 @@ use Rattle.blz_value.proofs.SetLaws.{Has-from_set_of}
 use Rattle.blz_value.proofs.RowSets.{length-insert_key-new}
 use Rattle.blz_set.proofs.Runs.{same_row}
 use Rattle.bloom_ast.specs.StockSteps.{has_key}
-use Rattle.blz_boxes.specs.KeptRecords.{HaveKeys, records_of}
+use Rattle.blz_boxes.specs.Code.KeptRecords.{HaveKeys, records_of}
 
 -- a record of the map stands at its key
 pub value_found : (columns : List ℕ) (m : BTreeMap Row Row) → IsOrdered record_cmp m → HaveKeys columns m → (q : Row) → Has q (values m) → get record_cmp m (cells columns q) ≡ Some q

@@ -4,7 +4,7 @@ ghost use Rattle.bloom_ast.specs.declared.program.Program.{Program as TheProgram
 ghost use Rattle.bloom_ast.specs.Program.{IsStock};
 ghost use Rattle.bloom_ast.specs.Step.{Sets, set_at};
 ghost use Rattle.bloom_eval.specs.declared.fault.StepFault.TheVariants.{TooManyRows};
-ghost use Rattle.bloom_eval.specs.Evaluates.{AllFit, SomeIsOver};
+ghost use Rattle.bloom_eval.specs.StepAnswers.{AllFit, SomeIsOver};
 ghost use Rattle.blz_boxes.specs.declared.kind.ProgramKind.{ProgramKind as TheKind};
 ghost use Rattle.blz_boxes.specs.Kind.{kind_of};
 ghost use Rattle.blz_boxes.specs.Step.{Arrive, AreTables, nothing_kept, tables_next, outs_next, outs_still, counted_next};

@@ -8,11 +8,11 @@ ghost use Rattle.bloom_ast.specs.Program.{table_columns};
 ghost use Rattle.bloom_ast.specs.ProgramStep.{tables_after_step, outputs_of_step};
 ghost use Rattle.bloom_ast.specs.Step.{set_at};
 ghost use Rattle.bloom_ast.specs.Widths.{AreWide, AreSetsOf};
-ghost use Rattle.bloom_eval.specs.Evaluates.{AllFit, SomeIsOver};
+ghost use Rattle.bloom_eval.specs.StepAnswers.{AllFit, SomeIsOver};
 ghost use Rattle.bloom_eval.specs.declared.fault.StepFault.TheVariants.{TooManyRows};
 ghost use Rattle.blz_boxes.specs.declared.kind.ProgramKind.TheVariants.{Latest as LatestKind};
-ghost use Rattle.blz_boxes.specs.KeptRecords.{records_of};
-ghost use Rattle.blz_boxes.specs.KeptSets.{AreSetsOf-prop};
+ghost use Rattle.blz_boxes.specs.Code.KeptRecords.{records_of};
+ghost use Rattle.blz_boxes.specs.Code.KeptSets.{AreSetsOf-prop};
 ghost use Rattle.blz_boxes.specs.Step.{counted};
 
 use crate::component::Component;

@@ -6,11 +6,11 @@ ghost use Rattle.bloom_ast.specs.Program.{table_columns};
 ghost use Rattle.bloom_ast.specs.ProgramStep.{tables_after_step, outputs_of_step};
 ghost use Rattle.bloom_ast.specs.Step.{set_at};
 ghost use Rattle.bloom_ast.specs.Widths.{AreWide, AreSetsOf};
-ghost use Rattle.bloom_eval.specs.Evaluates.{AllFit, SomeIsOver};
+ghost use Rattle.bloom_eval.specs.StepAnswers.{AllFit, SomeIsOver};
 ghost use Rattle.bloom_eval.specs.declared.fault.StepFault.TheVariants.{TooManyRows};
 ghost use Rattle.blz_boxes.specs.declared.kind.ProgramKind.TheVariants.{Number as NumberKind};
-ghost use Rattle.blz_boxes.specs.KeptSets.{AreSetsOf-prop};
-ghost use Rattle.blz_boxes.specs.Numbers.{numbered_records};
+ghost use Rattle.blz_boxes.specs.Code.KeptSets.{AreSetsOf-prop};
+ghost use Rattle.blz_boxes.specs.Code.Numbers.{numbered_records};
 ghost use Rattle.blz_boxes.specs.Step.{counted};
 
 use crate::component::Component;

@@ -9,7 +9,7 @@ ghost use Rattle.blz_set.specs.RecordSet.{row_limit};
 ghost use Rattle.blz_set.specs.References.{shown};
 ghost use Rattle.bloom_ast.specs.StockSteps.{number_kept, number_out};
 ghost use Rattle.bloom_eval.specs.declared.fault.StepFault.TheVariants.{TooManyRows};
-ghost use Rattle.blz_boxes.specs.Numbers.{with_number, numbered_records, numbered_from};
+ghost use Rattle.blz_boxes.specs.Code.Numbers.{with_number, numbered_records, numbered_from};
 
 use crate::program::ROW_LIMIT;
 use bloom_eval::StepFault;

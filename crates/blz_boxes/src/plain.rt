@@ -5,10 +5,10 @@ ghost use Rattle.bloom_ast.specs.declared.module.Kind.TheVariants.{Input, Table}
 ghost use Rattle.bloom_ast.specs.declared.program.Program.TheVariants.{Module as ModuleProgram};
 ghost use Rattle.bloom_ast.specs.Program.{columns_of_kind};
 ghost use Rattle.bloom_ast.specs.ProgramStep.{tables_after_step, outputs_of_step};
-ghost use Rattle.bloom_eval.specs.Evaluates.{AllFit, SomeIsOver};
+ghost use Rattle.bloom_eval.specs.StepAnswers.{AllFit, SomeIsOver};
 ghost use Rattle.bloom_ast.specs.Widths.{AreSetsOf};
 ghost use Rattle.bloom_eval.specs.declared.fault.StepFault.TheVariants.{TooManyRows};
-ghost use Rattle.blz_boxes.specs.KeptSets.{AreSetsOf-prop};
+ghost use Rattle.blz_boxes.specs.Code.KeptSets.{AreSetsOf-prop};
 ghost use Rattle.blz_boxes.specs.Step.{counted};
 ghost use Rattle.blz_boxes.specs.declared.kind.ProgramKind.TheVariants.{Module as ModuleKind};
 

@@ -3,7 +3,7 @@ ghost use Rattle.std.specs.Prelude.{◌≡◌, ◌<◌, ◌^◌, ◌==◌, ◌++
 ghost use Rattle.std.specs.List.{remove, flat_map, enumerate_from, position_from};
 ghost use Rattle.blz_value.specs.declared.value.Value.TheVariants.{Int, Text};
 ghost use Rattle.bloom_ast.specs.StockSteps.{is_space, words, split_row};
-ghost use Rattle.blz_boxes.specs.Texts.{texts};
+ghost use Rattle.blz_boxes.specs.Code.Texts.{texts};
 
 use blz_value::{Record, Str, Value};
 use std::alloc::{AllocError, Global};

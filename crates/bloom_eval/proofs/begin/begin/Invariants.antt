@@ -4,8 +4,8 @@ use Rattle.std.specs.List.{range_with_len}
 use Rattle.bloom_ast.specs.declared.module.Kind.TheVariants.{Input, Table}
 use Rattle.bloom_ast.specs.Kinds.{place_in_kind}
 use Rattle.bloom_ast.specs.Step.{set_at, begun_at}
-use Rattle.bloom_eval.specs.Held.{sets_in}
-use Rattle.bloom_eval.specs.Begin.{AreLeft}
+use Rattle.bloom_eval.specs.Code.Held.{sets_in}
+use Rattle.bloom_eval.specs.Code.Begin.{AreLeft}
 use Rattle.bloom_eval.proofs.begin.begin.Given as goal
 
 abbrev pub invariant-loop-collection : goal.invariant-loop-collection

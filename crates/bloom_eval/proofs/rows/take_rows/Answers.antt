@@ -1,6 +1,6 @@
 use Rattle.std.proofs.Common.{◌∙◌, ap, slice_set}
 use Rattle.std.proofs.lemmas.List.{map-set}
-use Rattle.bloom_eval.specs.Held.{rows_in, sets_in}
+use Rattle.bloom_eval.specs.Code.Held.{rows_in, sets_in}
 use Rattle.bloom_eval.proofs.rows.take_rows.Goals as goal
 
 pub returns-clause-left : goal.returns-clause-left

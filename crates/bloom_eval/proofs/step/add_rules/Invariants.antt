@@ -4,8 +4,8 @@ use Rattle.blz_value.specs.Record.{Row}
 use Rattle.blz_set.specs.declared.fault.SetFault.{SetFault}
 use Rattle.bloom_ast.specs.Lookup.{declared}
 use Rattle.bloom_ast.specs.Step.{rows_named, rules_at}
-use Rattle.bloom_eval.specs.Held.{sets_in}
-use Rattle.bloom_eval.specs.Counted.{Adds}
+use Rattle.bloom_eval.specs.Code.Held.{sets_in}
+use Rattle.bloom_eval.specs.Code.Counted.{Adds}
 use Rattle.bloom_eval.proofs.step.add_rules.Given as goal
 
 abbrev pub invariant-loop-rule : goal.invariant-loop-rule

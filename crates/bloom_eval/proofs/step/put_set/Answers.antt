@@ -1,5 +1,5 @@
 use Rattle.std.proofs.lemmas.List.{map-set}
-use Rattle.bloom_eval.specs.Held.{rows_in}
+use Rattle.bloom_eval.specs.Code.Held.{rows_in}
 use Rattle.bloom_eval.specs.declared.rows.Rows.TheVariants.{Own}
 use Rattle.bloom_eval.proofs.step.put_set.Goals as goal
 

@@ -1,6 +1,6 @@
 -- the heads that are left do the rest
 use Rattle.std.proofs.Common.{drop}
-use Rattle.bloom_eval.specs.Held.{sets_in}
+use Rattle.bloom_eval.specs.Code.Held.{sets_in}
 use Rattle.bloom_eval.proofs.Taking.{IsAt}
 use Rattle.bloom_eval.proofs.step.take_heads.Given as goal
 

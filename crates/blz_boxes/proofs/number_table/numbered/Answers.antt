@@ -1,5 +1,5 @@
 use Rattle.std.proofs.Common.{◌≡◌, ◌+◌, ◌∙◌, ap, rules, to_z, of_z, w64, pos}
-use Rattle.blz_boxes.specs.Numbers.{with_number}
+use Rattle.blz_boxes.specs.Code.Numbers.{with_number}
 use Rattle.blz_boxes.proofs.NumberRows.{numbered_more}
 use Rattle.blz_boxes.proofs.number_table.numbered.Goals as goal
 

@@ -1,7 +1,7 @@
 -- the records so far
 use Rattle.std.proofs.Common.{◌≡◌, take}
 use Rattle.blz_set.specs.References.{shown}
-use Rattle.blz_boxes.specs.Numbers.{numbered_from}
+use Rattle.blz_boxes.specs.Code.Numbers.{numbered_from}
 use Rattle.blz_boxes.proofs.number_table.numbered.Given as goal
 
 abbrev pub invariant-loop-i : goal.invariant-loop-i

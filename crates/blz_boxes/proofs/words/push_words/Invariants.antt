@@ -1,6 +1,6 @@
 -- the rows so far
 use Rattle.std.proofs.Common.{◌≡◌, ◌++◌, take}
-use Rattle.blz_boxes.specs.Texts.{texts}
+use Rattle.blz_boxes.specs.Code.Texts.{texts}
 use Rattle.blz_boxes.proofs.Cuts.{word_rows}
 use Rattle.blz_boxes.proofs.words.push_words.Given as goal
 

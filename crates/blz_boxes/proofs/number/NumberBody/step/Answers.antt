@@ -3,7 +3,7 @@ use Rattle.std.specs.Prelude.{codes}
 use Rattle.blz_value.specs.Record.{Row}
 use Rattle.bloom_ast.specs.Step.{Sets, set_at}
 use Rattle.bloom_ast.specs.Widths.{AreWide}
-use Rattle.blz_boxes.specs.Numbers.{numbered_records}
+use Rattle.blz_boxes.specs.Code.Numbers.{numbered_records}
 use Rattle.blz_boxes.proofs.KeptWidths.{first_set, number_stepped}
 use Rattle.blz_boxes.proofs.number.NumberBody.step.Goals as goal
 

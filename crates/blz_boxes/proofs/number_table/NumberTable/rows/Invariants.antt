@@ -1,6 +1,6 @@
 -- the records so far
 use Rattle.std.proofs.Common.{◌≡◌, ◌++◌, map}
-use Rattle.blz_boxes.specs.Numbers.{with_number}
+use Rattle.blz_boxes.specs.Code.Numbers.{with_number}
 use Rattle.blz_boxes.proofs.number_table.NumberTable.rows.Given as goal
 
 abbrev pub invariant-loop-row : goal.invariant-loop-row

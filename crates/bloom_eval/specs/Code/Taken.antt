@@ -9,9 +9,8 @@ use Rattle.bloom_ast.specs.Form.{Accepted}
 use Rattle.bloom_ast.specs.Heads.{IsDerived}
 use Rattle.bloom_ast.specs.Kinds.{kind_at}
 use Rattle.bloom_ast.specs.Step.{Sets, set_at, with_head}
-use Rattle.bloom_eval.specs.Evaluates.{AllFit, SomeIsOver}
+use Rattle.bloom_eval.specs.StepAnswers.{AllFit, SomeIsOver, counted_at}
 use Rattle.bloom_ast.specs.Widths.{AreSetsOf}
-use Rattle.bloom_eval.specs.StepAnswers.{counted_at}
 
 -- one set for each collection, with rows of its width
 abbrev pub AreSetsOfAll : List Collection → Sets → Type 0

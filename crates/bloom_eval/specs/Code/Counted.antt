@@ -1,6 +1,5 @@
 -- What adding the rows of rules to a set answers.
 use Rattle.std.specs.Prelude.{ℕ, ◌≡◌, Result, Ok, Err, OnOk, List, [], ◌∷◌, ◌++◌, slice_set}
-use Rattle.std.specs.List.{flat_map}
 use Rattle.blz_value.specs.Record.{Row}
 use Rattle.blz_value.specs.Sets.{set_of}
 use Rattle.blz_set.specs.declared.fault.SetFault.{SetFault}
@@ -10,11 +9,7 @@ use Rattle.bloom_ast.specs.Lookup.{declared}
 use Rattle.bloom_ast.specs.Query.{Name}
 use Rattle.bloom_ast.specs.Form.{RuleForm}
 use Rattle.bloom_ast.specs.Step.{Sets, set_at, rows_named, rules_at, union_of}
-use Rattle.bloom_eval.specs.Evaluates.{part_sets, AllFit, SomeIsOver}
-
--- the rows of each part of the bodies of some rules
-abbrev pub rule_sets : (Name → List Name) → (Name → List Row) → List RuleForm → Sets
-rule_sets columns env rules = flat_map (λ rule. part_sets columns env rule.1) rules
+use Rattle.bloom_eval.specs.StepAnswers.{AllFit, SomeIsOver, rule_sets}
 
 -- rows were added to a set; TooManyRows comes exactly where they make it too large, or one of the sets that they come from has too many rows
 abbrev pub AddsRows : {X : Type 0} → (rows : List Row) (sets : Sets) → (old new : List Row) → Result X SetFault → Type 0

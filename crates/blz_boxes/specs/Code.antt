@@ -1,0 +1,5 @@
+-- What private functions give.
+pub mod KeptRecords
+pub mod Numbers
+pub mod Texts
+pub mod KeptSets

@@ -13,7 +13,8 @@ use Rattle.bloom_ast.specs.declared.fault.ModuleKind.TheVariants as kind
 use Rattle.bloom_ast.specs.declared.module.Collection.{Collection}
 use Rattle.bloom_ast.specs.declared.reads.Facts.{Facts}
 use Rattle.bloom_ast.specs.Bounds.{passes_bounds}
-use Rattle.bloom_ast.specs.Checks.{AreFew, IsCollection}
+use Rattle.bloom_ast.specs.Checks.{IsCollection}
+use Rattle.bloom_ast.specs.Code.Checking.{AreFew}
 use Rattle.bloom_ast.specs.Faults.{bad_collection, bad_rule, at_places, kind_fault, is_ninth}
 use Rattle.bloom_ast.specs.Fits.{is_width, repeats}
 use Rattle.bloom_ast.specs.Form.{RuleForm}

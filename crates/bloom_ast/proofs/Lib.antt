@@ -19,3 +19,4 @@ pub mod Small
 pub mod Wide
 pub mod StockWidths
 pub mod NameNumbers
+pub mod FirstFaultLemmas

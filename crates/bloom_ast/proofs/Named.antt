@@ -1,10 +1,10 @@
 -- Names that are borrowed.
-use Rattle.std.proofs.Common.{◌≡◌, ◌||◌, ◌&&◌, ◌==◌, if◌then◌else◌, length, ◌+◌, ◌++◌, ◌∙◌, not, ℕ, List, [], ◌∷◌, map, refl, ap, sym, inl, inr, Bool, true, false, Option, Some, None}
+use Rattle.std.proofs.Common.{if◌then◌else◌, ◌≡◌, ◌||◌, ◌&&◌, ◌==◌, length, ◌+◌, ◌++◌, ◌∙◌, not, ℕ, List, [], ◌∷◌, map, refl, ap, sym, inl, inr, Bool, true, false, Option, Some, None}
 use Rattle.std.specs.Option.{option_and_then}
 use Rattle.std.specs.List.{filter, enumerate_from}
 use Rattle.std.proofs.lemmas.Bool.{cases_Bool}
 use Rattle.blz_value.specs.Operators.{is_paired}
-use Rattle.bloom_ast.specs.Borrowed.{is_in_pair, others_from, keep, fitting}
+use Rattle.bloom_ast.specs.Code.Borrowed.{is_in_pair, others_from, keep, fitting}
 use Rattle.bloom_ast.specs.Columns.{column_number, pair_numbers, joined_columns, columns_of}
 use Rattle.bloom_ast.specs.Fits.{are_columns, operator_fits, query_fits}
 use Rattle.bloom_ast.specs.Query.{Name, Query}

@@ -1,5 +1,5 @@
 -- The heads by their keys stand in order.
-use Rattle.std.proofs.Common.{◌≡◌, ◌≢◌, ◌≤◌, ◌<◌, ◌+◌, ◌||◌, ◌⊎◌, inl, inr, ℕ, zero, suc, Bool, true, false, if◌then◌else◌, None, Some, List, [], ◌∷◌, map, length, slice_index_or, nat_lt, refl, rules, arith, ap, sym, subst, ◌∙◌}
+use Rattle.std.proofs.Common.{if◌then◌else◌, ◌≡◌, ◌≢◌, ◌≤◌, ◌<◌, ◌+◌, ◌||◌, ◌⊎◌, inl, inr, ℕ, zero, suc, Bool, true, false, None, Some, List, [], ◌∷◌, map, length, slice_index_or, nat_lt, refl, rules, arith, ap, sym, subst, ◌∙◌}
 use Rattle.std.specs.List.{enumerate_from}
 use Rattle.std.proofs.lemmas.Bool.{cases_Bool}
 use Rattle.blz_value.specs.Members.{Has}
@@ -16,7 +16,7 @@ use Rattle.bloom_ast.specs.declared.module.Kind.TheVariants.{Input, Output, Tabl
 use Rattle.bloom_ast.specs.declared.module.Collection.{Collection}
 use Rattle.bloom_ast.specs.Faults.{recursive_rule}
 use Rattle.bloom_ast.specs.Form.{RuleForm}
-use Rattle.bloom_ast.specs.HeadKeys.{key_at, put_head, heads_on}
+use Rattle.bloom_ast.specs.Code.HeadKeys.{key_at, put_head, heads_on}
 use Rattle.bloom_ast.specs.Heads.{names_of, HasRule, IsDerived, InOrder, IsOrdered}
 use Rattle.bloom_ast.specs.Kinds.{is_input}
 use Rattle.bloom_ast.specs.Lookup.{collection_number}

@@ -135,10 +135,10 @@ module _ (a : Accepted) (ordered : IsOrdered a.form.collections a.form.rules a.h
     step n (Some Table) is =
         let sorted : IsRowSet (first n) = subst IsRowSet (sym (made n (Some Table) is)) (sorted_set_of (set_named Table cs kept n ++ union_of (declared cs) first (rules_of a.form.rules n))) in
         sym (
-          ap (λ (l : List RuleForm). set_of (set_named Table cs after n ++ union_of (declared cs) first l)) (no_rules n (named_kind n (Some Table) is) a.form.rules)
-          ∙ ap set_of (append-nil (set_named Table cs after n))
-          ∙ ap set_of (set-made Table a kept now n is)
-          ∙ set_of-sorted (first n) sorted
+        ap (λ (l : List RuleForm). set_of (set_named Table cs after n ++ union_of (declared cs) first l)) (no_rules n (named_kind n (Some Table) is) a.form.rules)
+        ∙ ap set_of (append-nil (set_named Table cs after n))
+        ∙ ap set_of (set-made Table a kept now n is)
+        ∙ set_of-sorted (first n) sorted
         )
 
     -- the end of a step is that over its new tables

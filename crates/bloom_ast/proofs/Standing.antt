@@ -166,8 +166,8 @@ module _ (a : Accepted) (checked : IsChecked a.form a.heads) (kept now : Sets) w
     | inl t ↦
         ap (λ (b : Bool). cond b [] (first n)) t
         ∙ sym (ap set_of (none_of_rules columns before (rules_of rules n) (λ r m.
-          let own = own_rules n r m in
-          rule_none r own.0 (rule_momentary cs rules checked.few_collections n r is own.1 (checked.rules r own.0).pure t))))
+        let own = own_rules n r m in
+        rule_none r own.0 (rule_momentary cs rules checked.few_collections n r is own.1 (checked.rules r own.0).pure t))))
     | inr f ↦
         ap (λ (b : Bool). cond b [] (first n)) f
         ∙ first_is n (Some Scratch) is

@@ -53,8 +53,8 @@ latest_stands columns keys =
 pub number_stands : (columns : List Name) → StandsStill (Number columns)
 number_stands columns = record {
   tables = λ kept now.
-  let all = set_at kept 0 ++ numbered (set_at kept 0) (set_at now 0) in
-  ap (λ (rows : List Row). rows ∷ []) (ap set_of (append-nil (set_of all)) ∙ set_of-sorted (set_of all) (sorted_set_of all));
+      let all = set_at kept 0 ++ numbered (set_at kept 0) (set_at now 0) in
+      ap (λ (rows : List Row). rows ∷ []) (ap set_of (append-nil (set_of all)) ∙ set_of-sorted (set_of all) (sorted_set_of all));
   outputs = λ kept now output row h. absurd (subst (λ (rows : List Row). Has row rows) (one_empty [] refl output) h);
   empty = one_empty [] refl;
 }

@@ -11,7 +11,8 @@ use Rattle.bloom_ast.specs.declared.fault.ModuleFault.{ModuleFault}
 use Rattle.bloom_ast.specs.declared.fault.ModuleKind.{ModuleKind}
 use Rattle.bloom_ast.specs.declared.fault.ModuleKind.TheVariants as kind
 use Rattle.bloom_ast.specs.declared.module.Collection.{Collection}
-use Rattle.bloom_ast.specs.Checks.{IsRule, ChecksHeads, Later}
+use Rattle.bloom_ast.specs.Checks.{IsRule}
+use Rattle.bloom_ast.specs.Code.Checking.{ChecksHeads, Later}
 use Rattle.bloom_ast.specs.Faults.{kind_fault, fault_in, later_kinds, unknown_rule, columns_rule, recursive_rule, mixes, is_mixed}
 use Rattle.bloom_ast.specs.Columns.{columns_of}
 use Rattle.bloom_ast.specs.Fits.{query_fits}

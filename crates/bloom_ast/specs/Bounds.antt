@@ -1,8 +1,9 @@
 -- The bounds of the grammar, for the least text of an expression.
-use Rattle.std.specs.Prelude.{ℕ, suc, ◌+◌, ◌||◌, Bool, true, false, if◌then◌else◌, nat_lt, max, List, [], ◌∷◌, ◌++◌, length}
+use Rattle.std.specs.Prelude.{if◌then◌else◌, ℕ, suc, ◌+◌, ◌||◌, Bool, true, false, nat_lt, max, List, [], ◌∷◌, ◌++◌, length}
 use Rattle.std.specs.List.{list_any}
 use Rattle.blz_value.specs.declared.value.Value.{Value}
 use Rattle.blz_value.specs.declared.value.Value.TheVariants.{Int, Text}
+use Rattle.bloom_ast.specs.declared.bounds.TheConstants.{MOST_LEVELS, MOST_COMPARISONS, MOST_BYTES}
 use Rattle.bloom_ast.specs.declared.expr.Term.{Term}
 use Rattle.bloom_ast.specs.declared.expr.Term.TheVariants.{Column, Literal}
 use Rattle.bloom_ast.specs.Query.{Formula, Query}
@@ -41,13 +42,13 @@ comparisons (not_so a) = comparisons a
 
 abbrev pub is_long_value : Value → Bool
 is_long_value (Int n) = false
-is_long_value (Text bytes) = nat_lt 64 (length bytes)
+is_long_value (Text bytes) = nat_lt MOST_BYTES (length bytes)
 
 abbrev pub is_long_term : Term → Bool
 is_long_term (Column name) = false
 is_long_term (Literal value) = is_long_value value
 
--- it has a text literal above 64 bytes
+-- it has a text literal with more bytes than a literal may have
 abbrev pub has_long_literal : Formula → Bool
 has_long_literal (compare l o r) = is_long_term l || is_long_term r
 has_long_literal (both a b) = has_long_literal a || has_long_literal b
@@ -74,13 +75,13 @@ formulas_of (notin a b pairs) = formulas_of a ++ formulas_of b
 formulas_of (group q keys agg name) = formulas_of q
 formulas_of (at_least q keys bound) = formulas_of q
 
--- more than 32 comparisons, or a text literal above 64 bytes
+-- too many comparisons, or a text literal that is too long
 abbrev pub is_long : Formula → Bool
-is_long f = nat_lt 32 (comparisons f) || has_long_literal f
+is_long f = nat_lt MOST_COMPARISONS (comparisons f) || has_long_literal f
 
--- more than 32 levels, or a select whose predicate is too long
+-- too many levels, or a select whose predicate is too long
 abbrev pub passes_bounds : Query → Bool
-passes_bounds q = nat_lt 32 (query_levels q) || list_any is_long (formulas_of q)
+passes_bounds q = nat_lt MOST_LEVELS (query_levels q) || list_any is_long (formulas_of q)
 
 -- ---- how deep a tree is, by which the walks over one that is handed in are bounded
 

@@ -1,23 +1,20 @@
 -- What holds of a module that was checked, and what a check answers.
-use Rattle.std.specs.Prelude.{ℕ, ◌≡◌, ◌≢◌, ◌≤◌, IsTrue, IsFalse, Option, None, Some, Result, Ok, Err, List, [], length}
+use Rattle.std.specs.Prelude.{ℕ, ◌≡◌, ◌≢◌, ◌≤◌, IsTrue, IsFalse, None, Some, Result, Ok, Err, List, length}
 use Rattle.std.specs.List.{list_all, AllPairs}
-use Rattle.std.specs.Global.{Vec}
 use Rattle.blz_value.specs.Members.{Has}
 use Rattle.bloom_ast.specs.declared.fault.CheckFault.{CheckFault}
 use Rattle.bloom_ast.specs.declared.fault.CheckFault.TheVariants.{Bad, NoMemory}
-use Rattle.bloom_ast.specs.declared.fault.ModuleFault.{ModuleFault}
 use Rattle.bloom_ast.specs.declared.module.Collection.{Collection}
 use Rattle.bloom_ast.specs.Bounds.{passes_bounds}
 use Rattle.bloom_ast.specs.Columns.{columns_of}
-use Rattle.bloom_ast.specs.Faults.{fault_of, fault_in, later_kinds, recursive_rule, mixes, is_mixed}
+use Rattle.bloom_ast.specs.Faults.{fault_of, recursive_rule, mixes, is_mixed}
 use Rattle.bloom_ast.specs.Fits.{is_width, repeats, query_fits}
 use Rattle.bloom_ast.specs.Form.{RuleForm, Form, Accepted}
-use Rattle.bloom_ast.specs.HeadKeys.{key_at, heads_on}
 use Rattle.bloom_ast.specs.Heads.{names_of, IsOrdered}
 use Rattle.bloom_ast.specs.Kinds.{has_kind, is_head, is_readable}
-use Rattle.bloom_ast.specs.Literals.{HasLiterals, RulesHaveLiterals}
+use Rattle.bloom_ast.specs.Literals.{HasLiterals}
 use Rattle.bloom_ast.specs.Lookup.{declared}
-use Rattle.bloom_ast.specs.Reads.{arrows, facts_of, keys_of}
+use Rattle.bloom_ast.specs.Reads.{arrows, facts_of}
 use Rattle.bloom_ast.specs.Reserved.{HasOwnNames}
 
 -- a collection has one to eight columns, each once
@@ -53,26 +50,3 @@ abbrev pub Checks : Form → Result Accepted CheckFault → Type 0
 Checks m (Ok accepted) = (accepted.form ≡ m) × IsChecked m accepted.heads
 Checks m (Err (Bad fault)) = fault_of m ≡ Some fault
 Checks m (Err NoMemory) = Unit {0}
-
--- ---- the parts of a check
-
--- the heads in order where there is no fault and the literals can be held, and else the first fault
-abbrev pub ChecksHeads : Form → Result (Vec ℕ) CheckFault → Type 0
-ChecksHeads m (Ok heads) = RulesHaveLiterals m.rules → IsChecked m heads.items
-ChecksHeads m (Err (Bad fault)) = fault_of m ≡ Some fault
-ChecksHeads m (Err NoMemory) = Unit {0}
-
--- few collections and rules, where there is no fault of size
-abbrev pub AreFew : List Collection → List RuleForm → Option ModuleFault → Type 0
-AreFew cs rules None = (length cs ≤ 32) × (length rules ≤ 64)
-AreFew cs rules (Some fault) = Unit {0}
-
--- the kinds after the first have no fault, and the heads are by their keys
-pub record IsLater (cs : List Collection) (rules : List RuleForm) (heads : List ℕ) : Type 0 where
-  pub clean : fault_in (facts_of cs rules) later_kinds cs rules ≡ None
-  pub are : heads ≡ heads_on (key_at (keys_of cs (arrows cs rules))) 0 cs []
-
-abbrev pub Later : List Collection → List RuleForm → Result (Vec ℕ) CheckFault → Type 0
-Later cs rules (Ok heads) = IsLater cs rules heads.items
-Later cs rules (Err (Bad fault)) = fault_in (facts_of cs rules) later_kinds cs rules ≡ Some fault
-Later cs rules (Err NoMemory) = Unit {0}

@@ -51,11 +51,6 @@ signs_read (both a b) stack = read_signs-append (signs a) _ stack ∙ ap (read_s
 signs_read (either a b) stack = read_signs-append (signs a) _ stack ∙ ap (read_signs (signs b ++ oring ∷ [])) (signs_read a stack) ∙ read_signs-append (signs b) _ (a ∷ stack) ∙ ap (read_signs (oring ∷ [])) (signs_read b (a ∷ stack))
 signs_read (not_so a) stack = read_signs-append (signs a) _ stack ∙ ap (read_signs (notting ∷ [])) (signs_read a stack)
 
--- the first formula, or any
-abbrev pub first_formula : List Formula → Formula → Formula
-first_formula [] f = f
-first_formula (f ∷ stack) g = f
-
 -- ---- queries
 
 pub data QuerySign : Type 0 where

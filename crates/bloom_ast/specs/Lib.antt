@@ -16,13 +16,12 @@ pub mod Laws
 pub mod Reads
 pub mod Bounds
 pub mod Fits
-pub mod Borrowed
 pub mod Faults
+pub mod FirstFault
 pub mod Reserved
-pub mod HeadKeys
 pub mod Literals
 pub mod Checks
 pub mod Widths
 pub mod Tests
 pub mod Numbered
-pub mod NumberedParts
+pub mod Code

@@ -1,10 +1,11 @@
 //! The check of a module.
 ghost use Rattle.std.specs.Prelude.{◌≡◌, ◌<◌, ◌≤◌, ℕ, length, [], IfOk, IfSome};
 ghost use Rattle.blz_value.specs.FirstPlace.{first_place};
-ghost use Rattle.bloom_ast.specs.Checks as checks;
+ghost use Rattle.bloom_ast.specs.Checks.{Checks};
+ghost use Rattle.bloom_ast.specs.Code.Checking as checking;
 ghost use Rattle.bloom_ast.specs.Faults as spec;
 ghost use Rattle.bloom_ast.specs.Form.{form_of, rule_form, rule_forms};
-ghost use Rattle.bloom_ast.specs.HeadKeys as order;
+ghost use Rattle.bloom_ast.specs.Code.HeadKeys as order;
 ghost use Rattle.bloom_ast.specs.Reads.{facts_of as facts_in};
 ghost use Rattle.bloom_ast.specs.Reserved.{HasOwnNames};
 ghost use Rattle.bloom_ast.specs.declared.fault.ModuleKind.TheVariants.{TooMany};
@@ -155,7 +156,7 @@ fn size_fault(
     rules: &[Rule],
 ) -> Result<Option<ModuleFault>, AllocError>
     ensures fault { IfOk result (λ fault. fault ≡ spec.kind_fault (facts_in collections.now (rule_forms rules.now)) TooMany collections.now (rule_forms rules.now)) }
-    ensures few { IfOk result (λ fault. checks.AreFew collections.now (rule_forms rules.now) fault) }
+    ensures few { IfOk result (λ fault. checking.AreFew collections.now (rule_forms rules.now) fault) }
 {
     let none = no_facts(alloc);
     kind_fault(alloc, ModuleKind::TooMany, collections, &none, rules)
@@ -165,7 +166,7 @@ fn size_fault(
 fn later(alloc: Global, collections: &[Collection], rules: &[Rule]) -> Result<Vec<u32>, CheckFault>
     requires few { length collections.now ≤ 64 }
     requires few_rules { length rules.now ≤ 64 }
-    ensures { checks.Later collections.now (rule_forms rules.now) result }
+    ensures { checking.Later collections.now (rule_forms rules.now) result }
 {
     let facts = facts_of(alloc, collections, rules)?;
     let kinds = [
@@ -188,7 +189,7 @@ fn later(alloc: Global, collections: &[Collection], rules: &[Rule]) -> Result<Ve
 // The heads of a module without fault in order, or its first fault.
 fn clean_heads(alloc: Global, module: &Module) -> Result<Vec<u32>, CheckFault>
     requires { HasOwnNames (form_of module.now) }
-    ensures { checks.ChecksHeads (form_of module.now) result }
+    ensures { checking.ChecksHeads (form_of module.now) result }
 {
     let collections = module.collections.as_slice();
     let rules = module.rules.as_slice();
@@ -203,7 +204,7 @@ fn clean_heads(alloc: Global, module: &Module) -> Result<Vec<u32>, CheckFault>
 /// holds, at its first place, collections before rules. The error is that fault or want of memory.
 pub fn check(alloc: Global, module: &Module) -> Result<Checked, CheckFault>
     requires names { HasOwnNames (form_of module.now) }
-    ensures { checks.Checks (form_of module.now) result }
+    ensures { Checks (form_of module.now) result }
 {
     let heads = clean_heads(alloc, module)?;
     let module = module.copy(alloc)?;

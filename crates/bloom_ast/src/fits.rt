@@ -2,7 +2,7 @@
 ghost use Rattle.std.specs.Prelude.{◌≡◌, ◌≤◌, ◌∷◌, [], ◌++◌, ◌&&◌, true, pos, int_lt, ◌<◌, drop, map, length, IfOk, IfSome};
 ghost use Rattle.std.specs.Option.{option_and_then};
 ghost use Rattle.fd_closure.specs.Names as places;
-ghost use Rattle.bloom_ast.specs.Borrowed.{names_in, is_in_pair, others_from, keep, fitting, found_in};
+ghost use Rattle.bloom_ast.specs.Code.Borrowed.{names_in, is_in_pair, others_from, keep, fitting, found_in};
 ghost use Rattle.bloom_ast.specs.Columns as columns_spec;
 ghost use Rattle.bloom_ast.specs.Faults.{columns_rule};
 ghost use Rattle.bloom_ast.specs.Fits as spec;

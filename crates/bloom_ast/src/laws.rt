@@ -4,18 +4,18 @@ ghost use Rattle.fd_closure.specs.Bits.{bit_of, meets};
 ghost use Rattle.bloom_ast.specs.declared.module.Collection.{Collection};
 ghost use Rattle.bloom_ast.specs.declared.module.Kind.TheVariants.{Input, Output, Table};
 ghost use Rattle.bloom_ast.specs.Query.{Name, Query};
-ghost use Rattle.bloom_ast.specs.Form.{RuleForm, Accepted};
+ghost use Rattle.bloom_ast.specs.Faults.{fault_of};
+ghost use Rattle.bloom_ast.specs.FirstFault.{first_fault};
+ghost use Rattle.bloom_ast.specs.Form.{RuleForm, Form, Accepted};
 ghost use Rattle.bloom_ast.specs.Kinds.{is_input};
-ghost use Rattle.bloom_ast.specs.Lookup.{declared, kind_of};
+ghost use Rattle.bloom_ast.specs.Lookup.{kind_of};
 ghost use Rattle.bloom_ast.specs.Heads.{IsOrdered};
 ghost use Rattle.bloom_ast.specs.Reads.{named, cone, direct, kind_set, is_momentary, NamesRule, NamesScratchRule};
-ghost use Rattle.bloom_ast.specs.Step.{Sets, union_of, outputs_of, tables_after};
-ghost use Rattle.bloom_ast.specs.Equations.{Env, Solves, end_env, rules_of, set_named};
-ghost use Rattle.bloom_ast.specs.OverTables.{over, env_over};
+ghost use Rattle.bloom_ast.specs.Step.{Sets, outputs_of, tables_after};
+ghost use Rattle.bloom_ast.specs.Equations.{Env, Solves, end_env, set_named};
 ghost use Rattle.bloom_ast.specs.Checks.{IsChecked};
-ghost use Rattle.bloom_ast.specs.Laws.{StandsStill, StepsSame};
+ghost use Rattle.bloom_ast.specs.Laws.{StandsStill, StepsSame, HoldsByKind, EndsOver};
 ghost use Rattle.bloom_ast.specs.declared.program.Program.TheVariants.{Module, Split, Latest, Number};
-ghost use Rattle.blz_value.specs.Sets.{IsRowSet};
 
 /// A step as equations: what the collections hold once the heads are taken is the one solution, and
 /// the new tables and the outputs are what it gives to the tables and outputs.
@@ -45,8 +45,8 @@ pub fn order_law()
 /// what is given, scratches and outputs the rows of their rules. What they hold at the end of a step
 /// is so over its new tables.
 pub fn tables_law()
-    ensures over { (a : Accepted) (tables now : Sets) → IsOrdered a.form.collections a.form.rules a.heads → ((name : Name) → kind_of a.form.collections name ≡ Some Table → IsRowSet (set_named Table a.form.collections tables name)) → (name : Name) → env_over a tables now name ≡ over (kind_of a.form.collections name) (set_named Table a.form.collections tables name) (set_named Input a.form.collections now name) (union_of (declared a.form.collections) (env_over a tables now) (rules_of a.form.rules name)) }
-    ensures end { (a : Accepted) (kept now : Sets) → IsOrdered a.form.collections a.form.rules a.heads → (name : Name) → end_env a kept now name ≡ env_over a (tables_after a kept now) now name }
+    ensures over { (a : Accepted) → IsOrdered a.form.collections a.form.rules a.heads → HoldsByKind a }
+    ensures end { (a : Accepted) → IsOrdered a.form.collections a.form.rules a.heads → EndsOver a }
 {}
 
 /// What an expression reads, one level at a time: in a cone are the collections that the expression names, and the cones of the bodies of
@@ -57,4 +57,11 @@ pub fn reads_law()
     ensures cone { (cs : List Collection) (rules : List RuleForm) (q : Query) (n : ℕ) → length cs ≤ 32 → n < 64 → IsTrue (meets (bit_of n) (cone cs rules q)) ↔ (IsTrue (meets (bit_of n) (named cs q)) ⊎ ((r : RuleForm) × NamesRule cs rules q r × IsTrue (meets (bit_of n) (cone cs rules r.1)))) }
     ensures direct { (cs : List Collection) (rules : List RuleForm) (q : Query) (n : ℕ) → length cs ≤ 32 → n < 64 → IsTrue (meets (bit_of n) (direct cs rules q)) ↔ (IsTrue (meets (bit_of n) (named cs q)) ⊎ ((r : RuleForm) × NamesScratchRule cs rules q r × IsTrue (meets (bit_of n) (direct cs rules r.1)))) }
     ensures momentary { (cs : List Collection) (rules : List RuleForm) (q : Query) → length cs ≤ 32 → IsTrue (is_momentary cs rules q) ↔ (IsTrue (meets (kind_set is_input cs) (named cs q)) ⊎ ((r : RuleForm) × NamesScratchRule cs rules q r × IsTrue (is_momentary cs rules r.1))) }
+{}
+
+/// The first fault of a module, which the check finds by arrows and sets of bits, is that by what is
+/// read: an expression is momentary where it reads a port, directly or through scratches, and a rule
+/// is recursive where its head is in the cone of its body.
+pub fn fault_law()
+    ensures { (m : Form) → fault_of m ≡ first_fault m }
 {}

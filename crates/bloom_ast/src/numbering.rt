@@ -1,12 +1,12 @@
 //! The numbers of the names in expressions and rules.
 ghost use Rattle.std.specs.Prelude.{◌≡◌, ◌≤◌, ◌<◌, List, length, IfOk};
 ghost use Rattle.blz_value.specs.Members.{Has};
-ghost use Rattle.bloom_ast.specs.Borrowed.{names_in};
+ghost use Rattle.bloom_ast.specs.Code.Borrowed.{names_in};
 ghost use Rattle.bloom_ast.specs.Columns as spec;
 ghost use Rattle.bloom_ast.specs.Form.{RuleForm, formula_of, query_of, rule_form, rule_forms};
 ghost use Rattle.bloom_ast.specs.Lookup.{declared};
 ghost use Rattle.bloom_ast.specs.Numbered.{IsNumberable, IsNumberedRule, AreNumbered};
-ghost use Rattle.bloom_ast.specs.NumberedParts.{IsNumberedPart};
+ghost use Rattle.bloom_ast.specs.Code.NumberedParts.{IsNumberedPart};
 ghost use Rattle.bloom_ast.specs.Query.{Query};
 ghost use Rattle.bloom_ast.specs.Query.Query.{base, select, project, join, notin, group, at_least};
 ghost use Rattle.bloom_ast.specs.Rows as rows;

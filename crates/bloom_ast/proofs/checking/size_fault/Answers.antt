@@ -4,7 +4,7 @@ use Rattle.bloom_ast.specs.declared.fault.ModuleFault.{ModuleFault}
 use Rattle.bloom_ast.specs.declared.fault.ModuleKind.TheVariants.{TooMany}
 use Rattle.bloom_ast.specs.declared.module.Collection.{Collection}
 use Rattle.bloom_ast.specs.declared.reads.Facts.{Facts}
-use Rattle.bloom_ast.specs.Checks.{AreFew}
+use Rattle.bloom_ast.specs.Code.Checking.{AreFew}
 use Rattle.bloom_ast.specs.Faults.{kind_fault}
 use Rattle.bloom_ast.specs.Form.{RuleForm, rule_forms}
 use Rattle.bloom_ast.proofs.Firsts.{collection_small, rule_small, few_from}

@@ -1,5 +1,5 @@
 use Rattle.std.proofs.Common.{◌≡◌, ◌∙◌, ◌&&◌, refl, pos, int_lt, rules}
-use Rattle.bloom_ast.specs.Borrowed.{names_in}
+use Rattle.bloom_ast.specs.Code.Borrowed.{names_in}
 use Rattle.bloom_ast.specs.Fits.{keys_fit}
 use Rattle.bloom_ast.proofs.fits.at_least_columns.Goals as goal
 

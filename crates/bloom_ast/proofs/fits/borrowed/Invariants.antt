@@ -1,5 +1,5 @@
 use Rattle.std.proofs.Common.{◌≡◌, take}
-use Rattle.bloom_ast.specs.Borrowed.{names_in}
+use Rattle.bloom_ast.specs.Code.Borrowed.{names_in}
 use Rattle.bloom_ast.proofs.fits.borrowed.Given as goal
 
 abbrev pub invariant-loop-name : goal.invariant-loop-name

@@ -1,6 +1,6 @@
 use Rattle.std.proofs.Common.{◌≡◌, ◌∙◌, ◌∷◌, [], ◌&&◌, refl, rules}
 use Rattle.std.proofs.lemmas.List.{map-append}
-use Rattle.bloom_ast.specs.Borrowed.{names_in}
+use Rattle.bloom_ast.specs.Code.Borrowed.{names_in}
 use Rattle.bloom_ast.specs.Fits.{keys_fit, aggregate_fits}
 use Rattle.bloom_ast.proofs.fits.group_columns.Goals as goal
 

@@ -1,6 +1,6 @@
 use Rattle.std.proofs.Common.{◌≡◌, ◌∙◌, sym, length, Some, rules}
 use Rattle.std.proofs.lemmas.List.{length-map}
-use Rattle.bloom_ast.specs.Borrowed.{names_in, fitting}
+use Rattle.bloom_ast.specs.Code.Borrowed.{names_in, fitting}
 use Rattle.bloom_ast.specs.Form.{query_of}
 use Rattle.bloom_ast.specs.Lookup.{declared}
 use Rattle.bloom_ast.proofs.Named.{misfit_some}

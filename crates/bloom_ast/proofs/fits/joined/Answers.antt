@@ -1,6 +1,6 @@
 use Rattle.std.proofs.Common.{◌≡◌, ◌∙◌, ◌++◌, arith}
 use Rattle.std.proofs.lemmas.Grind.{common_steps}
-use Rattle.bloom_ast.specs.Borrowed.{names_in, others_from}
+use Rattle.bloom_ast.specs.Code.Borrowed.{names_in, others_from}
 use Rattle.bloom_ast.proofs.Named.{joined-others}
 use Rattle.bloom_ast.proofs.fits.joined.Goals as goal
 

@@ -1,5 +1,5 @@
 use Rattle.std.proofs.Common.{◌≡◌, ◌++◌, drop}
-use Rattle.bloom_ast.specs.Borrowed.{names_in, others_from}
+use Rattle.bloom_ast.specs.Code.Borrowed.{names_in, others_from}
 use Rattle.bloom_ast.proofs.fits.joined.Given as goal
 
 abbrev pub invariant-loop-number : goal.invariant-loop-number

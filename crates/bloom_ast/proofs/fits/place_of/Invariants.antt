@@ -1,5 +1,5 @@
 use Rattle.std.proofs.Common.{◌≡◌, drop}
-use Rattle.bloom_ast.specs.Borrowed.{names_in}
+use Rattle.bloom_ast.specs.Code.Borrowed.{names_in}
 use Rattle.std.specs.List.{position_from}
 use Rattle.std.specs.Str.{bytes_eq}
 use Rattle.fd_closure.specs.Names.{place_of}

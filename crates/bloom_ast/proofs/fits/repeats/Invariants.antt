@@ -1,5 +1,5 @@
 use Rattle.std.proofs.Common.{◌≡◌, drop}
-use Rattle.bloom_ast.specs.Borrowed.{names_in}
+use Rattle.bloom_ast.specs.Code.Borrowed.{names_in}
 use Rattle.bloom_ast.specs.Fits as spec
 use Rattle.bloom_ast.proofs.fits.repeats.Given as goal
 

@@ -1,0 +1,5 @@
+-- What private functions give.
+pub mod Borrowed
+pub mod NumberedParts
+pub mod HeadKeys
+pub mod Checking

@@ -30,10 +30,10 @@ use Rattle.bloom_ast.proofs.Ordering.{in_named}
 use Rattle.path_annotate.specs.HeadRoots.{agreed_root, attribute_roots, roots_numbered, roots_named, rule_roots, head_roots, roots_table}
 use Rattle.path_annotate.specs.Roots.{Roots, root_at, are_same, roots_of}
 use Rattle.path_annotate.specs.RootsLaw.{AreRootsOf}
+use Rattle.path_annotate.proofs.Behind.{all_member}
 use Rattle.path_annotate.proofs.Copying.{AreCopies, IsFull, KeepsRoots, chosen, copies-self, copies-trans, copies-fewer, full-fewer, root-within}
-use Rattle.path_annotate.proofs.Covering.{first_of_both, second_of_both}
 use Rattle.path_annotate.proofs.Origins.{IsCopied, copied}
-use Rattle.path_annotate.proofs.RootsTable.{table_solves}
+use Rattle.path_annotate.proofs.RootsLaw.{table_solves}
 
 -- a row with roots is a copy of a record that arrived at a port, and the port is read through the rules by who reads these collections
 pub record IsArrived (names : List Name) (a : Accepted) (all : List Sets) (read : ℕ) (given : Roots) (row : Row) : Type 0 where
@@ -56,11 +56,6 @@ same_root None c attribute same is = cc
 same_root (Some b) None attribute same is = cc
 same_root (Some b) (Some c) attribute same is = let one : b ≡ c = eqb-true b c same in ap Some (sym one) ∙ is
 
-all_pass : {X : Type 0} (test : X → Bool) (xs : List X) (x : X) → list_all test xs ≡ true → Has x xs → test x ≡ true
-all_pass test [] x passes h = absurd h
-all_pass test (y ∷ xs) x passes (inl e) = subst (λ z. test z ≡ true) e (first_of_both (test y) (list_all test xs) passes)
-all_pass test (y ∷ xs) x passes (inr h) = all_pass test xs x (second_of_both (test y) (list_all test xs) passes) h
-
 -- the root of a column that some rules agree on is that which each of them gives
 agreed-each : (lists : List Roots) (roots : Roots) (number attribute : ℕ) → Has roots lists → agreed_root lists number ≡ Some attribute → root_at roots number ≡ Some attribute
 agreed-each [] roots number attribute h is = absurd h
@@ -68,7 +63,7 @@ agreed-each (first ∷ lists) roots number attribute h is =
     let both = chosen (list_all (λ (other : Roots). are_same (root_at first number) (root_at other number)) lists) (root_at first number) attribute is in
     elim h [
       | inl e ↦ subst (λ (r : Roots). root_at r number ≡ Some attribute) e both.1
-      | inr m ↦ same_root (root_at first number) (root_at roots number) attribute (all_pass (λ (other : Roots). are_same (root_at first number) (root_at other number)) lists roots both.0 m) both.1
+      | inr m ↦ same_root (root_at first number) (root_at roots number) attribute (all_member (λ (other : Roots). are_same (root_at first number) (root_at other number)) lists roots both.0 m) both.1
     ]
 
 keeps-numbered : (f : ℕ → Option ℕ) (count : ℕ) (roots : Roots) → ((number attribute : ℕ) → f number ≡ Some attribute → root_at roots number ≡ Some attribute) → KeepsRoots roots (map f (range_with_len 0 count))

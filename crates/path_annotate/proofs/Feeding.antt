@@ -17,7 +17,7 @@ use Rattle.path_annotate.specs.Good.{tables_read}
 use Rattle.path_annotate.specs.Numbers.{numbers_of_kind}
 use Rattle.path_annotate.specs.ReadLaws.{ReadsFedTable, HasFedRule, FeedsByRules, FeedsByClosure}
 use Rattle.path_annotate.specs.Uses.{reads_port, feeds, feeds_read}
-use Rattle.path_annotate.proofs.BadTables.{rule_of}
+use Rattle.path_annotate.proofs.ClosedFormsLemmas.{rule_of}
 use Rattle.path_annotate.proofs.Behind.{from_closure, in_closure, IsReadByRule, from_head, in_head, in_cone, in_tables_read, from_tables_read}
 use Rattle.path_annotate.proofs.Chosen.{member_small}
 use Rattle.path_annotate.proofs.KindSets.{small_kind, in_tables, from_tables}

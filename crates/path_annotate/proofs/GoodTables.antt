@@ -23,7 +23,7 @@ use Rattle.bloom_ast.specs.Step.{rules_at}
 use Rattle.bloom_ast.proofs.Numbers.{get-within, derived_or, derived-no_port}
 use Rattle.path_annotate.specs.Good.{all_tables, tables_read, is_good_rule, has_good_rules, with_good, good_tables}
 use Rattle.path_annotate.specs.ReadLaws.{GoodByRules, OnlyTablesAreGood, GoodByClosure, ReadsGoodByClosure}
-use Rattle.path_annotate.proofs.BadTables.{reaches_bad, rule_of, reads_good-is, good_rules-is}
+use Rattle.path_annotate.proofs.ClosedFormsLemmas.{reaches_bad, rule_of, reads_good-is, good_rules-is}
 use Rattle.path_annotate.proofs.Behind.{all_member, all_from, named-within, direct-cone, from_tables_read, small_name, closed_from}
 use Rattle.path_annotate.proofs.Chosen.{member_small}
 use Rattle.path_annotate.proofs.KindSets.{kind-within, small_kind, kind-named, in_kind_set, from_kind_set, is_table}

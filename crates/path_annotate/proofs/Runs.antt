@@ -28,7 +28,7 @@ use Rattle.path_annotate.proofs.KindSets.{get-kind}
 use Rattle.path_annotate.proofs.Arrived.{IsArrived, HasArrived, query_arrived, rule_arrived, head_arrived, ended-cases}
 use Rattle.path_annotate.proofs.Copying.{IsFull, copies-self, root-within}
 use Rattle.path_annotate.proofs.Places.{columns-of_kind}
-use Rattle.path_annotate.proofs.RootsTable.{table_solves}
+use Rattle.path_annotate.proofs.RootsLaw.{table_solves}
 
 -- ---- ports
 

@@ -15,7 +15,7 @@ use Rattle.bloom_ast.specs.Reads.{direct, kind_set, is_momentary}
 use Rattle.path_annotate.specs.declared.note.Note.{Note}
 use Rattle.path_annotate.specs.declared.note.Note.TheVariants.{CR, OR}
 use Rattle.path_annotate.specs.Good.{all_tables, reads_table, reads_good, is_free}
-use Rattle.path_annotate.specs.Note.{gate_of}
+use Rattle.path_annotate.specs.Note.{own_gate}
 use Rattle.path_annotate.specs.ReadLaws.{UsesByCone, UsesHaveGate}
 use Rattle.path_annotate.specs.Uses.{both_uses, use_if, reads_port, feeds_read, writes, linear_use, asking_use, summing_use, use_of}
 use Rattle.path_annotate.proofs.Behind.{in_cone}
@@ -69,13 +69,13 @@ uses_by_cone m heads checked rule port stands is good gate =
 -- ---- the gate of a use
 
 abbrev HasGate : ℕ → Option Note → Type 0
-HasGate gate note_used = IfSome note_used (λ note. IfSome (gate_of note) (λ own. own.bits ≡ gate))
+HasGate gate note_used = IfSome note_used (λ note. IfSome (own_gate note) (λ own. own.bits ≡ gate))
 
-gate_if : (gate : ℕ) (holds : Bool) (note : Note) → IfSome (gate_of note) (λ own. own.bits ≡ gate) → HasGate gate (use_if holds note)
+gate_if : (gate : ℕ) (holds : Bool) (note : Note) → IfSome (own_gate note) (λ own. own.bits ≡ gate) → HasGate gate (use_if holds note)
 gate_if gate true note h = h
 gate_if gate false note h = tt
 
-gate_writes : (gate : ℕ) (confluent : Bool) → IfSome (gate_of (writes confluent gate)) (λ own. own.bits ≡ gate)
+gate_writes : (gate : ℕ) (confluent : Bool) → IfSome (own_gate (writes confluent gate)) (λ own. own.bits ≡ gate)
 gate_writes gate true = tt
 gate_writes gate false = refl
 

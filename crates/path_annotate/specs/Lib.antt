@@ -11,7 +11,5 @@ pub mod Uses
 pub mod ReadLaws
 pub mod Annotation
 pub mod Copies
-pub mod ByNumber
-pub mod Readings
-pub mod ReadingUses
 pub mod CopiesLaw
+pub mod Code

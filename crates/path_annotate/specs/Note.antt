@@ -13,18 +13,18 @@ is_write (OR gate) = false
 is_write (OW gate) = true
 
 -- the gate of a note that is O; a note that is C has none
-abbrev pub gate_of : Note → Option Attrs
-gate_of CR = None
-gate_of CW = None
-gate_of (OR gate) = Some gate
-gate_of (OW gate) = Some gate
+abbrev pub own_gate : Note → Option Attrs
+own_gate CR = None
+own_gate CW = None
+own_gate (OR gate) = Some gate
+own_gate (OW gate) = Some gate
 
 -- the note that is W or R, and is O with this gate or C without one
-abbrev pub note_of : Bool → Option Attrs → Note
-note_of false None = CR
-note_of true None = CW
-note_of false (Some gate) = OR gate
-note_of true (Some gate) = OW gate
+abbrev pub note_with : Bool → Option Attrs → Note
+note_with false None = CR
+note_with true None = CW
+note_with false (Some gate) = OR gate
+note_with true (Some gate) = OW gate
 
 -- the attributes that are in both
 abbrev pub intersection : Attrs → Attrs → Attrs
@@ -39,7 +39,7 @@ common_gate (Some a) (Some b) = Some (intersection a b)
 
 -- R with W gives W, C with O gives O, and gates intersect
 abbrev pub combine : Note → Note → Note
-combine a b = note_of (is_write a || is_write b) (common_gate (gate_of a) (gate_of b))
+combine a b = note_with (is_write a || is_write b) (common_gate (own_gate a) (own_gate b))
 
 -- the declared note is W if the derived one is
 abbrev pub covers_write : Bool → Bool → Bool
@@ -54,4 +54,4 @@ covers_gate (Some declared) (Some derived) = within declared.bits derived.bits
 -- the declared note is W if the derived one is, is O if that is O, and then its gate lies in that gate
 abbrev pub covers : Note → Note → Bool
 covers declared derived =
-    covers_write (is_write declared) (is_write derived) && covers_gate (gate_of declared) (gate_of derived)
+    covers_write (is_write declared) (is_write derived) && covers_gate (own_gate declared) (own_gate derived)

@@ -12,7 +12,7 @@ use Rattle.bloom_ast.specs.Reads.{arrows, cone, direct}
 use Rattle.bloom_ast.specs.Step.{rules_at}
 use Rattle.path_annotate.specs.ClosedForms.{behind, bad_tables}
 use Rattle.path_annotate.specs.Good.{reads_good, is_good_rule, good_tables}
-use Rattle.path_annotate.specs.Note.{gate_of}
+use Rattle.path_annotate.specs.Note.{own_gate}
 use Rattle.path_annotate.specs.Uses.{reads_port, feeds, feeds_read, use_of}
 
 -- ---- good tables
@@ -75,4 +75,4 @@ UsesByCone form = (rule : RuleForm) (port : ℕ) → Has rule form.rules → kin
 -- a use that is O has the gate of its rule
 abbrev pub UsesHaveGate : Form → Type 0
 UsesHaveGate form = (good gate port : ℕ) (q : Query)
-    → IfSome (use_of form.collections form.rules good gate port q) (λ note. IfSome (gate_of note) (λ own. own.bits ≡ gate))
+    → IfSome (use_of form.collections form.rules good gate port q) (λ note. IfSome (own_gate note) (λ own. own.bits ≡ gate))

@@ -4,7 +4,7 @@ ghost use Rattle.bloom_ast.specs.declared.module.Kind.TheVariants.{Output};
 ghost use Rattle.bloom_ast.specs.declared.program.Program.TheVariants as programs;
 ghost use Rattle.bloom_ast.specs.Program.{IsStock, columns_of_kind, port_columns, output_columns};
 ghost use Rattle.path_annotate.specs.Annotation as spec;
-ghost use Rattle.path_annotate.specs.ReadingUses.{path_note_from};
+ghost use Rattle.path_annotate.specs.Code.ReadingUses.{path_note_from};
 
 use crate::collection_roots::{all_attributes, roots_table};
 use crate::kinds::{module_numbers, output_number};

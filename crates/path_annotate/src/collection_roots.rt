@@ -1,7 +1,7 @@
 //! The roots of the collections of a module, heads in the order in which a step takes them.
 ghost use Rattle.std.specs.Prelude.{◌≡◌, ◌==◌, ◌<◌, map, filter, length, slice_set, IfOk, OnOk};
 ghost use Rattle.std.specs.List.{list_all};
-ghost use Rattle.path_annotate.specs.ByNumber.{roots_by, head_roots_by};
+ghost use Rattle.path_annotate.specs.Code.ByNumber.{roots_by, head_roots_by};
 ghost use Rattle.path_annotate.specs.Gates as gates;
 ghost use Rattle.path_annotate.specs.HeadRoots as spec;
 ghost use Rattle.path_annotate.specs.Roots as tracing;

@@ -8,7 +8,6 @@ mod kinds;
 mod laws;
 mod note;
 mod notes;
-mod read_laws;
 mod readings;
 mod stock;
 #[cfg(test)]
@@ -17,7 +16,6 @@ mod tracing;
 mod uses;
 
 pub use annotation::{annotate, gate_of, roots};
-pub use laws::{combine_law, copies_law, covers_law, roots_law};
+pub use laws::{combine_law, copies_law, covers_law, feeds_law, good_law, roots_law, uses_law};
 pub use note::{Note, combine, covers};
 pub use notes::Notes;
-pub use read_laws::{feeds_law, good_law, uses_law};

@@ -1,7 +1,7 @@
 //! What each rule of a module reads, and its gate.
 ghost use Rattle.std.specs.Prelude.{◌≡◌, map, IfOk};
-ghost use Rattle.path_annotate.specs.ByNumber.{named_by, is_plain_by, facts_by};
-ghost use Rattle.path_annotate.specs.Readings as spec;
+ghost use Rattle.path_annotate.specs.Code.ByNumber.{named_by, is_plain_by, facts_by};
+ghost use Rattle.path_annotate.specs.Code.Readings as spec;
 
 use crate::collection_roots::{all_attributes, roots_table};
 use crate::kinds::{gate_if, kind_set, set_if};

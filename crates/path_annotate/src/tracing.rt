@@ -2,7 +2,7 @@
 ghost use Rattle.std.specs.Prelude.{◌≡◌, ◌∷◌, ◌++◌, [], None, if◌then◌else◌, bit_and, IfOk, OnOk};
 ghost use Rattle.blz_value.specs.Operators.{unpaired};
 ghost use Rattle.blz_value.specs.Operators as operators;
-ghost use Rattle.path_annotate.specs.ByNumber.{roots_by, gate_by};
+ghost use Rattle.path_annotate.specs.Code.ByNumber.{roots_by, gate_by};
 ghost use Rattle.path_annotate.specs.Gates as gates;
 ghost use Rattle.path_annotate.specs.HeadRoots as collections;
 ghost use Rattle.path_annotate.specs.Roots as spec;

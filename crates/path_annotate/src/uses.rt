@@ -1,7 +1,7 @@
 //! What the rules of an output make of a port.
 ghost use Rattle.std.specs.Prelude.{◌≡◌};
-ghost use Rattle.path_annotate.specs.ReadingUses as spec_from;
-ghost use Rattle.path_annotate.specs.ReadingUses.{use_from, path_note_from, gate_towards};
+ghost use Rattle.path_annotate.specs.Code.ReadingUses as spec_from;
+ghost use Rattle.path_annotate.specs.Code.ReadingUses.{use_from, path_note_from, gate_towards};
 ghost use Rattle.path_annotate.specs.Uses as spec;
 
 use crate::kinds::gate_if;

@@ -1,5 +1,5 @@
 use Rattle.std.proofs.Common.{◌≡◌, map, take}
-use Rattle.path_annotate.specs.ReadingUses.{path_note_from}
+use Rattle.path_annotate.specs.Code.ReadingUses.{path_note_from}
 use Rattle.path_annotate.proofs.annotation.ports_notes.Given as goal
 
 abbrev pub invariant-loop-port : goal.invariant-loop-port

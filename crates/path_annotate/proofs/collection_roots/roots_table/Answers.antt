@@ -6,7 +6,7 @@ use Rattle.blz_value.proofs.Membership.{Has-get_or}
 use Rattle.bloom_ast.proofs.Numbers.{get-within}
 use Rattle.path_annotate.specs.HeadRoots.{head_roots, with_head_roots}
 use Rattle.path_annotate.specs.Roots.{Roots}
-use Rattle.path_annotate.proofs.RuleLists.{head-same}
+use Rattle.path_annotate.proofs.ByNumberCorrect.{head-same}
 use Rattle.path_annotate.proofs.collection_roots.roots_table.Goals as goal
 
 pub take_head-requires : goal.take_head-requires

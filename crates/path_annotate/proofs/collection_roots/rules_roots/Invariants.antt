@@ -1,6 +1,6 @@
 use Rattle.std.proofs.Common.{◌≡◌, ◌++◌, map, filter, drop}
 use Rattle.std.specs.Prelude.{◌==◌}
-use Rattle.path_annotate.specs.ByNumber.{roots_by}
+use Rattle.path_annotate.specs.Code.ByNumber.{roots_by}
 use Rattle.path_annotate.proofs.collection_roots.rules_roots.Given as goal
 
 abbrev pub invariant-loop-rule : goal.invariant-loop-rule

@@ -1,5 +1,5 @@
 use Rattle.std.proofs.Common.{◌≡◌, map, take}
-use Rattle.path_annotate.specs.ByNumber.{facts_by}
+use Rattle.path_annotate.specs.Code.ByNumber.{facts_by}
 use Rattle.path_annotate.proofs.readings.all_facts.Given as goal
 
 abbrev pub invariant-loop-rule : goal.invariant-loop-rule

@@ -1,7 +1,7 @@
 use Rattle.std.proofs.Common.{◌≡◌, ◌&&◌, not, if◌then◌else◌, map, drop}
 use Rattle.fd_closure.specs.Bits.{bit_of, meets}
 use Rattle.bloom_ast.specs.Reads.{with_all, bit_if}
-use Rattle.path_annotate.specs.Readings.{bad_among}
+use Rattle.path_annotate.specs.Code.Readings.{bad_among}
 use Rattle.path_annotate.proofs.readings.bad_tables.Given as goal
 
 abbrev pub invariant-loop-reading : goal.invariant-loop-reading

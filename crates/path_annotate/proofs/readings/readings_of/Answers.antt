@@ -3,9 +3,9 @@ use Rattle.std.specs.Prelude.{IfOk}
 use Rattle.bloom_ast.specs.Form.{Form}
 use Rattle.bloom_ast.proofs.Small as small
 use Rattle.path_annotate.specs.declared.readings.Readings.{Readings}
-use Rattle.path_annotate.specs.ByNumber.{facts_by}
-use Rattle.path_annotate.specs.Readings.{readings_from}
-use Rattle.path_annotate.proofs.AllReadings.{facts-same, readings-same}
+use Rattle.path_annotate.specs.Code.ByNumber.{facts_by}
+use Rattle.path_annotate.specs.Code.Readings.{readings_from}
+use Rattle.path_annotate.proofs.ReadingsCorrect.{facts-same, readings-same}
 use Rattle.path_annotate.proofs.readings.readings_of.Goals as goal
 
 pub returns : goal.returns

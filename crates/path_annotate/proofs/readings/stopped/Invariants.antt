@@ -1,7 +1,7 @@
 use Rattle.std.proofs.Common.{◌≡◌, ◌&&◌, not, map, drop}
 use Rattle.fd_closure.specs.Bits.{bit_of, meets}
 use Rattle.bloom_ast.specs.Reads.{with_all, bit_if}
-use Rattle.path_annotate.specs.Readings as spec
+use Rattle.path_annotate.specs.Code.Readings as spec
 use Rattle.path_annotate.proofs.readings.stopped.Given as goal
 
 abbrev pub invariant-loop-rule : goal.invariant-loop-rule

@@ -1,6 +1,6 @@
 use Rattle.std.proofs.Common.{◌≡◌, drop}
 use Rattle.path_annotate.specs.Uses.{both_uses}
-use Rattle.path_annotate.specs.ReadingUses.{path_note_from}
+use Rattle.path_annotate.specs.Code.ReadingUses.{path_note_from}
 use Rattle.path_annotate.proofs.uses.path_note.Given as goal
 
 abbrev pub invariant-loop-rule : goal.invariant-loop-rule

@@ -1,5 +1,5 @@
 use Rattle.path_annotate.proofs.Using.{uses_by_cone, uses_have_gate}
-use Rattle.path_annotate.proofs.read_laws.uses_law.Goals as goal
+use Rattle.path_annotate.proofs.laws.uses_law.Goals as goal
 
 pub returns-clause-cone : goal.returns-clause-cone
 returns-clause-cone c = λ a checked. uses_by_cone a.form a.heads checked

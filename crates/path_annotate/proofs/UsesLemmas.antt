@@ -3,16 +3,16 @@ use Rattle.std.proofs.Common.{◌≡◌, ◌||◌, Bool, true, false, Option, No
 use Rattle.std.proofs.lemmas.Nat.{and_assoc}
 use Rattle.fd_closure.specs.declared.attrs.Attrs.{Attrs}
 use Rattle.path_annotate.specs.declared.note.Note.{Note}
-use Rattle.path_annotate.specs.Note.{is_write, gate_of, note_of, common_gate, combine}
+use Rattle.path_annotate.specs.Note.{is_write, own_gate, note_with, common_gate, combine}
 use Rattle.path_annotate.specs.Uses.{both_uses}
 
-write-made : (w : Bool) (gate : Option Attrs) → is_write (note_of w gate) ≡ w
+write-made : (w : Bool) (gate : Option Attrs) → is_write (note_with w gate) ≡ w
 write-made true None = refl
 write-made false None = refl
 write-made true (Some gate) = refl
 write-made false (Some gate) = refl
 
-gate-made : (w : Bool) (gate : Option Attrs) → gate_of (note_of w gate) ≡ gate
+gate-made : (w : Bool) (gate : Option Attrs) → own_gate (note_with w gate) ≡ gate
 gate-made true None = refl
 gate-made false None = refl
 gate-made true (Some gate) = refl
@@ -36,14 +36,14 @@ combine-assoc : (a b c : Note) → combine (combine a b) c ≡ combine a (combin
 combine-assoc a b c =
     let w = is_write a || is_write b in
     let v = is_write b || is_write c in
-    let g = common_gate (gate_of a) (gate_of b) in
-    let h = common_gate (gate_of b) (gate_of c) in
-    ap (λ x. note_of (x || is_write c) (common_gate (gate_of (note_of w g)) (gate_of c))) (write-made w g)
-    ∙ ap (λ x. note_of (w || is_write c) (common_gate x (gate_of c))) (gate-made w g)
-    ∙ ap (λ x. note_of x (common_gate g (gate_of c))) (or-assoc (is_write a) (is_write b) (is_write c))
-    ∙ ap (note_of (is_write a || v)) (common-assoc (gate_of a) (gate_of b) (gate_of c))
-    ∙ ap (λ x. note_of (is_write a || v) (common_gate (gate_of a) x)) (sym (gate-made v h))
-    ∙ ap (λ x. note_of (is_write a || x) (common_gate (gate_of a) (gate_of (note_of v h)))) (sym (write-made v h))
+    let g = common_gate (own_gate a) (own_gate b) in
+    let h = common_gate (own_gate b) (own_gate c) in
+    ap (λ x. note_with (x || is_write c) (common_gate (own_gate (note_with w g)) (own_gate c))) (write-made w g)
+    ∙ ap (λ x. note_with (w || is_write c) (common_gate x (own_gate c))) (gate-made w g)
+    ∙ ap (λ x. note_with x (common_gate g (own_gate c))) (or-assoc (is_write a) (is_write b) (is_write c))
+    ∙ ap (note_with (is_write a || v)) (common-assoc (own_gate a) (own_gate b) (own_gate c))
+    ∙ ap (λ x. note_with (is_write a || v) (common_gate (own_gate a) x)) (sym (gate-made v h))
+    ∙ ap (λ x. note_with (is_write a || x) (common_gate (own_gate a) (own_gate (note_with v h)))) (sym (write-made v h))
 
 pub both_uses_assoc : (a b c : Option Note) → both_uses (both_uses a b) c ≡ both_uses a (both_uses b c)
 both_uses_assoc None b c = refl

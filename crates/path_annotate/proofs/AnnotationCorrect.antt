@@ -19,14 +19,14 @@ use Rattle.path_annotate.specs.Gates.{all_attributes, in_all, query_gate, head_g
 use Rattle.path_annotate.specs.Good.{good_tables, is_free, reads_table}
 use Rattle.path_annotate.specs.HeadRoots.{roots_table}
 use Rattle.path_annotate.specs.Numbers.{numbers_of_kind}
-use Rattle.path_annotate.specs.ReadingUses.{use_from, use_towards, path_note_from, gate_towards}
-use Rattle.path_annotate.specs.Readings.{reading_of, readings_of}
+use Rattle.path_annotate.specs.Code.ReadingUses.{use_from, use_towards, path_note_from, gate_towards}
+use Rattle.path_annotate.specs.Code.Readings.{reading_of, readings_of}
 use Rattle.path_annotate.specs.Uses.{both_uses, all_uses, use_if, reads_port, writes, use_of}
 use Rattle.path_annotate.proofs.Feeding.{feeds_by_closure}
-use Rattle.path_annotate.proofs.Gates.{in_all-filter}
+use Rattle.path_annotate.proofs.GatesLemmas.{in_all-filter}
 use Rattle.path_annotate.proofs.GoodTables.{reads_good_by_closure}
 use Rattle.path_annotate.proofs.Lists.{map-same}
-use Rattle.path_annotate.proofs.Ranges.{map-places, length_numbers_of_kind}
+use Rattle.path_annotate.proofs.NumbersLemmas.{map-places, length_numbers_of_kind}
 
 -- the uses of those rules that pass a test, others giving nothing
 uses-filter : {X : Type 0} (passes : X → Bool) (use_by : X → Option Note) (xs : List X) → all_uses (map (λ x. if passes x then use_by x else None) xs) ≡ all_uses (map use_by (filter passes xs))

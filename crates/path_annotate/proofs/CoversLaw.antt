@@ -1,21 +1,14 @@
 -- To cover is an order, and two notes combine to the least note that covers both.
 use Rattle.std.proofs.Common.{◌≡◌, Bool, true, false, ◌&&◌, ◌||◌, refl, ap, sym, subst, Option, Some, None}
+use Rattle.std.specs.Cmp.{first_so, second_so}
 use Rattle.std.specs.Cmp.Derive.{both_true}
 use Rattle.fd_closure.specs.declared.attrs.Attrs.{Attrs}
 use Rattle.path_annotate.specs.declared.note.Note.{Note}
 use Rattle.path_annotate.specs.declared.note.Note.TheVariants.{CR, CW, OR, OW}
-use Rattle.path_annotate.specs.Note.{is_write, gate_of, note_of, common_gate, covers_write, covers_gate, covers, combine}
+use Rattle.path_annotate.specs.Note.{is_write, own_gate, note_with, common_gate, covers_write, covers_gate, covers, combine}
 use Rattle.path_annotate.specs.Laws.{CoversLaw, CombineLaw}
 use Rattle.fd_closure.proofs.Within.{within-refl, within-trans, within-antisym}
 use Rattle.path_annotate.proofs.Sets.{and-within_l, and-within_r, within-and}
-
-pub first_of_both : (x y : Bool) → (x && y) ≡ true → x ≡ true
-first_of_both true y h = refl
-first_of_both false y h = h
-
-pub second_of_both : (x y : Bool) → (x && y) ≡ true → y ≡ true
-second_of_both true y h = h
-second_of_both false y h = cc
 
 -- W
 
@@ -72,31 +65,31 @@ covers_gate-common (Some c) (Some a) (Some b) p q = within-and a.bits b.bits c.b
 
 -- notes
 
-is_write-note_of : (write : Bool) (gate : Option Attrs) → is_write (note_of write gate) ≡ write
-is_write-note_of false None = refl
-is_write-note_of true None = refl
-is_write-note_of false (Some gate) = refl
-is_write-note_of true (Some gate) = refl
+is_write-note_with : (write : Bool) (gate : Option Attrs) → is_write (note_with write gate) ≡ write
+is_write-note_with false None = refl
+is_write-note_with true None = refl
+is_write-note_with false (Some gate) = refl
+is_write-note_with true (Some gate) = refl
 
-gate_of-note_of : (write : Bool) (gate : Option Attrs) → gate_of (note_of write gate) ≡ gate
-gate_of-note_of false None = refl
-gate_of-note_of true None = refl
-gate_of-note_of false (Some gate) = refl
-gate_of-note_of true (Some gate) = refl
+gate_of-note_with : (write : Bool) (gate : Option Attrs) → own_gate (note_with write gate) ≡ gate
+gate_of-note_with false None = refl
+gate_of-note_with true None = refl
+gate_of-note_with false (Some gate) = refl
+gate_of-note_with true (Some gate) = refl
 
 covers-write : (a b : Note) → covers a b ≡ true → covers_write (is_write a) (is_write b) ≡ true
-covers-write a b h = first_of_both _ _ h
+covers-write a b h = first_so _ _ h
 
-covers-gate : (a b : Note) → covers a b ≡ true → covers_gate (gate_of a) (gate_of b) ≡ true
-covers-gate a b h = second_of_both _ _ h
+covers-gate : (a b : Note) → covers a b ≡ true → covers_gate (own_gate a) (own_gate b) ≡ true
+covers-gate a b h = second_so _ _ h
 
 covers-refl : (a : Note) → covers a a ≡ true
-covers-refl a = both_true (covers_write-refl (is_write a)) (covers_gate-refl (gate_of a))
+covers-refl a = both_true (covers_write-refl (is_write a)) (covers_gate-refl (own_gate a))
 
 covers-trans : (a b c : Note) → covers a b ≡ true → covers b c ≡ true → covers a c ≡ true
 covers-trans a b c p q = both_true
     (covers_write-trans (is_write a) (is_write b) (is_write c) (covers-write a b p) (covers-write b c q))
-    (covers_gate-trans (gate_of a) (gate_of b) (gate_of c) (covers-gate a b p) (covers-gate b c q))
+    (covers_gate-trans (own_gate a) (own_gate b) (own_gate c) (covers-gate a b p) (covers-gate b c q))
 
 same_gate : (a b : Attrs) → a.bits ≡ b.bits → a ≡ b
 same_gate a b e = ap (λ n. record { bits = n }) e
@@ -116,25 +109,25 @@ covers_law = record {
 }
 
 is_write-combine : (a b : Note) → is_write (combine a b) ≡ (is_write a || is_write b)
-is_write-combine a b = is_write-note_of (is_write a || is_write b) (common_gate (gate_of a) (gate_of b))
+is_write-combine a b = is_write-note_with (is_write a || is_write b) (common_gate (own_gate a) (own_gate b))
 
-gate_of-combine : (a b : Note) → gate_of (combine a b) ≡ common_gate (gate_of a) (gate_of b)
-gate_of-combine a b = gate_of-note_of (is_write a || is_write b) (common_gate (gate_of a) (gate_of b))
+gate_of-combine : (a b : Note) → own_gate (combine a b) ≡ common_gate (own_gate a) (own_gate b)
+gate_of-combine a b = gate_of-note_with (is_write a || is_write b) (common_gate (own_gate a) (own_gate b))
 
 combine-covers_l : (a b : Note) → covers (combine a b) a ≡ true
 combine-covers_l a b = both_true
     (subst (λ write. covers_write write (is_write a) ≡ true) (sym (is_write-combine a b)) (write-covers_l (is_write a) (is_write b)))
-    (subst (λ gate. covers_gate gate (gate_of a) ≡ true) (sym (gate_of-combine a b)) (gate-covers_l (gate_of a) (gate_of b)))
+    (subst (λ gate. covers_gate gate (own_gate a) ≡ true) (sym (gate_of-combine a b)) (gate-covers_l (own_gate a) (own_gate b)))
 
 combine-covers_r : (a b : Note) → covers (combine a b) b ≡ true
 combine-covers_r a b = both_true
     (subst (λ write. covers_write write (is_write b) ≡ true) (sym (is_write-combine a b)) (write-covers_r (is_write a) (is_write b)))
-    (subst (λ gate. covers_gate gate (gate_of b) ≡ true) (sym (gate_of-combine a b)) (gate-covers_r (gate_of a) (gate_of b)))
+    (subst (λ gate. covers_gate gate (own_gate b) ≡ true) (sym (gate_of-combine a b)) (gate-covers_r (own_gate a) (own_gate b)))
 
 covers-combine : (a b note : Note) → covers note a ≡ true → covers note b ≡ true → covers note (combine a b) ≡ true
 covers-combine a b note p q = both_true
     (subst (λ write. covers_write (is_write note) write ≡ true) (sym (is_write-combine a b)) (covers_write-or (is_write note) (is_write a) (is_write b) (covers-write note a p) (covers-write note b q)))
-    (subst (λ gate. covers_gate (gate_of note) gate ≡ true) (sym (gate_of-combine a b)) (covers_gate-common (gate_of note) (gate_of a) (gate_of b) (covers-gate note a p) (covers-gate note b q)))
+    (subst (λ gate. covers_gate (own_gate note) gate ≡ true) (sym (gate_of-combine a b)) (covers_gate-common (own_gate note) (own_gate a) (own_gate b) (covers-gate note a p) (covers-gate note b q)))
 
 pub combine_law : CombineLaw
 combine_law a b = record {

@@ -1,5 +1,6 @@
 -- What the rules of a checked module read, by numbers and by names.
 use Rattle.std.proofs.Common.{◌≡◌, ◌≤◌, ◌<◌, ◌&&◌, inl, inr, Option, None, Some, ℕ, Bool, true, false, not, if◌then◌else◌, List, map, filter, length, bit_and, refl, ap, ◌∙◌, sym, arith}
+use Rattle.std.specs.Cmp.{first_so, second_so}
 use Rattle.std.specs.Cmp.{both_ways}
 use Rattle.std.specs.Option.{option_map_or}
 use Rattle.std.specs.List.{list_all, flat_map, enumerate_from}
@@ -25,19 +26,19 @@ use Rattle.bloom_ast.specs.Reads.{set_of_name, named, arrows, scratch_arrows, sc
 use Rattle.path_annotate.specs.declared.readings.Graph.{Graph}
 use Rattle.path_annotate.specs.declared.readings.Reading.{Reading}
 use Rattle.path_annotate.specs.declared.readings.RuleFacts.{RuleFacts}
-use Rattle.path_annotate.specs.ByNumber.{facts_by}
+use Rattle.path_annotate.specs.Code.ByNumber.{facts_by}
 use Rattle.path_annotate.specs.ClosedForms.{bad_tables, is_bad_rule, spoils}
 use Rattle.path_annotate.specs.Gates.{all_attributes, in_all, operator_sets, bodies_read, query_gate}
 use Rattle.path_annotate.specs.Good.{all_tables, is_free, is_plain}
 use Rattle.path_annotate.specs.HeadRoots.{roots_named, roots_table}
-use Rattle.path_annotate.specs.Readings.{facts_of, reading_of, readings_of, rule_arrow, arrow_through, stopped, graph_of, gate_among, reading_from, readings_from, bad_among}
+use Rattle.path_annotate.specs.Code.Readings.{facts_of, reading_of, readings_of, rule_arrow, arrow_through, stopped, graph_of, gate_among, reading_from, readings_from, bad_among}
 use Rattle.path_annotate.proofs.Behind.{all_member, all_from}
 use Rattle.path_annotate.proofs.Chosen.{from_chosen, in_chosen, chosen-lt}
-use Rattle.path_annotate.proofs.Gates.{in_all-append, in_all-filter, in_all-flat_map}
+use Rattle.path_annotate.proofs.GatesLemmas.{in_all-append, in_all-filter, in_all-flat_map}
 use Rattle.path_annotate.proofs.KindSets.{in_kind_set, from_kind_set, kind-named, named-kind}
 use Rattle.path_annotate.proofs.Lists.{map-same}
-use Rattle.path_annotate.proofs.Numbered.{named-same, plain-same, gate-same}
-use Rattle.path_annotate.proofs.RuleLists.{map-numbered}
+use Rattle.path_annotate.proofs.ByNumberLemmas.{named-same, plain-same, gate-same}
+use Rattle.path_annotate.proofs.ByNumberCorrect.{map-numbered}
 
 -- ---- what each rule says by itself
 
@@ -93,10 +94,6 @@ not_both true false e = (refl, refl)
 not_both true true e = absurd (true≢false (sym e))
 not_both false y e = absurd (true≢false (sym e))
 
-both_of : (x y : Bool) → (x && y) ≡ true → (x ≡ true) × (y ≡ true)
-both_of true y e = (refl, e)
-both_of false y e = absurd (true≢false (sym e))
-
 -- whether an expression is free of group and notin, by the set of the scratches that have a rule which isn't plain
 module _ (cs : List Collection) (few : length cs ≤ 32) (forms : List RuleForm) (scratches : ℕ) (is : (name : Name) → meets (bit_of (collection_number cs name)) scratches ≡ has_kind is_scratch cs name) where
   -- a rule of a scratch that isn't plain
@@ -121,11 +118,12 @@ module _ (cs : List Collection) (few : length cs ≤ 32) (forms : List RuleForm)
         | inl plain ↦ plain
         | inr bad ↦
             let kept = Has-from_filter (is_read reads) rule forms h in
-            let both = both_of (has_kind is_scratch cs rule.0) (meets (set_of_name cs rule.0) reads) kept.1 in
-            let passes : stops rule ≡ true = λ i. (is rule.0 ∙ both.0) i && not (bad i) in
+            let of_scratch = first_so (has_kind is_scratch cs rule.0) (meets (set_of_name cs rule.0) reads) kept.1 in
+            let there = second_so (has_kind is_scratch cs rule.0) (meets (set_of_name cs rule.0) reads) kept.1 in
+            let passes : stops rule ≡ true = λ i. (is rule.0 ∙ of_scratch) i && not (bad i) in
             let lt = number-lt cs few rule.0 in
             let stands = in_chosen stops number forms rule kept.0 passes lt in
-            let met = some-meets stopped_set reads (number rule) (in-bit (number rule) stopped_set lt stands) (in-bit (number rule) reads lt both.1) in
+            let met = some-meets stopped_set reads (number rule) (in-bit (number rule) stopped_set lt stands) (in-bit (number rule) reads lt there) in
             absurd (true≢false (sym none ∙ ap not met))
       ]
 

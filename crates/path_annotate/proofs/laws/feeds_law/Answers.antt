@@ -1,5 +1,5 @@
 use Rattle.path_annotate.proofs.Feeding.{feeds_by_rules, feeds_by_closure}
-use Rattle.path_annotate.proofs.read_laws.feeds_law.Goals as goal
+use Rattle.path_annotate.proofs.laws.feeds_law.Goals as goal
 
 pub returns-clause-recursion : goal.returns-clause-recursion
 returns-clause-recursion c = λ a checked. feeds_by_rules a.form a.heads checked

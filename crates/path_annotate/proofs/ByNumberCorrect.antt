@@ -7,10 +7,10 @@ use Rattle.bloom_ast.specs.Form.{RuleForm, Form}
 use Rattle.bloom_ast.specs.Lookup.{collection_number}
 use Rattle.bloom_ast.specs.Numbered.{IsNumberedRule, AreNumbered}
 use Rattle.bloom_ast.specs.Step.{rules_at}
-use Rattle.path_annotate.specs.ByNumber.{head_roots_by, roots_by}
+use Rattle.path_annotate.specs.Code.ByNumber.{head_roots_by, roots_by}
 use Rattle.path_annotate.specs.HeadRoots.{agreed_root, roots_numbered, rule_roots, head_roots}
 use Rattle.path_annotate.specs.Roots.{Roots}
-use Rattle.path_annotate.proofs.Numbered.{roots-same}
+use Rattle.path_annotate.proofs.ByNumberLemmas.{roots-same}
 
 module _ {Y : Type 0} (cs : List Collection) (of_number : NumberedRule → Y) (of_name : RuleForm → Y) (same : (form : RuleForm) (rule : NumberedRule) → IsNumberedRule cs form rule → of_number rule ≡ of_name form) where
   pub map-numbered : (forms : List RuleForm) (rules : List NumberedRule) → AreNumbered cs forms rules → map of_number rules ≡ map of_name forms

@@ -10,10 +10,10 @@ use Rattle.bloom_ast.specs.declared.expr.NamedAgg.TheVariants.{Count, Sum, Min, 
 use Rattle.bloom_ast.specs.declared.module.Kind.{Kind}
 use Rattle.bloom_ast.specs.declared.module.Kind.TheVariants.{Input, Output, Table, Scratch}
 use Rattle.bloom_ast.specs.Query.{Name}
-use Rattle.bloom_parse.specs.declared.terminal.Terminal.{Terminal}
-use Rattle.bloom_parse.specs.declared.terminal.Terminal.TheVariants as terminals
-use Rattle.bloom_parse.specs.declared.terminal.Word.TheVariants as words
-use Rattle.bloom_parse.specs.declared.terminal.Mark.TheVariants as marks
+use Rattle.bloom_parse.specs.declared.lexing.terminal.Terminal.{Terminal}
+use Rattle.bloom_parse.specs.declared.lexing.terminal.Terminal.TheVariants as terminals
+use Rattle.bloom_parse.specs.declared.lexing.terminal.Word.TheVariants as words
+use Rattle.bloom_parse.specs.declared.lexing.terminal.Mark.TheVariants as marks
 use Rattle.bloom_parse.specs.Trees.{word, mark, term_token, UnitTree, AndsTree, OrsTree, unit_text, ands_text, ors_text, Item, ExprTree, item_text, more_items_text, more_pairs_text, more_names_text, keys_text, agg_text, expr_text, kind_word, CollectionTree, collection_text, RuleTree, rule_text, ModuleTree, module_text}
 use Rattle.bloom_parse.specs.Layout.{behind, text_of}
 use Rattle.bloom_parse.proofs.SpelledLemmas.{Stops}

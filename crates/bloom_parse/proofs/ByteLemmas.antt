@@ -4,7 +4,7 @@ use Rattle.std.proofs.lemmas.List.{append-nil}
 use Rattle.std.specs.Option.{option_and_then}
 use Rattle.std.specs.Str.{IsUtf8, is_utf8}
 use Rattle.std.proofs.lemmas.Str.{IsUtf8-from_is_utf8, is_utf8-from_IsUtf8}
-use Rattle.bloom_parse.specs.declared.terminal.Terminal.TheVariants as terminals
+use Rattle.bloom_parse.specs.declared.lexing.terminal.Terminal.TheVariants as terminals
 use Rattle.bloom_parse.specs.Tokens.{Front, literal, bytes_front, with_bytes, closing_front, byte_front, starts_with_quote}
 
 abbrev quoted : Bool → List ℕ → Option (List ℕ × List ℕ)

@@ -8,11 +8,11 @@ use Rattle.std.specs.List.{AllByRecursion, list_all}
 use Rattle.std.proofs.lemmas.Bool.Decides.{nat_tests}
 use Rattle.blz_value.specs.declared.test.Op.TheVariants.{Eq, Ne, Lt, Le, Gt, Ge}
 use Rattle.blz_value.specs.Name.{is_name, is_name_start, is_name_byte}
-use Rattle.bloom_parse.specs.declared.terminal.Terminal.{Terminal}
-use Rattle.bloom_parse.specs.declared.terminal.Terminal.TheVariants as terminals
-use Rattle.bloom_parse.specs.declared.terminal.Word.TheVariants as words
-use Rattle.bloom_parse.specs.declared.terminal.Mark.TheVariants as marks
-use Rattle.bloom_parse.specs.declared.token.Token.{Token}
+use Rattle.bloom_parse.specs.declared.lexing.terminal.Terminal.{Terminal}
+use Rattle.bloom_parse.specs.declared.lexing.terminal.Terminal.TheVariants as terminals
+use Rattle.bloom_parse.specs.declared.lexing.terminal.Word.TheVariants as words
+use Rattle.bloom_parse.specs.declared.lexing.terminal.Mark.TheVariants as marks
+use Rattle.bloom_parse.specs.declared.lexing.token.Token.{Token}
 use Rattle.bloom_parse.specs.Spelling.{spelled, IsTerminal}
 use Rattle.bloom_parse.specs.Tokens.{front, is_white, behind_blanks, token_at, Lexes}
 use Rattle.bloom_parse.specs.Layout.{before, behind, text_of}

@@ -2,12 +2,12 @@
 use Rattle.std.proofs.Common.{◌≡◌, ℕ, zero, suc, cond, List, [], ◌∷◌, length, Option, Some, None, Result, Ok, Err, refl, ◌∙◌}
 use Rattle.std.specs.Prelude.{pos, int_le}
 use Rattle.blz_value.specs.declared.test.Op.TheVariants.{Eq, Le}
-use Rattle.bloom_parse.specs.declared.terminal.Terminal.{Terminal}
-use Rattle.bloom_parse.specs.declared.terminal.Terminal.TheVariants as terminals
-use Rattle.bloom_parse.specs.declared.terminal.Word.TheVariants as words
-use Rattle.bloom_parse.specs.declared.terminal.Mark.{Mark}
-use Rattle.bloom_parse.specs.declared.terminal.Mark.TheVariants as marks
-use Rattle.bloom_parse.specs.Marks.{is_same_mark}
+use Rattle.bloom_parse.specs.declared.lexing.terminal.Terminal.{Terminal}
+use Rattle.bloom_parse.specs.declared.lexing.terminal.Terminal.TheVariants as terminals
+use Rattle.bloom_parse.specs.declared.lexing.terminal.Word.TheVariants as words
+use Rattle.bloom_parse.specs.declared.lexing.terminal.Mark.{Mark}
+use Rattle.bloom_parse.specs.declared.lexing.terminal.Mark.TheVariants as marks
+use Rattle.bloom_parse.specs.Code.Marks.{is_same_mark}
 
 -- what is still to come
 pub data Sym : Type 0 where

@@ -10,10 +10,10 @@ use Rattle.bloom_ast.specs.declared.expr.Term.TheVariants.{Column, Literal}
 use Rattle.bloom_ast.specs.Form.{RuleForm, Form}
 use Rattle.bloom_ast.specs.Query.{Name}
 use Rattle.bloom_ast.specs.Reserved.{term_names, formula_names, pair_names, aggregate_names, query_names, HasOwnNames}
-use Rattle.bloom_parse.specs.declared.terminal.Terminal.{Terminal}
-use Rattle.bloom_parse.specs.declared.terminal.Terminal.TheVariants as terminals
-use Rattle.bloom_parse.specs.declared.terminal.Mark.TheVariants as marks
-use Rattle.bloom_parse.specs.declared.terminal.Word.TheVariants as words
+use Rattle.bloom_parse.specs.declared.lexing.terminal.Terminal.{Terminal}
+use Rattle.bloom_parse.specs.declared.lexing.terminal.Terminal.TheVariants as terminals
+use Rattle.bloom_parse.specs.declared.lexing.terminal.Mark.TheVariants as marks
+use Rattle.bloom_parse.specs.declared.lexing.terminal.Word.TheVariants as words
 use Rattle.bloom_parse.specs.Parsing.{IsTextOf}
 use Rattle.bloom_parse.specs.Trees.{word, mark, UnitTree, AndsTree, OrsTree, term_token, unit_text, ands_text, ors_text, unit_formula, ands_formula, ors_formula, Item, ExprTree, item_text, item_pair, more_items_text, more_pairs_text, more_names_text, keys_text, agg_text, expr_text, expr_query, CollectionTree, collection_text, collection_form, RuleTree, rule_text, tree_rule, ModuleTree, module_text, module_form}
 use Rattle.bloom_parse.proofs.NameTokens.{token_names, Named, named_parts, lexes_named}

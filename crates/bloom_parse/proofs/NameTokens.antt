@@ -10,11 +10,11 @@ use Rattle.std.specs.Str.Parse.{signed_digits_value}
 use Rattle.blz_value.specs.declared.test.Op.{Op}
 use Rattle.blz_value.specs.Name.{is_name_start, is_name_byte, starts_name}
 use Rattle.bloom_ast.specs.Query.{Name}
-use Rattle.bloom_parse.specs.declared.terminal.Terminal.{Terminal}
-use Rattle.bloom_parse.specs.declared.terminal.Terminal.TheVariants as terminals
-use Rattle.bloom_parse.specs.declared.terminal.Word.{Word}
-use Rattle.bloom_parse.specs.declared.terminal.Mark.{Mark}
-use Rattle.bloom_parse.specs.declared.token.Token.{Token}
+use Rattle.bloom_parse.specs.declared.lexing.terminal.Terminal.{Terminal}
+use Rattle.bloom_parse.specs.declared.lexing.terminal.Terminal.TheVariants as terminals
+use Rattle.bloom_parse.specs.declared.lexing.terminal.Word.{Word}
+use Rattle.bloom_parse.specs.declared.lexing.terminal.Mark.{Mark}
+use Rattle.bloom_parse.specs.declared.lexing.token.Token.{Token}
 use Rattle.bloom_parse.specs.Spelling.{word_of}
 use Rattle.bloom_parse.specs.Tokens.{Front, and_rest, name_front, is_number, number_size, number_front, bytes_front, literal, text_front, mark_of, sign_front, mark_front, front, behind_blanks, last_of, Lexes}
 use Rattle.bloom_parse.proofs.RunLemmas.{run_passes}

@@ -11,7 +11,7 @@ use Rattle.std.proofs.lemmas.Str.Ascii.{IsAscii-from_all}
 use Rattle.std.proofs.lemmas.List.Elements.{All-from_recursion}
 use Rattle.std.proofs.lemmas.Bool.{ltb-true, lt-ltb, eqb-true}
 use Rattle.std.specs.List.{AllByRecursion}
-use Rattle.bloom_parse.specs.declared.terminal.Terminal.TheVariants as terminals
+use Rattle.bloom_parse.specs.declared.lexing.terminal.Terminal.TheVariants as terminals
 use Rattle.bloom_parse.specs.Tokens.{numbered, is_i64}
 use Rattle.bloom_parse.proofs.RunLemmas.{and_true}
 

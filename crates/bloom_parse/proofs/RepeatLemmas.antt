@@ -2,11 +2,11 @@
 use Rattle.std.proofs.Common.{◌≡◌, ℕ, zero, suc, ◌+◌, ◌-◌, ◌<◌, ◌≤◌, Bool, true, false, cond, List, [], ◌∷◌, ◌++◌, map, length, All, Result, Ok, Err, refl, sym, ap, ◌∙◌, append_assoc, arith}
 use Rattle.std.proofs.lemmas.List.{append-nil}
 use Rattle.std.proofs.lemmas.List.Elements.{All-nil, All-cons, All-head, All-tail}
-use Rattle.bloom_parse.specs.declared.terminal.Terminal.{Terminal}
-use Rattle.bloom_parse.specs.ReadingSingle.{◌>>=◌}
-use Rattle.bloom_parse.specs.ReadingLists.{many_at, with_front}
+use Rattle.bloom_parse.specs.declared.lexing.terminal.Terminal.{Terminal}
+use Rattle.bloom_parse.specs.Code.ReadingSingle.{◌>>=◌}
+use Rattle.bloom_parse.specs.Code.ReadingLists.{many_at, with_front}
 use Rattle.bloom_parse.proofs.Machine.{Sym, run}
-use Rattle.bloom_parse.proofs.SingleLemmas.{bind_reads}
+use Rattle.bloom_parse.proofs.SingleCorrect.{bind_reads}
 
 -- ---- what is read
 

@@ -4,14 +4,14 @@ use Rattle.std.proofs.lemmas.List.{length-drop}
 use Rattle.std.specs.Str.{is_utf8}
 use Rattle.blz_value.specs.declared.test.Op.{Op}
 use Rattle.blz_value.specs.declared.test.Op.TheVariants.{Eq, Ne, Lt, Le, Gt, Ge}
-use Rattle.bloom_parse.specs.declared.terminal.Mark.{Mark}
+use Rattle.bloom_parse.specs.declared.lexing.terminal.Mark.{Mark}
 use Rattle.std.proofs.lemmas.Bool.Decides.{nat_tests}
 use Rattle.std.specs.Char.{is_ascii_digit}
 use Rattle.std.specs.List.{prefix_len}
 use Rattle.std.specs.Option.{option_map, option_map_or, option_and_then}
 use Rattle.blz_value.specs.Name.{is_name_start, is_name_byte}
-use Rattle.bloom_parse.specs.declared.terminal.Terminal.{Terminal}
-use Rattle.bloom_parse.specs.declared.terminal.Terminal.TheVariants as terminals
+use Rattle.bloom_parse.specs.declared.lexing.terminal.Terminal.{Terminal}
+use Rattle.bloom_parse.specs.declared.lexing.terminal.Terminal.TheVariants as terminals
 use Rattle.bloom_parse.specs.Tokens.{behind_blanks, is_white, and_rest, named, numbered, name_front, number_size, number_front, hex_value, hex_front, escape_front, byte_front, closing_front, starts_with_quote, with_bytes, bytes_front, text_front, mark_of, starts_with_equals, sign_front, mark_front, front, is_control}
 
 abbrev pub Shorter : {X : Type 0} → ℕ → Option (X × List ℕ) → Type 0

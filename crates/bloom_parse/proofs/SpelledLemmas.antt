@@ -15,10 +15,10 @@ use Rattle.std.specs.Str.Parse.{without_leading_sign, signed_digits_value}
 use Rattle.blz_value.specs.Name.{is_name, is_name_start, is_name_byte}
 use Rattle.blz_value.specs.Text.{escaped, escaped_byte, hex_digit, value_text}
 use Rattle.blz_value.specs.declared.value.Value.TheVariants as values
-use Rattle.bloom_parse.specs.declared.terminal.Terminal.{Terminal}
-use Rattle.bloom_parse.specs.declared.terminal.Terminal.TheVariants as terminals
-use Rattle.bloom_parse.specs.declared.terminal.Word.{Word}
-use Rattle.bloom_parse.specs.declared.terminal.Word.TheVariants as words
+use Rattle.bloom_parse.specs.declared.lexing.terminal.Terminal.{Terminal}
+use Rattle.bloom_parse.specs.declared.lexing.terminal.Terminal.TheVariants as terminals
+use Rattle.bloom_parse.specs.declared.lexing.terminal.Word.{Word}
+use Rattle.bloom_parse.specs.declared.lexing.terminal.Word.TheVariants as words
 use Rattle.bloom_parse.specs.Spelling.{word_of, word_bytes}
 use Rattle.bloom_parse.specs.Tokens.{front, named, is_number, numbered, number_size, and_rest, name_front, number_front, hex_value, is_control, hex_front, byte_front, closing_front, bytes_front, with_bytes, literal, text_front}
 use Rattle.bloom_parse.proofs.RunLemmas.{and_true}

@@ -19,16 +19,16 @@ use Rattle.bloom_ast.specs.Query.Formula.{compare, both, either, not_so}
 use Rattle.bloom_ast.specs.Query.Query.{base, select, project, join, notin, group, at_least}
 use Rattle.bloom_ast.specs.Reserved.{is_own_name, is_reserved, reserved_words, term_names, formula_names, pair_names, aggregate_names, query_names}
 use Rattle.bloom_ast.proofs.Levels.{neither}
-use Rattle.bloom_parse.specs.declared.terminal.Terminal.{Terminal}
-use Rattle.bloom_parse.specs.declared.terminal.Terminal.TheVariants as terminals
-use Rattle.bloom_parse.specs.declared.terminal.Mark.TheVariants as marks
-use Rattle.bloom_parse.specs.declared.terminal.Word.{Word}
-use Rattle.bloom_parse.specs.declared.terminal.Word.TheVariants as words
+use Rattle.bloom_parse.specs.declared.lexing.terminal.Terminal.{Terminal}
+use Rattle.bloom_parse.specs.declared.lexing.terminal.Terminal.TheVariants as terminals
+use Rattle.bloom_parse.specs.declared.lexing.terminal.Mark.TheVariants as marks
+use Rattle.bloom_parse.specs.declared.lexing.terminal.Word.{Word}
+use Rattle.bloom_parse.specs.declared.lexing.terminal.Word.TheVariants as words
 use Rattle.bloom_parse.specs.Layout.{Levels, levels, item_of, tree_of}
 use Rattle.bloom_parse.specs.Printable.{HasItems}
 use Rattle.bloom_parse.specs.Spelling.{IsTerminal, all_words, word_bytes}
 use Rattle.bloom_parse.specs.Trees.{term_token, unit_text, ands_text, ors_text, Item, item_text, more_items_text, more_pairs_text, more_names_text, keys_text, agg_text, expr_text}
-use Rattle.bloom_parse.proofs.BoundLemmas.{both_true, short_parts}
+use Rattle.bloom_parse.proofs.BoundsLemmas.{both_true, short_parts}
 
 -- ---- names
 

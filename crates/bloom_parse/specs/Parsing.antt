@@ -5,8 +5,8 @@ use Rattle.bloom_ast.specs.Form.{Form, form_of}
 use Rattle.bloom_parse.specs.declared.refusal.ParseFault.{ParseFault}
 use Rattle.bloom_parse.specs.declared.refusal.ParseFault.TheVariants.{Text, NoMemory}
 use Rattle.bloom_parse.specs.declared.refusal.TextFault.{TextFault}
-use Rattle.bloom_parse.specs.declared.terminal.Terminal.{Terminal}
-use Rattle.bloom_parse.specs.declared.token.Token.{Token}
+use Rattle.bloom_parse.specs.declared.lexing.terminal.Terminal.{Terminal}
+use Rattle.bloom_parse.specs.declared.lexing.token.Token.{Token}
 use Rattle.bloom_parse.specs.Places.{IsModuleText, IsFault}
 use Rattle.bloom_parse.specs.Tokens.{HasTokens, AreTerminals, place_of, start_of}
 

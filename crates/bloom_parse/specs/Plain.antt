@@ -1,7 +1,7 @@
 -- Terminals that stand in the shortest ways to complete a text.
 use Rattle.std.specs.Prelude.{◌≡◌, pos, [], ◌∷◌}
-use Rattle.bloom_parse.specs.declared.terminal.Terminal.{Terminal}
-use Rattle.bloom_parse.specs.declared.terminal.Terminal.TheVariants as terminals
+use Rattle.bloom_parse.specs.declared.lexing.terminal.Terminal.{Terminal}
+use Rattle.bloom_parse.specs.declared.lexing.terminal.Terminal.TheVariants as terminals
 
 -- the name a, the integer 1, a word, a mark, a sign or the end
 abbrev pub IsPlain : Terminal → Type 0

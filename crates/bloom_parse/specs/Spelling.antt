@@ -10,12 +10,12 @@ use Rattle.blz_value.specs.declared.value.Value.TheVariants as values
 use Rattle.blz_value.specs.Name.{is_name}
 use Rattle.blz_value.specs.Text.{value_text}
 use Rattle.bloom_ast.specs.Query.{Name}
-use Rattle.bloom_parse.specs.declared.terminal.Terminal.{Terminal}
-use Rattle.bloom_parse.specs.declared.terminal.Terminal.TheVariants as terminals
-use Rattle.bloom_parse.specs.declared.terminal.Word.{Word}
-use Rattle.bloom_parse.specs.declared.terminal.Word.TheVariants as words
-use Rattle.bloom_parse.specs.declared.terminal.Mark.{Mark}
-use Rattle.bloom_parse.specs.declared.terminal.Mark.TheVariants as marks
+use Rattle.bloom_parse.specs.declared.lexing.terminal.Terminal.{Terminal}
+use Rattle.bloom_parse.specs.declared.lexing.terminal.Terminal.TheVariants as terminals
+use Rattle.bloom_parse.specs.declared.lexing.terminal.Word.{Word}
+use Rattle.bloom_parse.specs.declared.lexing.terminal.Word.TheVariants as words
+use Rattle.bloom_parse.specs.declared.lexing.terminal.Mark.{Mark}
+use Rattle.bloom_parse.specs.declared.lexing.terminal.Mark.TheVariants as marks
 
 -- the reserved words
 abbrev pub all_words : List Word

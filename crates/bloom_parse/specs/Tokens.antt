@@ -8,13 +8,13 @@ use Rattle.std.specs.Str.Parse.{without_leading_sign, signed_digits_value}
 use Rattle.blz_value.specs.declared.test.Op.{Op}
 use Rattle.blz_value.specs.declared.test.Op.TheVariants.{Eq, Ne, Lt, Le, Gt, Ge}
 use Rattle.blz_value.specs.Name.{is_name_start, is_name_byte}
-use Rattle.bloom_parse.specs.declared.terminal.Terminal.{Terminal}
-use Rattle.bloom_parse.specs.declared.terminal.Terminal.TheVariants as terminals
-use Rattle.bloom_parse.specs.declared.terminal.Mark.{Mark}
-use Rattle.bloom_parse.specs.declared.terminal.Mark.TheVariants as marks
-use Rattle.bloom_parse.specs.declared.token.Token.{Token}
-use Rattle.bloom_parse.specs.declared.token.Class.{Class}
-use Rattle.bloom_parse.specs.declared.token.Class.TheVariants as classes
+use Rattle.bloom_parse.specs.declared.lexing.terminal.Terminal.{Terminal}
+use Rattle.bloom_parse.specs.declared.lexing.terminal.Terminal.TheVariants as terminals
+use Rattle.bloom_parse.specs.declared.lexing.terminal.Mark.{Mark}
+use Rattle.bloom_parse.specs.declared.lexing.terminal.Mark.TheVariants as marks
+use Rattle.bloom_parse.specs.declared.lexing.token.Token.{Token}
+use Rattle.bloom_parse.specs.declared.lexing.token.Class.{Class}
+use Rattle.bloom_parse.specs.declared.lexing.token.Class.TheVariants as classes
 use Rattle.bloom_parse.specs.declared.refusal.ParseFault.{ParseFault}
 use Rattle.bloom_parse.specs.declared.refusal.ParseFault.TheVariants as faults
 use Rattle.bloom_parse.specs.declared.refusal.TextFault.{TextFault}

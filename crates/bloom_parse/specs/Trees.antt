@@ -15,12 +15,12 @@ use Rattle.bloom_ast.specs.Form.{RuleForm, Form}
 use Rattle.bloom_ast.specs.Query.{Name, Formula, Query}
 use Rattle.bloom_ast.specs.Query.Formula.{compare, both, either, not_so}
 use Rattle.bloom_ast.specs.Query.Query.{base, select, project, join, notin, group, at_least}
-use Rattle.bloom_parse.specs.declared.terminal.Terminal.{Terminal}
-use Rattle.bloom_parse.specs.declared.terminal.Terminal.TheVariants as terminals
-use Rattle.bloom_parse.specs.declared.terminal.Word.{Word}
-use Rattle.bloom_parse.specs.declared.terminal.Mark.{Mark}
-use Rattle.bloom_parse.specs.declared.terminal.Word.TheVariants as words
-use Rattle.bloom_parse.specs.declared.terminal.Mark.TheVariants as marks
+use Rattle.bloom_parse.specs.declared.lexing.terminal.Terminal.{Terminal}
+use Rattle.bloom_parse.specs.declared.lexing.terminal.Terminal.TheVariants as terminals
+use Rattle.bloom_parse.specs.declared.lexing.terminal.Word.{Word}
+use Rattle.bloom_parse.specs.declared.lexing.terminal.Mark.{Mark}
+use Rattle.bloom_parse.specs.declared.lexing.terminal.Word.TheVariants as words
+use Rattle.bloom_parse.specs.declared.lexing.terminal.Mark.TheVariants as marks
 
 abbrev pub word : Word → Terminal
 word w = terminals.Word w

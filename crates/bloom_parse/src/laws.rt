@@ -5,15 +5,29 @@ ghost use Rattle.std.specs.List.{All};
 ghost use Rattle.std.specs.Str.{IsUtf8};
 ghost use Rattle.blz_value.specs.Text.{escaped};
 ghost use Rattle.bloom_ast.specs.Form.{Form};
-ghost use Rattle.bloom_parse.specs.declared.terminal.Terminal.{Terminal};
-ghost use Rattle.bloom_parse.specs.declared.terminal.Terminal.TheVariants as terminals;
-ghost use Rattle.bloom_parse.specs.declared.token.Token.{Token};
+ghost use Rattle.bloom_parse.specs.declared.lexing.terminal.Terminal.{Terminal};
+ghost use Rattle.bloom_parse.specs.declared.lexing.terminal.Terminal.TheVariants as terminals;
+ghost use Rattle.bloom_parse.specs.declared.lexing.token.Token.{Token};
+ghost use Rattle.bloom_parse.specs.Laws.{ReadsTexts, ReadsFaults, BoundsLaw};
 ghost use Rattle.bloom_parse.specs.Layout.{printed};
 ghost use Rattle.bloom_parse.specs.Parsing.{IsTextOf};
 ghost use Rattle.bloom_parse.specs.Places.{IsModuleText, Begins};
 ghost use Rattle.bloom_parse.specs.Plain.{IsPlain};
 ghost use Rattle.bloom_parse.specs.Printable.{IsPrintable};
 ghost use Rattle.bloom_parse.specs.Tokens.{front, HasTokens};
+
+/// What a text is read as is what the grammar says of it: the module whose text it is, or the place
+/// of the first token that no module text has there.
+pub fn reading_law()
+    ensures texts { ReadsTexts }
+    ensures faults { ReadsFaults }
+{}
+
+/// A rule passes the bounds exactly where its printed text does: where more than 32 levels are open
+/// in it at once, a select has more than 32 comparisons, or a text literal more than 64 bytes.
+pub fn bounds_law()
+    ensures { BoundsLaw }
+{}
 
 /// A text has one list of tokens and terminals.
 pub fn token_law()

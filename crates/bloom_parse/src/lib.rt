@@ -1,28 +1,22 @@
 //! Module text: its tokens, its grammar, the reader and the printer.
 #![tactic(auto)]
 
-mod expressions;
-mod front;
 mod laws;
-mod lexer;
-mod lists;
+mod lexing;
 mod parser;
-mod predicates;
 mod printer;
-mod read_fault;
-mod reader;
+mod reading;
 mod refusal;
-mod single;
-mod terminal;
-mod token;
 
-pub use laws::{literal_law, one_module_law, plain_end_law, print_law, token_law};
-pub use lexer::tokens;
+pub use laws::{
+    bounds_law, literal_law, one_module_law, plain_end_law, print_law, reading_law, token_law,
+};
+pub use lexing::lexer::tokens;
+pub use lexing::terminal::{Mark, Terminal, Word};
+pub use lexing::token::{Class, Token};
 pub use parser::parse;
 pub use printer::print;
 pub use refusal::{ParseFault, TextFault};
-pub use terminal::{Mark, Terminal, Word};
-pub use token::{Class, Token};
 
 #[cfg(test)]
 mod module_tests;

@@ -3,10 +3,11 @@ ghost use Rattle.std.specs.Prelude.{◌≡◌, ◌<◌, ◌-◌, ◌^◌, length
 ghost use Rattle.bloom_ast.specs.Form.{Form, form_of};
 ghost use Rattle.bloom_ast.specs.Reserved.{HasOwnNames};
 ghost use Rattle.bloom_parse.specs.Parsing.{IsTextOf, IsParseFault, GivesModule};
+ghost use Rattle.bloom_parse.specs.Reading.{reading_of, GivesReading};
 
-use crate::lexer::{lexed, place_at};
-use crate::read_fault::ReadFault;
-use crate::reader::module_of;
+use crate::lexing::lexer::{lexed, place_at};
+use crate::reading::read_fault::ReadFault;
+use crate::reading::reader::module_of;
 use crate::refusal::ParseFault;
 use bloom_ast::Module;
 use std::alloc::Global;
@@ -18,6 +19,8 @@ pub fn parse(alloc: Global, text: &[u8]) -> Result<Module, ParseFault>
     ensures read { IfOk result (λ read. IsTextOf text.now (form_of read)) }
     // Its names are those that `check` asks for.
     ensures names { IfOk result (λ read. HasOwnNames (form_of read)) }
+    // The answer is the text's reading, unless memory runs out.
+    ensures exact { GivesReading (reading_of text.now) result }
     // A text of a module is read as this one, unless memory runs out.
     ensures only { (m : Form) → IsTextOf text.now m → GivesModule m result }
     ensures fault { IfErr result (λ e. IsParseFault text.now e) }

@@ -2,11 +2,11 @@
 ghost use Rattle.std.specs.Prelude.{◌≡◌, ◌++◌, [], ◌∷◌, if◌then◌else◌, map, codes, OnOk, IfOk};
 ghost use Rattle.std.specs.List.{flat_map};
 ghost use Rattle.bloom_ast.specs.Form.{formula_of, query_of, rule_form, rule_forms};
-ghost use Rattle.bloom_parse.specs.declared.terminal.Terminal.TheVariants as terminals;
+ghost use Rattle.bloom_parse.specs.declared.lexing.terminal.Terminal.TheVariants as terminals;
 ghost use Rattle.bloom_parse.specs.Trees as trees;
 ghost use Rattle.bloom_parse.specs.Spelling as spelling;
 ghost use Rattle.bloom_parse.specs.Layout as spec;
-ghost use Rattle.bloom_parse.specs.Printing as printing;
+ghost use Rattle.bloom_parse.specs.Code.Printing as printing;
 ghost use Rattle.bloom_parse.specs.Parsing.{IsTextOf};
 
 use bloom_ast::{Checked, Collection, Expr, Kind, NamedAgg, Pred, Rule, Term};

@@ -1,0 +1,5 @@
+use Rattle.bloom_parse.proofs.BoundsLaw.{bounds_law}
+use Rattle.bloom_parse.proofs.laws.bounds_law.Goals as goal
+
+pub returns : goal.returns
+returns c = bounds_law

@@ -1,8 +1,0 @@
--- what was found, and what the rest gives, are the whole
-use Rattle.std.proofs.Common.{◌≡◌, ◌-◌, length}
-use Rattle.bloom_parse.specs.ReadingSingle.{has_comma}
-use Rattle.bloom_parse.specs.ReadingLists.{pair_at, past, many_at, with_front, pairs_at}
-use Rattle.bloom_parse.proofs.lists.pairs.Given as goal
-
-abbrev pub invariant-loop : goal.invariant-loop
-invariant-loop l = with_front l.found.items (many_at has_comma (past pair_at) (length l.terminals - l.counter) l.rest) ≡ pairs_at l.terminals

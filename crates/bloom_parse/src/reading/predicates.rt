@@ -1,0 +1,165 @@
+//! Predicates at the front of a list of terminals.
+ghost use Rattle.std.specs.Prelude.{◌≡◌, None, Ok};
+ghost use Rattle.bloom_ast.specs.Form.{formula_of};
+ghost use Rattle.bloom_ast.specs.Query.Formula.{both};
+ghost use Rattle.bloom_parse.specs.Code.ReadingSingle.{Gives};
+ghost use Rattle.bloom_parse.specs.Code.ReadingPredicates.{opening_of, link_of, unit_by, summed_of, formulas, comparison_at, chain_at, pred_by, unit_at};
+
+use crate::lexing::terminal::{Mark, Terminal, Word};
+use crate::reading::read_fault::ReadFault;
+use crate::reading::single::{behind_first, mark, operand, sign};
+use bloom_ast::{MOST_COMPARISONS, Pred};
+use std::alloc::Global;
+
+/// Most comparisons of a select behind its first.
+pub(crate) const MORE_COMPARISONS: u32 = MOST_COMPARISONS - 1;
+
+/// A predicate, how many `and` and `or` may still come, and the rest.
+type PredRead<'a> = Result<(Pred, u32, &'a [Terminal]), ReadFault>;
+
+#[tactic(auto, unfolding(crate::specs::Code::ReadingPredicates::comparison_at))]
+fn comparison(alloc: Global, left: u32, terminals: &[Terminal]) -> PredRead<'_>
+    ensures { Gives (λ x. (formula_of x.0, x.1, x.2.now)) result (comparison_at left terminals.now) }
+{
+    let (first, rest) = operand(alloc, terminals)?;
+    let (op, rest) = sign(rest)?;
+    let (second, rest) = operand(alloc, rest)?;
+    let made = Pred::Compare {
+        left: first,
+        op,
+        right: second,
+    };
+    Ok((made, left, rest))
+}
+
+/// What a unit begins with.
+#[derive(Clone, Copy)]
+enum Opening {
+    Negation,
+    Parenthesis,
+    Operand,
+}
+
+/// What stands behind a unit.
+#[derive(Clone, Copy)]
+enum Link {
+    And,
+    Or,
+    Stop,
+}
+
+fn opening_at(terminals: &[Terminal]) -> Opening
+    ensures { result ≡ opening_of terminals.now }
+{
+    match terminals {
+        [Terminal::Word(Word::Not), ..] => Opening::Negation,
+        [Terminal::Mark(Mark::Open), ..] => Opening::Parenthesis,
+        _ => Opening::Operand,
+    }
+}
+
+fn link_at(terminals: &[Terminal]) -> Link
+    ensures { result ≡ link_of terminals.now }
+{
+    match terminals {
+        [Terminal::Word(Word::And), ..] => Link::And,
+        [Terminal::Word(Word::Or), ..] => Link::Or,
+        _ => Link::Stop,
+    }
+}
+
+#[cycle(predicates)]
+#[tactic(auto, unfolding(crate::specs::Code::ReadingPredicates::unit_by))]
+fn deeper_unit(alloc: Global, room: u32, left: u32, terminals: &[Terminal]) -> PredRead<'_>
+    ensures { Gives (λ x. (formula_of x.0, x.1, x.2.now)) result (unit_by (unit_at room) left terminals.now) }
+{
+    match opening_at(terminals) {
+        Opening::Negation => {
+            let (part, left, rest) = unit(alloc, room, left, behind_first(terminals))?;
+            Ok((Pred::Not(Box::new(alloc, part)?), left, rest))
+        }
+        Opening::Parenthesis => {
+            let (part, left, rest) = pred(alloc, room, left, behind_first(terminals))?;
+            let rest = mark(Mark::Close, rest)?;
+            Ok((part, left, rest))
+        }
+        Opening::Operand => comparison(alloc, left, terminals),
+    }
+}
+
+#[cycle(predicates)]
+#[tactic(auto, unfolding(crate::specs::Code::ReadingPredicates::unit_at))]
+fn unit(alloc: Global, room: u32, left: u32, terminals: &[Terminal]) -> PredRead<'_>
+    ensures { Gives (λ x. (formula_of x.0, x.1, x.2.now)) result (unit_at room left terminals.now) }
+{
+    if room == 0 {
+        comparison(alloc, left, terminals)
+    } else {
+        deeper_unit(alloc, room - 1, left, terminals)
+    }
+}
+
+/// A predicate, with so many levels that may still open and so many `and` and `or` that may still
+/// come.
+#[cycle(predicates)]
+#[tactic(auto, unfolding(crate::specs::Code::ReadingPredicates::pred_by))]
+pub(crate) fn pred(alloc: Global, room: u32, left: u32, terminals: &[Terminal]) -> PredRead<'_>
+    ensures { Gives (λ x. (formula_of x.0, x.1, x.2.now)) result (pred_by (unit_at room) left terminals.now) }
+{
+    let (first, left, rest) = unit(alloc, room, left, terminals)?;
+    chain(alloc, room, left, first, rest)
+}
+
+fn anded(alloc: Global, product: Pred, part: Pred) -> Result<Pred, ReadFault>
+    ensures { Gives (λ x. formula_of x) result (Ok (both (formula_of product) (formula_of part))) }
+{
+    Ok(Pred::And(Box::new(alloc, product)?, Box::new(alloc, part)?))
+}
+
+fn summed(alloc: Global, sum: Option<Pred>, product: Pred) -> Result<Pred, ReadFault>
+    ensures { Gives (λ x. formula_of x) result (Ok (summed_of (formulas sum) (formula_of product))) }
+{
+    match sum {
+        Some(sum) => Ok(Pred::Or(Box::new(alloc, sum)?, Box::new(alloc, product)?)),
+        None => Ok(product),
+    }
+}
+
+#[cycle(predicates)]
+#[tactic(auto, using(crate::proofs::PredicateCorrect::chain_open, crate::proofs::PredicateCorrect::chain_ended))]
+fn chain(alloc: Global, room: u32, left: u32, first: Pred, terminals: &[Terminal]) -> PredRead<'_>
+    ensures { Gives (λ x. (formula_of x.0, x.1, x.2.now)) result (chain_at (unit_at room) 31 left None (formula_of first) terminals.now) }
+{
+    let mut sum = None;
+    let mut product = first;
+    let mut left = left;
+    let mut rest = terminals;
+    for _ in 0..MORE_COMPARISONS {
+        match link_at(rest) {
+            Link::And => {
+                if left == 0 {
+                    return Err(ReadFault::Left(rest.len()));
+                }
+                let (part, now, after) = unit(alloc, room, left - 1, behind_first(rest))?;
+                product = anded(alloc, product, part)?;
+                left = now;
+                rest = after;
+            }
+            Link::Or => {
+                if left == 0 {
+                    return Err(ReadFault::Left(rest.len()));
+                }
+                let (part, now, after) = unit(alloc, room, left - 1, behind_first(rest))?;
+                sum = Some(summed(alloc, sum, product)?);
+                product = part;
+                left = now;
+                rest = after;
+            }
+            Link::Stop => return Ok((summed(alloc, sum, product)?, left, rest)),
+        }
+    }
+    match link_at(rest) {
+        Link::Stop => Ok((summed(alloc, sum, product)?, left, rest)),
+        Link::And | Link::Or => Err(ReadFault::Left(rest.len())),
+    }
+}

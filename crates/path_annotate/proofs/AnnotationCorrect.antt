@@ -20,7 +20,7 @@ use Rattle.path_annotate.specs.Good.{good_tables, is_free, reads_table}
 use Rattle.path_annotate.specs.HeadRoots.{roots_table}
 use Rattle.path_annotate.specs.Numbers.{numbers_of_kind}
 use Rattle.path_annotate.specs.Code.ReadingUses.{use_from, use_towards, path_note_from, gate_towards}
-use Rattle.path_annotate.specs.Code.Readings.{reading_of, readings_of}
+use Rattle.path_annotate.specs.Code.Readings.{rule_reading, readings_of}
 use Rattle.path_annotate.specs.Uses.{both_uses, all_uses, use_if, reads_port, writes, use_of}
 use Rattle.path_annotate.proofs.Feeding.{feeds_by_closure}
 use Rattle.path_annotate.proofs.GatesLemmas.{in_all-filter}
@@ -42,7 +42,7 @@ uses-filter {X = X} passes use_by (x ∷ xs) = ap (both_uses (if passes x then u
 
 module _ (names : List Name) (a : Accepted) (checked : IsChecked a.form a.heads) where
   -- a use, told what its rule reads
-  use-same : (port : ℕ) (rule : RuleForm) → use_from (readings_of names a) (reading_of names a rule) (bit_of port) ≡ use_of a.form.collections a.form.rules (good_tables a) (query_gate names a.form (roots_table names a) rule.1) port rule.1
+  use-same : (port : ℕ) (rule : RuleForm) → use_from (readings_of names a) (rule_reading names a rule) (bit_of port) ≡ use_of a.form.collections a.form.rules (good_tables a) (query_gate names a.form (roots_table names a) rule.1) port rule.1
   use-same port rule =
       let cs = a.form.collections in
       let rules = a.form.rules in
@@ -58,14 +58,14 @@ module _ (names : List Name) (a : Accepted) (checked : IsChecked a.form a.heads)
   pub path-same : (port output : ℕ) → path_note_from (readings_of names a) port output ≡ module_note names a port output
   path-same port output =
       let of_head = λ (rule : RuleForm). collection_number a.form.collections rule.0 == output in
-      let by_reading = λ (rule : RuleForm). use_from (readings_of names a) (reading_of names a rule) (bit_of port) in
-      ap all_uses (map-map (use_towards (readings_of names a) port output) (reading_of names a) a.form.rules)
+      let by_reading = λ (rule : RuleForm). use_from (readings_of names a) (rule_reading names a rule) (bit_of port) in
+      ap all_uses (map-map (use_towards (readings_of names a) port output) (rule_reading names a) a.form.rules)
       ∙ uses-filter of_head by_reading a.form.rules
       ∙ ap all_uses (map-same by_reading (λ (rule : RuleForm). use_of a.form.collections a.form.rules (good_tables a) (query_gate names a.form (roots_table names a) rule.1) port rule.1) (use-same port) (rules_at a.form.collections a.form.rules output))
 
-  pub head_gate-same : (output : ℕ) → gate_towards (all_attributes names) output (map (reading_of names a) a.form.rules) ≡ head_gate names a.form (roots_table names a) output
+  pub head_gate-same : (output : ℕ) → gate_towards (all_attributes names) output (map (rule_reading names a) a.form.rules) ≡ head_gate names a.form (roots_table names a) output
   head_gate-same output =
-      ap (in_all (all_attributes names)) (map-map (λ (reading : Reading). if reading.head == output then reading.gate.bits else all_attributes names) (reading_of names a) a.form.rules)
+      ap (in_all (all_attributes names)) (map-map (λ (reading : Reading). if reading.head == output then reading.gate.bits else all_attributes names) (rule_reading names a) a.form.rules)
       ∙ in_all-filter (all_attributes names) (λ (rule : RuleForm). collection_number a.form.collections rule.0 == output) (λ (rule : RuleForm). query_gate names a.form (roots_table names a) rule.1) a.form.rules
 
   pub notes-same : map (λ (port : ℕ). map (path_note_from (readings_of names a) port) (numbers_of_kind Output a.form.collections)) (numbers_of_kind Input a.form.collections) ≡ notes_of names (Module a)

@@ -31,7 +31,7 @@ use Rattle.path_annotate.specs.ClosedForms.{bad_tables, is_bad_rule, spoils}
 use Rattle.path_annotate.specs.Gates.{all_attributes, in_all, operator_sets, bodies_read, query_gate}
 use Rattle.path_annotate.specs.Good.{all_tables, is_free, is_plain}
 use Rattle.path_annotate.specs.HeadRoots.{roots_named, roots_table}
-use Rattle.path_annotate.specs.Code.Readings.{facts_of, reading_of, readings_of, rule_arrow, arrow_through, stopped, graph_of, gate_among, reading_from, readings_from, bad_among}
+use Rattle.path_annotate.specs.Code.Readings.{facts_of, rule_reading, readings_of, rule_arrow, arrow_through, stopped, graph_of, gate_among, reading_from, readings_from, bad_among}
 use Rattle.path_annotate.proofs.Behind.{all_member, all_from}
 use Rattle.path_annotate.proofs.Chosen.{from_chosen, in_chosen, chosen-lt}
 use Rattle.path_annotate.proofs.GatesLemmas.{in_all-append, in_all-filter, in_all-flat_map}
@@ -197,7 +197,7 @@ module _ (names : List Name) (a : Accepted) (few : length a.form.collections ≤
   abbrev graph : Graph
   graph = graph_of a.form.collections facts
 
-  reading-same : (rule : RuleForm) → reading_from graph all facts (facts_of names a rule) ≡ reading_of names a rule
+  reading-same : (rule : RuleForm) → reading_from graph all facts (facts_of names a rule) ≡ rule_reading names a rule
   reading-same rule =
       let cs = a.form.collections in
       let reads = λ (fds : List Fd). closure (named cs rule.1) fds in
@@ -210,12 +210,12 @@ module _ (names : List Name) (a : Accepted) (few : length a.form.collections ≤
         gate = record { bits = gate-is rule.1 i };
       }
 
-  rules-same : map (reading_from graph all facts) facts ≡ map (reading_of names a) a.form.rules
-  rules-same = map-map (reading_from graph all facts) (facts_of names a) a.form.rules ∙ map-same (λ (rule : RuleForm). reading_from graph all facts (facts_of names a rule)) (reading_of names a) reading-same a.form.rules
+  rules-same : map (reading_from graph all facts) facts ≡ map (rule_reading names a) a.form.rules
+  rules-same = map-map (reading_from graph all facts) (facts_of names a) a.form.rules ∙ map-same (λ (rule : RuleForm). reading_from graph all facts (facts_of names a rule)) (rule_reading names a) reading-same a.form.rules
 
-  bad-same : bad_among (all_tables a.form.collections) (map (reading_of names a) a.form.rules) ≡ bad_tables a.form.collections a.form.rules
+  bad-same : bad_among (all_tables a.form.collections) (map (rule_reading names a) a.form.rules) ≡ bad_tables a.form.collections a.form.rules
   bad-same = ap (with_all 0) (
-      map-map (λ (reading : Reading). bit_if (meets (bit_of reading.head) (all_tables a.form.collections) && (if reading.is_momentary then meets (all_tables a.form.collections) reading.direct.bits else not reading.is_free)) reading.head) (reading_of names a) a.form.rules
+      map-map (λ (reading : Reading). bit_if (meets (bit_of reading.head) (all_tables a.form.collections) && (if reading.is_momentary then meets (all_tables a.form.collections) reading.direct.bits else not reading.is_free)) reading.head) (rule_reading names a) a.form.rules
       ∙ map-same _ (λ (rule : RuleForm). bit_if (spoils a.form.collections a.form.rules rule) (collection_number a.form.collections rule.0))
       (λ rule. ap (λ (b : Bool). bit_if (b && is_bad_rule a.form.collections a.form.rules rule.1) (collection_number a.form.collections rule.0)) (kind-in_set a.form.collections few Table rule.0)) a.form.rules)
 

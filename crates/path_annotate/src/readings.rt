@@ -205,7 +205,7 @@ pub(crate) struct Reading {
 }
 
 // What a rule reads, and its gate, where these are all rules.
-fn reading_of(graph: &Graph, all: Attrs, rules: &[RuleFacts], rule: &RuleFacts) -> Reading
+fn rule_reading(graph: &Graph, all: Attrs, rules: &[RuleFacts], rule: &RuleFacts) -> Reading
     ensures { result ≡ spec.reading_from graph.now all.bits rules.now rule.now }
 {
     let direct = closure(rule.named, graph.scratch_arrows.as_slice());
@@ -232,7 +232,7 @@ fn all_readings(
 {
     rules
         .iter()
-        .map(|rule| reading_of(graph, all, rules, rule))
+        .map(|rule| rule_reading(graph, all, rules, rule))
         .collect(alloc)
 }
 

@@ -32,8 +32,8 @@ facts_of names a rule = record {
 }
 
 -- what a rule reads, and its gate
-abbrev pub reading_of : (names : List Name) → Accepted → RuleForm → Reading
-reading_of names a rule = record {
+abbrev pub rule_reading : (names : List Name) → Accepted → RuleForm → Reading
+rule_reading names a rule = record {
   head = collection_number a.form.collections rule.0;
   direct = record { bits = reads.direct a.form.collections a.form.rules rule.1 };
   behind = record { bits = behind a.form.collections a.form.rules rule.1 };
@@ -45,7 +45,7 @@ reading_of names a rule = record {
 -- what all rules read, and the tables that have a rule which no good table has
 abbrev pub readings_of : (names : List Name) → Accepted → Readings
 readings_of names a = record {
-  rules = map (reading_of names a) a.form.rules;
+  rules = map (rule_reading names a) a.form.rules;
   tables = record { bits = all_tables a.form.collections };
   bad = record { bits = bad_tables a.form.collections a.form.rules };
 }

@@ -1,39 +1,14 @@
 -- Sets of the numbers of those elements of a list that pass a test.
-use Rattle.std.proofs.Common.{◌≡◌, ◌<◌, ◌^◌, ◌⊎◌, inl, inr, ℕ, Bool, true, false, nat_lt, bit_or, List, [], ◌∷◌, map, refl, rules, arith, sym, ◌∙◌}
-use Rattle.std.proofs.lemmas.Bool.{cases_Bool, cases_eq, or_cases, true≢false}
-use Rattle.std.proofs.lemmas.Nat.Bits.{bit_at-zero}
+use Rattle.std.proofs.Common.{◌≡◌, ◌<◌, ◌^◌, ◌⊎◌, inl, inr, ℕ, Bool, true, false, bit_or, List, [], ◌∷◌, map, refl, arith, sym, ◌∙◌}
+use Rattle.std.proofs.lemmas.Bool.{or_cases, true≢false}
 use Rattle.blz_value.specs.Members.{Has}
 use Rattle.fd_closure.specs.Bits.{bit_of, meets}
 use Rattle.fd_closure.specs.Closure.{within}
-use Rattle.fd_closure.proofs.Within.{set_one, within-refl, within-trans, within-or_l, within-or_r}
-use Rattle.fd_closure.proofs.Members.{meets-some, within-meets, in-within, in-empty, in-or, in-bit_other}
+use Rattle.fd_closure.proofs.Within.{within-refl, within-trans, within-or_l, within-or_r}
+use Rattle.fd_closure.proofs.Members.{within-meets, in-within, in-empty, in-or}
+use Rattle.fd_closure.proofs.Singles.{one_number}
 use Rattle.bloom_ast.specs.Reads.{with_all, bit_if}
-use Rattle.bloom_ast.proofs.Unfolding.{bit_of-above, bit_if-lt, with_all-lt}
-
--- a set of one number has no other
-pub one_number : (n m : ℕ) → n < 64 → meets (bit_of n) (bit_of m) ≡ true → m ≡ n
-one_number n m lt h = elim (cases_Bool (nat_lt m 64)) [
-  | inr f ↦ absurd (let nothing : meets (bit_of n) 0 ≡ true = rw (bit_of-above m f) at h in true≢false (sym nothing ∙ in-empty n))
-  | inl t ↦ elim (cases_eq n m) [
-    | inl e ↦ sym e
-    | inr other ↦ absurd (
-        let small : m < 64 = search rules in
-        let there : meets (bit_of n) (bit_or 0 (bit_of m)) ≡ true = in-within n (bit_of m) (bit_or 0 (bit_of m)) lt h (within-or_r 0 (bit_of m)) in
-        true≢false (sym there ∙ in-bit_other n m 0 lt small other ∙ in-empty n)
-        )
-  ]
-]
-
--- a number that is in a set is small
-pub member_small : (n s : ℕ) → meets (bit_of n) s ≡ true → n < 64
-member_small n s h = elim (cases_Bool (nat_lt n 64)) [
-  | inl t ↦ search rules
-  | inr f ↦ absurd (
-      let nothing : meets 0 s ≡ true = rw (bit_of-above n f) at h in
-      let bit = meets-some 0 s nothing in
-      omega (arith, set_one 0 bit.0 bit.1.0, bit_at-zero bit.0)
-      )
-]
+use Rattle.bloom_ast.proofs.Unfolding.{bit_if-lt, with_all-lt}
 
 own_number : (n : ℕ) → n < 64 → meets (bit_of n) (bit_of n) ≡ true
 own_number n lt = within-meets n (bit_of n) lt (within-refl (bit_of n))
@@ -60,7 +35,8 @@ module _ {X : Type 0} (test : X → Bool) (number : X → ℕ) where
   chosen-first : (x : X) (xs : List X) (n : ℕ) → n < 64 → meets (bit_of n) (bit_if (test x) (number x)) ≡ true → IsChosen (x ∷ xs) n
   chosen-first x xs n lt h = let both = from_bit_if (test x) (number x) n lt h in record { element = x; stands = inl refl; passes = both.0; is = both.1 }
 
-  chosen-from : (s : ℕ) (xs : List X) (n : ℕ) → n < 64 → meets (bit_of n) (with_all s (chosen xs)) ≡ true → (meets (bit_of n) s ≡ true) ⊎ IsChosen xs n
+  chosen-from : (s : ℕ) (xs : List X) (n : ℕ) → n < 64 → meets (bit_of n) (with_all s (chosen xs)) ≡ true
+      → (meets (bit_of n) s ≡ true) ⊎ IsChosen xs n
   chosen-from s [] n lt h = inl h
   chosen-from s (x ∷ xs) n lt h = elim (chosen-from (bit_or s (bit_if (test x) (number x))) xs n lt h) [
     | inl t ↦ elim (or_cases _ _ (sym (in-or n s (bit_if (test x) (number x)) lt) ∙ t)) [ inl old ↦ inl old | inr new ↦ inr (chosen-first x xs n lt new) ]
@@ -75,7 +51,8 @@ module _ {X : Type 0} (test : X → Bool) (number : X → ℕ) where
   chosen-keeps s [] = within-refl s
   chosen-keeps s (x ∷ xs) = within-trans s (bit_or s (bit_if (test x) (number x))) _ (within-or_l s (bit_if (test x) (number x))) (chosen-keeps (bit_or s (bit_if (test x) (number x))) xs)
 
-  chosen-at : (s : ℕ) (xs : List X) (x : X) → Has x xs → test x ≡ true → number x < 64 → meets (bit_of (number x)) (with_all s (chosen xs)) ≡ true
+  chosen-at : (s : ℕ) (xs : List X) (x : X) → Has x xs → test x ≡ true → number x < 64
+      → meets (bit_of (number x)) (with_all s (chosen xs)) ≡ true
   chosen-at s [] x n passes lt = absurd n
   chosen-at s (y ∷ xs) x (inl e) passes lt =
       let next = bit_or s (bit_if (test y) (number y)) in
@@ -86,7 +63,8 @@ module _ {X : Type 0} (test : X → Bool) (number : X → ℕ) where
   chosen-at s (y ∷ xs) x (inr n) passes lt = chosen-at (bit_or s (bit_if (test y) (number y))) xs x n passes lt
 
   -- the number of such an element is in the set
-  pub in_chosen : (xs : List X) (x : X) → Has x xs → test x ≡ true → number x < 64 → meets (bit_of (number x)) (with_all 0 (chosen xs)) ≡ true
+  pub in_chosen : (xs : List X) (x : X) → Has x xs → test x ≡ true → number x < 64
+      → meets (bit_of (number x)) (with_all 0 (chosen xs)) ≡ true
   in_chosen xs x n passes lt = chosen-at 0 xs x n passes lt
 
   -- the set has only small numbers

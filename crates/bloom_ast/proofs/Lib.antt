@@ -20,3 +20,12 @@ pub mod Wide
 pub mod StockWidths
 pub mod NameNumbers
 pub mod FirstFaultLemmas
+pub mod KindNumbersLemmas
+pub mod Cones
+pub mod PlainLemmas
+pub mod ReadsLemmas
+pub mod MomentaryLemmas
+pub mod EquationsLemmas
+pub mod StepsLemmas
+pub mod ByCones
+pub mod ProperLemmas

@@ -11,6 +11,7 @@ use Rattle.blz_value.proofs.Membership.{Has-append_left, Has-append_right}
 use Rattle.fd_closure.specs.Bits.{bit_of, meets}
 use Rattle.fd_closure.proofs.Within.{within-refl}
 use Rattle.fd_closure.proofs.Members.{meets-some, some-meets, in-bit, bit-in, in-or, within-meets}
+use Rattle.fd_closure.proofs.Singles.{one_number}
 use Rattle.bloom_ast.specs.declared.module.Kind.{Kind}
 use Rattle.bloom_ast.specs.declared.module.Kind.TheVariants.{Input, Output, Table, Scratch}
 use Rattle.bloom_ast.specs.declared.module.Collection.{Collection}
@@ -25,7 +26,7 @@ use Rattle.bloom_ast.specs.Query.{Name, Query}
 use Rattle.bloom_ast.specs.Query.Query.{base, select, project, join, notin, group, at_least}
 use Rattle.bloom_ast.specs.Reads.{set_of_name, named, scratch_arrows, kind_set, is_momentary, facts_of, momentary_heads, reads_input}
 use Rattle.bloom_ast.specs.Rows.{formula_holds, item_numbers, column_numbers, numbered_agg, row_bound, rows_of}
-use Rattle.bloom_ast.proofs.Chosen.{one_number, in_chosen}
+use Rattle.bloom_ast.proofs.Chosen.{in_chosen}
 use Rattle.bloom_ast.proofs.KindSets.{in_kind_set, from_kind_set, kind_set-lt, kind-named}
 use Rattle.bloom_ast.proofs.Numbers.{kind-number}
 use Rattle.bloom_ast.proofs.Ordering.{in_named}

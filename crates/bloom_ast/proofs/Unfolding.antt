@@ -15,6 +15,7 @@ use Rattle.fd_closure.proofs.Within.{set_one, within-refl}
 use Rattle.fd_closure.proofs.Members.{bit_of-is, meets-some, some-meets, meets-within, within-meets, in-bit, bit-in, in-within, in-empty}
 use Rattle.fd_closure.proofs.Least.{closure-least}
 use Rattle.fd_closure.proofs.Reached.{IsSingle, LeadsTo, cone_of, unfolds, folds}
+use Rattle.fd_closure.proofs.Singles.{bit_of-above}
 use Rattle.bloom_ast.specs.declared.module.Collection.{Collection}
 use Rattle.bloom_ast.specs.Form.{RuleForm}
 use Rattle.bloom_ast.specs.Kinds.{has_kind, is_input, is_scratch}
@@ -111,10 +112,6 @@ module _ (cs : List Collection) (rules : List RuleForm) (q : Query) (few : lengt
   direct_folds n lt (inr p) = folds (scratch_arrows cs rules) (named cs q) n lt (inr (record { fd = scratch_arrow cs p.0; stands = Has-map (scratch_arrow cs) p.0 rules p.1.rule.stands; fires = meets-within (collection_number cs p.0.0) (named cs q) p.1.rule.named; there = rw p.1.scratch p.2 }))
 
 -- inputs are numbers below 64
-
-pub bit_of-above : (n : ℕ) → nat_lt n 64 ≡ false → bit_of n ≡ 0
-unfolding bit_of
-bit_of-above n f = rw f refl
 
 bit_of-lt : (n : ℕ) → bit_of n < 2 ^ 64
 bit_of-lt n = elim (cases_Bool (nat_lt n 64)) [

@@ -5,6 +5,7 @@ pub mod Lookup
 pub mod Columns
 pub mod Heads
 pub mod Kinds
+pub mod KindNumbers
 pub mod Rows
 pub mod Step
 pub mod StockSteps
@@ -14,6 +15,7 @@ pub mod Equations
 pub mod OverTables
 pub mod Laws
 pub mod Reads
+pub mod Plain
 pub mod Bounds
 pub mod Fits
 pub mod Faults
@@ -21,7 +23,9 @@ pub mod FirstFault
 pub mod Reserved
 pub mod Literals
 pub mod Checks
+pub mod Proper
 pub mod Widths
+pub mod Steps
 pub mod Tests
 pub mod Numbered
 pub mod Code

@@ -338,7 +338,7 @@ fn fitting_columns<'a>(
 }
 
 /// Whether a column stands twice.
-pub(crate) fn repeats_column(alloc: Global, columns: &[Str]) -> Result<bool, AllocError>
+pub fn repeats_column(alloc: Global, columns: &[Str]) -> Result<bool, AllocError>
     ensures { IfOk result (λ twice. twice ≡ spec.repeats columns.now) }
 {
     let refs = borrowed(alloc, columns)?;

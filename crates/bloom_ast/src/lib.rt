@@ -24,6 +24,7 @@ pub use checked::Checked;
 pub use checking::check;
 pub use expr::{Expr, NamedAgg, Pred, Term};
 pub use fault::{CheckFault, ModuleFault, ModuleKind, ModulePlace};
+pub use fits::repeats_column;
 pub use laws::{fault_law, order_law, reads_law, standing_law, step_law, tables_law};
 pub use module::{Collection, Kind, Module, Rule};
 pub use numbered::{NumberedExpr, NumberedRule};

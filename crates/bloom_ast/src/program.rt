@@ -16,7 +16,7 @@ use crate::module::{Collection, Kind};
 use blz_value::{Items, Str};
 
 /// What a component does: a module that was checked, or a stock body. A stock body has at most eight
-/// columns, and its columns are numbered from 0.
+/// columns, each once, and its columns are numbered from 0.
 #[derive(Debug, Drop)]
 pub enum Program {
     /// A module.

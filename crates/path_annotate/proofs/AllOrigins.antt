@@ -3,7 +3,8 @@ use Rattle.std.proofs.Common.{List}
 use Rattle.bloom_ast.specs.declared.program.Program.{Program}
 use Rattle.bloom_ast.specs.declared.program.Program.TheVariants.{Module, Split, Latest, Number}
 use Rattle.bloom_ast.specs.Query.{Name}
-use Rattle.path_annotate.specs.CopiesLaw.{IsProper, OutputsHaveOrigins}
+use Rattle.bloom_ast.specs.Proper.{IsProper}
+use Rattle.path_annotate.specs.CopiesLaw.{OutputsHaveOrigins}
 use Rattle.path_annotate.proofs.ModuleOrigins.{module_outputs}
 use Rattle.path_annotate.proofs.StockOrigins.{split_outputs, latest_outputs, number_outputs}
 

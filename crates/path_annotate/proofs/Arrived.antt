@@ -30,7 +30,7 @@ use Rattle.bloom_ast.proofs.Ordering.{in_named}
 use Rattle.path_annotate.specs.HeadRoots.{agreed_root, attribute_roots, roots_numbered, roots_named, rule_roots, head_roots, roots_table}
 use Rattle.path_annotate.specs.Roots.{Roots, root_at, are_same, roots_of}
 use Rattle.path_annotate.specs.RootsLaw.{AreRootsOf}
-use Rattle.path_annotate.proofs.Behind.{all_member}
+use Rattle.bloom_ast.proofs.Cones.{all_member}
 use Rattle.path_annotate.proofs.Copying.{AreCopies, IsFull, KeepsRoots, chosen, copies-self, copies-trans, copies-fewer, full-fewer, root-within}
 use Rattle.path_annotate.proofs.Origins.{IsCopied, copied}
 use Rattle.path_annotate.proofs.RootsLaw.{table_solves}

@@ -9,9 +9,9 @@ use Rattle.bloom_ast.specs.Numbered.{IsNumbered}
 use Rattle.bloom_ast.specs.Query.{Query}
 use Rattle.bloom_ast.specs.Query.Query.{base, select, project, join, notin, group, at_least}
 use Rattle.bloom_ast.specs.Reads.{named}
+use Rattle.bloom_ast.specs.Plain.{is_plain}
 use Rattle.path_annotate.specs.Code.ByNumber.{named_by, is_plain_by, roots_by, gate_by}
 use Rattle.path_annotate.specs.Gates.{in_all, operator_sets, pairs_set, set_of_roots}
-use Rattle.path_annotate.specs.Good.{is_plain}
 use Rattle.path_annotate.specs.HeadRoots.{roots_numbered, roots_named}
 use Rattle.path_annotate.specs.Roots.{Roots, joined_roots, roots_at, roots_of}
 use Rattle.path_annotate.proofs.GatesLemmas.{in_all-append}

@@ -21,12 +21,14 @@ use Rattle.bloom_ast.specs.Lookup.{collection_number}
 use Rattle.bloom_ast.specs.Query.{Query}
 use Rattle.bloom_ast.specs.Reads.{arrows, cone, direct, is_momentary}
 use Rattle.bloom_ast.specs.Step.{rules_at}
+use Rattle.bloom_ast.specs.Plain.{is_free}
 use Rattle.bloom_ast.proofs.Unfolding.{bit_small}
+use Rattle.bloom_ast.proofs.Chosen.{from_chosen, in_chosen, chosen-lt}
+use Rattle.bloom_ast.proofs.KindSets.{kind-named, named-kind, kind_set-lt, is_table}
+use Rattle.bloom_ast.proofs.Cones.{all_member, all_from, from_closure, in_closure, IsReadByRule, from_head, in_head}
 use Rattle.path_annotate.specs.ClosedForms.{behind, is_bad_rule, spoils, bad_tables}
-use Rattle.path_annotate.specs.Good.{all_tables, tables_read, reads_table, is_free, reads_good, is_good_rule}
-use Rattle.path_annotate.proofs.Behind.{all_member, all_from, behind-cone, table-behind, from_closure, in_closure, IsReadByRule, from_head, in_head, in_cone}
-use Rattle.path_annotate.proofs.Chosen.{from_chosen, in_chosen, chosen-lt}
-use Rattle.path_annotate.proofs.KindSets.{kind-named, named-kind, kind_set-lt, is_table}
+use Rattle.path_annotate.specs.Good.{all_tables, tables_read, reads_table, reads_good, is_good_rule}
+use Rattle.path_annotate.proofs.Behind.{behind-cone, table-behind, in_cone}
 use Rattle.path_annotate.proofs.Sets.{and-within_l, and-within_r}
 
 -- a rule is one that a good table may have where it isn't bad and reads good tables alone

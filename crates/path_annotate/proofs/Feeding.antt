@@ -5,6 +5,7 @@ use Rattle.std.proofs.lemmas.Bool.{and_parts, and_from, or_cases, or_left, or_ri
 use Rattle.blz_value.specs.Members.{Has}
 use Rattle.blz_value.proofs.Membership.{any_from_Has, Has-from_any}
 use Rattle.fd_closure.specs.Bits.{bit_of, meets}
+use Rattle.fd_closure.proofs.Singles.{member_small}
 use Rattle.bloom_ast.specs.declared.module.Kind.TheVariants.{Input, Table}
 use Rattle.bloom_ast.specs.declared.module.Collection.{Collection}
 use Rattle.bloom_ast.specs.Checks.{IsRule, IsChecked}
@@ -12,15 +13,15 @@ use Rattle.bloom_ast.specs.Form.{RuleForm, Form}
 use Rattle.bloom_ast.specs.Kinds.{kind_at}
 use Rattle.bloom_ast.specs.Query.{Query}
 use Rattle.bloom_ast.specs.Reads.{direct}
+use Rattle.bloom_ast.specs.KindNumbers.{numbers_of_kind}
+use Rattle.bloom_ast.proofs.KindSets.{small_kind, in_tables, from_tables}
+use Rattle.bloom_ast.proofs.Cones.{from_closure, in_closure, IsReadByRule, from_head, in_head}
 use Rattle.path_annotate.specs.ClosedForms.{behind}
 use Rattle.path_annotate.specs.Good.{tables_read}
-use Rattle.path_annotate.specs.Numbers.{numbers_of_kind}
 use Rattle.path_annotate.specs.ReadLaws.{ReadsFedTable, HasFedRule, FeedsByRules, FeedsByClosure}
 use Rattle.path_annotate.specs.Uses.{reads_port, feeds, feeds_read}
 use Rattle.path_annotate.proofs.ClosedFormsLemmas.{rule_of}
-use Rattle.path_annotate.proofs.Behind.{from_closure, in_closure, IsReadByRule, from_head, in_head, in_cone, in_tables_read, from_tables_read}
-use Rattle.path_annotate.proofs.Chosen.{member_small}
-use Rattle.path_annotate.proofs.KindSets.{small_kind, in_tables, from_tables}
+use Rattle.path_annotate.proofs.Behind.{in_cone, in_tables_read, from_tables_read}
 
 module _ (cs : List Collection) (rules : List RuleForm) (few : length cs ≤ 32) where
   -- a table that an expression reads, and that a port feeds

@@ -2,8 +2,6 @@ pub mod Sets
 pub mod CoversLaw
 pub mod GatesLemmas
 pub mod UsesLemmas
-pub mod Chosen
-pub mod KindSets
 pub mod Behind
 pub mod ClosedFormsLemmas
 pub mod GoodTables
@@ -14,7 +12,6 @@ pub mod RootsLaw
 pub mod Copying
 pub mod Origins
 pub mod Arrived
-pub mod Places
 pub mod Runs
 pub mod ModuleOrigins
 pub mod StockOrigins
@@ -26,3 +23,8 @@ pub mod ReadingsCorrect
 pub mod NumbersLemmas
 pub mod AnnotationCorrect
 pub mod AnnotationLemmas
+pub mod AttributesLemmas
+pub mod GateSets
+pub mod UsedNotes
+pub mod GivenLemmas
+pub mod ConfluentUses

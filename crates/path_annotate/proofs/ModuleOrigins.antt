@@ -23,15 +23,16 @@ use Rattle.bloom_ast.specs.Query.{Name}
 use Rattle.bloom_ast.specs.Reads.{arrows, named}
 use Rattle.bloom_ast.specs.Step.{Sets, set_at, at_end}
 use Rattle.bloom_ast.specs.Widths.{AreSetsOf}
+use Rattle.bloom_ast.specs.KindNumbers.{number_in_kind}
+use Rattle.bloom_ast.specs.Steps.{tables_after_steps, AreArrivals}
 use Rattle.bloom_ast.proofs.Equated.{length-at_end}
 use Rattle.bloom_ast.proofs.Numbers.{kind-number, derived_or}
-use Rattle.path_annotate.specs.Copies.{tables_after_steps, AreArrivals, IsCopyOf, HasOrigin}
+use Rattle.bloom_ast.proofs.KindNumbersLemmas.{columns-of_kind, number-place, row-of_kind}
+use Rattle.path_annotate.specs.Copies.{IsCopyOf, HasOrigin}
 use Rattle.path_annotate.specs.CopiesLaw.{ExpressionsHaveOrigins, RulesHaveOrigins, OutputsHaveOrigins, query_roots}
 use Rattle.path_annotate.specs.HeadRoots.{roots_numbered, roots_table}
-use Rattle.path_annotate.specs.Numbers.{number_in_kind}
 use Rattle.path_annotate.specs.Roots.{Roots}
 use Rattle.path_annotate.proofs.Arrived.{IsArrived, HasArrived, query_arrived, rule_arrived}
-use Rattle.path_annotate.proofs.Places.{columns-of_kind, number-place, row-of_kind}
 use Rattle.path_annotate.proofs.Runs.{KeptArrived, input_same, all_arrived, tables_arrived}
 
 -- what holds of empty tables and stays over each step over one of some arrivals holds after any such steps

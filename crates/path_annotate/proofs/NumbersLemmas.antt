@@ -5,7 +5,7 @@ use Rattle.bloom_ast.specs.declared.module.Kind.{Kind}
 use Rattle.bloom_ast.specs.declared.module.Collection.{Collection}
 use Rattle.bloom_ast.specs.Kinds.{same_kind, of_kind}
 use Rattle.bloom_ast.specs.Program.{columns_of_kind}
-use Rattle.path_annotate.specs.Numbers.{numbers_of_kind}
+use Rattle.bloom_ast.specs.KindNumbers.{numbers_of_kind}
 
 -- a list told by its places
 by_places : {X Y : Type 0} (h : ℕ → Y) (g : X → Y) (d : X) (at : ℕ) (xs : List X) → ((k : ℕ) → h (at + k) ≡ g (get_or xs k d)) → map h (range_with_len at (length xs)) ≡ map g xs

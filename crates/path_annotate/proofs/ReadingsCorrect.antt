@@ -5,13 +5,13 @@ use Rattle.std.specs.Cmp.{both_ways}
 use Rattle.std.specs.Option.{option_map_or}
 use Rattle.std.specs.List.{list_all, flat_map, enumerate_from}
 use Rattle.std.proofs.lemmas.Simd.{map-map}
+use Rattle.std.proofs.lemmas.Bool.{true≢false, cases_Bool}
+use Rattle.blz_value.specs.Members.{Has}
+use Rattle.blz_value.proofs.Membership.{Has-filter, Has-from_filter}
 use Rattle.fd_closure.specs.declared.attrs.Fd.{Fd}
 use Rattle.fd_closure.specs.Bits.{bit_of, meets}
 use Rattle.fd_closure.specs.Closure.{closure}
 use Rattle.fd_closure.proofs.Members.{meets-some, some-meets, bit-in, in-bit}
-use Rattle.std.proofs.lemmas.Bool.{true≢false, cases_Bool}
-use Rattle.blz_value.specs.Members.{Has}
-use Rattle.blz_value.proofs.Membership.{Has-filter, Has-from_filter}
 use Rattle.bloom_ast.specs.declared.module.Kind.{Kind}
 use Rattle.bloom_ast.specs.declared.module.Kind.TheVariants.{Input, Output, Table, Scratch}
 use Rattle.bloom_ast.specs.declared.module.Collection.{Collection}
@@ -21,21 +21,22 @@ use Rattle.bloom_ast.specs.Kinds.{same_kind, has_kind, is_input, is_scratch}
 use Rattle.bloom_ast.specs.Lookup.{collection_number, declared, kind_of}
 use Rattle.bloom_ast.specs.Numbered.{IsNumberedRule, AreNumbered}
 use Rattle.bloom_ast.specs.Query.{Name, Query}
-use Rattle.bloom_ast.proofs.Unfolding.{number_small, bit_small}
 use Rattle.bloom_ast.specs.Reads.{set_of_name, named, arrows, scratch_arrows, scratch_arrow, arrow_from, cone, direct, kind_set, with_all, bit_if}
+use Rattle.bloom_ast.specs.Plain.{is_free, is_plain}
+use Rattle.bloom_ast.proofs.Unfolding.{number_small, bit_small}
+use Rattle.bloom_ast.proofs.Chosen.{from_chosen, in_chosen, chosen-lt}
+use Rattle.bloom_ast.proofs.KindSets.{in_kind_set, from_kind_set, kind-named, named-kind}
+use Rattle.bloom_ast.proofs.Cones.{all_member, all_from}
 use Rattle.path_annotate.specs.declared.readings.Graph.{Graph}
 use Rattle.path_annotate.specs.declared.readings.Reading.{Reading}
 use Rattle.path_annotate.specs.declared.readings.RuleFacts.{RuleFacts}
 use Rattle.path_annotate.specs.Code.ByNumber.{facts_by}
 use Rattle.path_annotate.specs.ClosedForms.{bad_tables, is_bad_rule, spoils}
 use Rattle.path_annotate.specs.Gates.{all_attributes, in_all, operator_sets, bodies_read, query_gate}
-use Rattle.path_annotate.specs.Good.{all_tables, is_free, is_plain}
+use Rattle.path_annotate.specs.Good.{all_tables}
 use Rattle.path_annotate.specs.HeadRoots.{roots_named, roots_table}
 use Rattle.path_annotate.specs.Code.Readings.{facts_of, rule_reading, readings_of, rule_arrow, arrow_through, stopped, graph_of, gate_among, reading_from, readings_from, bad_among}
-use Rattle.path_annotate.proofs.Behind.{all_member, all_from}
-use Rattle.path_annotate.proofs.Chosen.{from_chosen, in_chosen, chosen-lt}
 use Rattle.path_annotate.proofs.GatesLemmas.{in_all-append, in_all-filter, in_all-flat_map}
-use Rattle.path_annotate.proofs.KindSets.{in_kind_set, from_kind_set, kind-named, named-kind}
 use Rattle.path_annotate.proofs.Lists.{map-same}
 use Rattle.path_annotate.proofs.ByNumberLemmas.{named-same, plain-same, gate-same}
 use Rattle.path_annotate.proofs.ByNumberCorrect.{map-numbered}

@@ -21,10 +21,10 @@ use Rattle.bloom_ast.specs.Rows.{item_numbers, column_numbers}
 use Rattle.bloom_ast.specs.Step.{rules_at}
 use Rattle.bloom_ast.proofs.Equated.{names_none}
 use Rattle.bloom_ast.proofs.Numbers.{get-within, derived_or, derived-no_port}
+use Rattle.bloom_ast.proofs.KindSets.{get-kind}
 use Rattle.path_annotate.specs.HeadRoots.{agreed_root, attribute_roots, first_roots, roots_numbered, roots_named, rule_roots, head_roots, with_head_roots, roots_table}
 use Rattle.path_annotate.specs.Roots.{Roots, roots_at, joined_roots, roots_of}
 use Rattle.path_annotate.specs.RootsLaw.{HavePortRoots, HaveHeadRoots, HaveRootsOfColumns, AreRootsOf}
-use Rattle.path_annotate.proofs.KindSets.{get-kind}
 
 -- ---- what an expression names decides its roots
 

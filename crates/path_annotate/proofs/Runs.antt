@@ -22,12 +22,12 @@ use Rattle.bloom_ast.specs.Step.{Sets, set_at, ended, rows_named, rules_at, rule
 use Rattle.bloom_ast.specs.Widths.{AreWide, AreSetsOf}
 use Rattle.bloom_ast.proofs.Equated.{names_none, ends, length-at_end}
 use Rattle.bloom_ast.proofs.Numbers.{get-within, derived_or, derived-no_port, set-of_kind}
+use Rattle.bloom_ast.proofs.KindSets.{get-kind}
+use Rattle.bloom_ast.proofs.KindNumbersLemmas.{columns-of_kind}
 use Rattle.path_annotate.specs.HeadRoots.{attribute_roots, roots_numbered, roots_table}
 use Rattle.path_annotate.specs.Roots.{Roots}
-use Rattle.path_annotate.proofs.KindSets.{get-kind}
 use Rattle.path_annotate.proofs.Arrived.{IsArrived, HasArrived, query_arrived, rule_arrived, head_arrived, ended-cases}
 use Rattle.path_annotate.proofs.Copying.{IsFull, copies-self, root-within}
-use Rattle.path_annotate.proofs.Places.{columns-of_kind}
 use Rattle.path_annotate.proofs.RootsLaw.{table_solves}
 
 -- ---- ports

@@ -5,6 +5,7 @@ use Rattle.std.specs.List.{remove, list_any, enumerate_from}
 use Rattle.std.proofs.lemmas.Bool.{cases_lt}
 use Rattle.std.proofs.lemmas.List.{length-map, map-append, take-map, drop-map}
 use Rattle.std.proofs.lemmas.List.Edits.{length-remove, get_or-remove_below, get_or-remove_above}
+use Rattle.std.specs.Ordering.{eq_by_cmp}
 use Rattle.blz_value.specs.declared.value.Value.{Value}
 use Rattle.blz_value.specs.declared.value.Value.TheVariants.{Int}
 use Rattle.blz_value.specs.Members.{Has}
@@ -15,7 +16,6 @@ use Rattle.blz_value.specs.Test.{cell}
 use Rattle.blz_value.proofs.Membership.{All-of_member, Has-append_cases, Has-from_filter, Has-from_map, Has-from_flat_map}
 use Rattle.blz_value.proofs.SetLaws.{Has-from_set_of}
 use Rattle.fd_closure.specs.Names.{place_of}
-use Rattle.std.specs.Ordering.{eq_by_cmp}
 use Rattle.bloom_ast.specs.declared.program.Program.{Program}
 use Rattle.bloom_ast.specs.declared.program.Program.TheVariants.{Split, Latest, Number}
 use Rattle.bloom_ast.specs.Program.{port_columns}
@@ -24,8 +24,8 @@ use Rattle.bloom_ast.specs.Query.{Name}
 use Rattle.bloom_ast.specs.Step.{Sets, set_at}
 use Rattle.bloom_ast.specs.StockSteps.{parts_of, split_row, keys_in_order, has_key, is_latest, latest_kept, is_numbered, numbered}
 use Rattle.bloom_ast.specs.Widths.{AreSetsOf}
+use Rattle.bloom_ast.specs.Steps.{tables_after_steps, AreArrivals}
 use Rattle.path_annotate.specs.Annotation.{latest_roots}
-use Rattle.path_annotate.specs.Copies.{tables_after_steps, AreArrivals}
 use Rattle.path_annotate.specs.CopiesLaw.{OutputsHaveOrigins}
 use Rattle.path_annotate.specs.HeadRoots.{attribute_roots}
 use Rattle.path_annotate.specs.Roots.{Roots}

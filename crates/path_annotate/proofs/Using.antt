@@ -12,15 +12,16 @@ use Rattle.bloom_ast.specs.Form.{RuleForm, Form}
 use Rattle.bloom_ast.specs.Kinds.{same_kind, kind_at, is_input}
 use Rattle.bloom_ast.specs.Query.{Query}
 use Rattle.bloom_ast.specs.Reads.{direct, kind_set, is_momentary}
+use Rattle.bloom_ast.specs.Plain.{is_free}
+use Rattle.bloom_ast.proofs.KindSets.{small_kind, in_kind_set}
 use Rattle.path_annotate.specs.declared.note.Note.{Note}
 use Rattle.path_annotate.specs.declared.note.Note.TheVariants.{CR, OR}
-use Rattle.path_annotate.specs.Good.{all_tables, reads_table, reads_good, is_free}
+use Rattle.path_annotate.specs.Good.{all_tables, reads_table, reads_good}
 use Rattle.path_annotate.specs.Note.{own_gate}
 use Rattle.path_annotate.specs.ReadLaws.{UsesByCone, UsesHaveGate}
 use Rattle.path_annotate.specs.Uses.{both_uses, use_if, reads_port, feeds_read, writes, linear_use, asking_use, summing_use, use_of}
 use Rattle.path_annotate.proofs.Behind.{in_cone}
 use Rattle.path_annotate.proofs.Feeding.{from_feeds_read, feeds_read-is}
-use Rattle.path_annotate.proofs.KindSets.{small_kind, in_kind_set}
 
 -- ---- whether there is a use
 

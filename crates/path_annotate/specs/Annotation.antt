@@ -5,25 +5,34 @@ use Rattle.fd_closure.specs.Names.{place_of}
 use Rattle.bloom_ast.specs.declared.module.Kind.TheVariants.{Input, Output}
 use Rattle.bloom_ast.specs.declared.program.Program.{Program}
 use Rattle.bloom_ast.specs.declared.program.Program.TheVariants.{Module, Split, Latest, Number}
-use Rattle.bloom_ast.specs.Form.{Accepted}
+use Rattle.bloom_ast.specs.Form.{RuleForm, Accepted}
 use Rattle.bloom_ast.specs.Program.{port_columns, output_columns}
 use Rattle.bloom_ast.specs.Query.{Name}
 use Rattle.bloom_ast.specs.Step.{rules_at}
+use Rattle.bloom_ast.specs.KindNumbers.{number_in_kind}
 use Rattle.path_annotate.specs.declared.note.Note.{Note}
 use Rattle.path_annotate.specs.declared.note.Note.TheVariants.{CR, OR, OW}
 use Rattle.path_annotate.specs.Gates.{all_attributes, set_of_roots, query_gate, head_gate}
 use Rattle.path_annotate.specs.Good.{good_tables}
 use Rattle.path_annotate.specs.HeadRoots.{attribute_roots, roots_numbered, roots_table}
-use Rattle.path_annotate.specs.Numbers.{number_in_kind}
 use Rattle.path_annotate.specs.Roots.{Roots}
 use Rattle.path_annotate.specs.Uses.{use_of, all_uses}
 
 -- ---- modules
 
--- the note of a path through a module, from the collection of a port to that of an output: what all rules of the output give to the port
+-- the gate of a rule
+abbrev pub rule_gate : (names : List Name) → Accepted → RuleForm → ℕ
+rule_gate names a rule = query_gate names a.form (roots_table names a) rule.1
+
+-- what a rule gives to a port
+abbrev pub rule_use : (names : List Name) → Accepted → RuleForm → (port : ℕ) → Option Note
+rule_use names a rule port =
+    use_of a.form.collections a.form.rules (good_tables a) (rule_gate names a rule) (number_in_kind Input a.form.collections port) rule.1
+
+-- the note of a path through a module: what all rules of the output give to the port
 abbrev pub module_note : (names : List Name) → Accepted → (port output : ℕ) → Option Note
 module_note names a port output =
-    all_uses (map (λ rule. use_of a.form.collections a.form.rules (good_tables a) (query_gate names a.form (roots_table names a) rule.1) port rule.1) (rules_at a.form.collections a.form.rules output))
+    all_uses (map (λ rule. rule_use names a rule port) (rules_at a.form.collections a.form.rules (number_in_kind Output a.form.collections output)))
 
 -- ---- stock bodies
 
@@ -57,7 +66,7 @@ gate_of_output names (Number columns) output = 0
 
 -- the note of a path from a port to an output; nothing where no rule of the output uses the port
 abbrev pub note_of : (names : List Name) → Program → (port output : ℕ) → Option Note
-note_of names (Module a) port output = module_note names a (number_in_kind Input a.form.collections port) (number_in_kind Output a.form.collections output)
+note_of names (Module a) port output = module_note names a port output
 note_of names (Split columns split) port output = Some CR
 note_of names (Latest columns keys) port output = Some (latest_note (key_set names columns keys) port)
 note_of names (Number columns) port output = Some (OW (record { bits = 0 }))

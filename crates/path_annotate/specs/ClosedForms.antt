@@ -8,7 +8,8 @@ use Rattle.bloom_ast.specs.Kinds.{same_kind, has_kind}
 use Rattle.bloom_ast.specs.Lookup.{collection_number}
 use Rattle.bloom_ast.specs.Query.{Query}
 use Rattle.bloom_ast.specs.Reads.{arrows, with_all, bit_if, is_momentary}
-use Rattle.path_annotate.specs.Good.{tables_read, reads_table, is_free}
+use Rattle.bloom_ast.specs.Plain.{is_free}
+use Rattle.path_annotate.specs.Good.{tables_read, reads_table}
 
 -- the tables that an expression reads, and all that these read, directly or through others
 abbrev pub behind : List Collection → List RuleForm → Query → ℕ

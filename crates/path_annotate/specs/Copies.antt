@@ -1,6 +1,5 @@
 -- Origins of rows: the arriving record of which all columns with roots are copies.
 use Rattle.std.specs.Prelude.{ℕ, ◌≡◌, ◌==◌, Bool, IsTrue, Some, List, [], slice_index_or}
-use Rattle.std.specs.List.{All, fold}
 use Rattle.blz_value.specs.Members.{Has}
 use Rattle.blz_value.specs.Record.{Row}
 use Rattle.blz_value.specs.Test.{cell}
@@ -10,23 +9,13 @@ use Rattle.bloom_ast.specs.declared.program.Program.{Program}
 use Rattle.bloom_ast.specs.declared.program.Program.TheVariants.{Module, Split, Latest, Number}
 use Rattle.bloom_ast.specs.Form.{Accepted}
 use Rattle.bloom_ast.specs.Program.{port_columns}
-use Rattle.bloom_ast.specs.ProgramStep.{tables_after_step, empty_tables}
 use Rattle.bloom_ast.specs.Query.{Name, Query}
 use Rattle.bloom_ast.specs.Reads.{cone}
 use Rattle.bloom_ast.specs.Step.{Sets, set_at}
-use Rattle.bloom_ast.specs.Widths.{AreSetsOf}
+use Rattle.bloom_ast.specs.KindNumbers.{number_in_kind}
 use Rattle.path_annotate.specs.HeadRoots.{attribute_roots}
-use Rattle.path_annotate.specs.Numbers.{number_in_kind}
 use Rattle.path_annotate.specs.Roots.{Roots, root_at}
 use Rattle.path_annotate.specs.Uses.{feeds}
-
--- the tables after a step over each of some arrivals, from empty tables
-abbrev pub tables_after_steps : Program → List Sets → Sets
-tables_after_steps program nows = fold (tables_after_step program) (empty_tables program) nows
-
--- each of some arrivals has one set for each port, with rows of its width
-abbrev pub AreArrivals : Program → List Sets → Type 0
-AreArrivals program nows = All (AreSetsOf (port_columns program)) nows
 
 -- a port stands in the cone of an expression
 abbrev pub feeds_query : Accepted → Query → (port : ℕ) → Bool

@@ -3,27 +3,19 @@ use Rattle.std.specs.Prelude.{ℕ, List, [], ◌∷◌, ◌++◌}
 use Rattle.blz_value.specs.Members.{Has}
 use Rattle.blz_value.specs.Record.{Row}
 use Rattle.bloom_ast.specs.declared.program.Program.{Program}
-use Rattle.bloom_ast.specs.declared.program.Program.TheVariants.{Module, Split, Latest, Number}
-use Rattle.bloom_ast.specs.Checks.{IsChecked}
+use Rattle.bloom_ast.specs.declared.program.Program.TheVariants.{Module}
 use Rattle.bloom_ast.specs.Equations.{end_env}
 use Rattle.bloom_ast.specs.Form.{RuleForm, Accepted}
 use Rattle.bloom_ast.specs.Lookup.{declared}
-use Rattle.bloom_ast.specs.Program.{IsStock}
 use Rattle.bloom_ast.specs.ProgramStep.{outputs_of_step}
 use Rattle.bloom_ast.specs.Query.{Name, Query}
 use Rattle.bloom_ast.specs.Rows.{rows_of}
 use Rattle.bloom_ast.specs.Step.{Sets, set_at}
+use Rattle.bloom_ast.specs.Steps.{tables_after_steps, AreArrivals}
 use Rattle.path_annotate.specs.Annotation.{roots_of_output}
-use Rattle.path_annotate.specs.Copies.{tables_after_steps, AreArrivals, feeds_query, feeds_output, HasOrigin}
+use Rattle.path_annotate.specs.Copies.{feeds_query, feeds_output, HasOrigin}
 use Rattle.path_annotate.specs.HeadRoots.{roots_named, roots_table}
 use Rattle.path_annotate.specs.Roots.{Roots, roots_of}
-
--- a module that was checked, or a stock body whose numbers are those of columns
-abbrev pub IsProper : Program → Type 0
-IsProper (Module a) = IsChecked a.form a.heads
-IsProper (Split columns split) = IsStock (Split columns split)
-IsProper (Latest columns keys) = IsStock (Latest columns keys)
-IsProper (Number columns) = IsStock (Number columns)
 
 -- the rows of an expression in a step after some others
 abbrev pub rows_in_step : Accepted → (earlier : List Sets) → (now : Sets) → Query → List Row

@@ -1,26 +1,16 @@
 -- Tables whose rows at the end don't depend on the order of arrival.
-use Rattle.std.specs.Prelude.{ℕ, ◌&&◌, not, Bool, true, false, if◌then◌else◌, List, filter, bit_and, bit_or}
+use Rattle.std.specs.Prelude.{ℕ, ◌&&◌, not, Bool, if◌then◌else◌, List, bit_and, bit_or}
 use Rattle.std.specs.List.{list_all, fold}
 use Rattle.fd_closure.specs.Bits.{bit_of, meets}
 use Rattle.fd_closure.specs.Closure.{within}
 use Rattle.bloom_ast.specs.declared.module.Kind.TheVariants.{Table}
 use Rattle.bloom_ast.specs.declared.module.Collection.{Collection}
 use Rattle.bloom_ast.specs.Form.{RuleForm, Form, Accepted}
-use Rattle.bloom_ast.specs.Kinds.{same_kind, has_kind, is_scratch}
+use Rattle.bloom_ast.specs.Kinds.{same_kind}
 use Rattle.bloom_ast.specs.Query.{Query}
-use Rattle.bloom_ast.specs.Query.Query.{base, select, project, join, notin, group, at_least}
-use Rattle.bloom_ast.specs.Reads.{set_of_name, direct, kind_set, is_momentary}
+use Rattle.bloom_ast.specs.Reads.{direct, kind_set, is_momentary}
 use Rattle.bloom_ast.specs.Step.{rules_at}
-
--- no group and no notin stands in an expression
-abbrev pub is_plain : Query → Bool
-is_plain (base name) = true
-is_plain (select q f) = is_plain q
-is_plain (project q items) = is_plain q
-is_plain (join a b pairs) = is_plain a && is_plain b
-is_plain (notin a b pairs) = false
-is_plain (group q keys agg name) = false
-is_plain (at_least q keys bound) = is_plain q
+use Rattle.bloom_ast.specs.Plain.{is_free}
 
 -- the tables of a module
 abbrev pub all_tables : List Collection → ℕ
@@ -32,14 +22,6 @@ tables_read cs rules q = bit_and (all_tables cs) (direct cs rules q)
 
 abbrev pub reads_table : List Collection → List RuleForm → Query → Bool
 reads_table cs rules q = meets (all_tables cs) (direct cs rules q)
-
--- the rules of the scratches that an expression reads, directly or through other scratches
-abbrev pub scratch_rules_read : List Collection → List RuleForm → Query → List RuleForm
-scratch_rules_read cs rules q = filter (λ rule. has_kind is_scratch cs rule.0 && meets (set_of_name cs rule.0) (direct cs rules q)) rules
-
--- no group and no notin stands in an expression, nor in a scratch that it reads
-abbrev pub is_free : List Collection → List RuleForm → Query → Bool
-is_free cs rules q = is_plain q && list_all (λ rule. is_plain rule.1) (scratch_rules_read cs rules q)
 
 -- all tables that an expression reads are good, where these are
 abbrev pub reads_good : List Collection → List RuleForm → (good : ℕ) → Query → Bool

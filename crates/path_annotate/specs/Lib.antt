@@ -1,8 +1,8 @@
 pub mod Note
 pub mod Laws
-pub mod Numbers
 pub mod Roots
 pub mod HeadRoots
+pub mod Attributes
 pub mod RootsLaw
 pub mod Gates
 pub mod Good
@@ -10,6 +10,7 @@ pub mod ClosedForms
 pub mod Uses
 pub mod ReadLaws
 pub mod Annotation
+pub mod Given
 pub mod Copies
 pub mod CopiesLaw
 pub mod Code

@@ -8,11 +8,12 @@ use Rattle.bloom_ast.specs.declared.module.Collection.{Collection}
 use Rattle.bloom_ast.specs.Form.{RuleForm}
 use Rattle.bloom_ast.specs.Query.{Query}
 use Rattle.bloom_ast.specs.Reads.{arrows, direct, is_momentary}
+use Rattle.bloom_ast.specs.KindNumbers.{numbers_of_kind}
+use Rattle.bloom_ast.specs.Plain.{is_free}
 use Rattle.path_annotate.specs.declared.note.Note.{Note}
 use Rattle.path_annotate.specs.declared.note.Note.TheVariants.{CR, CW, OR, OW}
-use Rattle.path_annotate.specs.Good.{is_free, reads_good, reads_table}
+use Rattle.path_annotate.specs.Good.{reads_good, reads_table}
 use Rattle.path_annotate.specs.Note.{combine}
-use Rattle.path_annotate.specs.Numbers.{numbers_of_kind}
 
 -- two uses of one port, of which each may be missing
 abbrev pub both_uses : Option Note → Option Note → Option Note

@@ -5,7 +5,7 @@ ghost use Rattle.bloom_ast.specs.Checks.{IsChecked};
 ghost use Rattle.bloom_ast.specs.Kinds.{same_kind};
 ghost use Rattle.bloom_ast.specs.Program.{columns_of_kind};
 ghost use Rattle.bloom_ast.specs.Reads as reads;
-ghost use Rattle.path_annotate.specs.Numbers as spec;
+ghost use Rattle.bloom_ast.specs.KindNumbers as spec;
 
 use bloom_ast::{Checked, Collection, Kind};
 use fd_closure::Attrs;

@@ -11,13 +11,14 @@ use Rattle.bloom_ast.specs.Lookup.{collection_number, declared}
 use Rattle.bloom_ast.specs.Query.{Name}
 use Rattle.bloom_ast.specs.Reads as reads
 use Rattle.bloom_ast.specs.Reads.{arrow_from, bit_if, kind_set, with_all}
+use Rattle.bloom_ast.specs.Plain.{is_free, is_plain}
 use Rattle.path_annotate.specs.declared.readings.Graph.{Graph}
 use Rattle.path_annotate.specs.declared.readings.Reading.{Reading}
 use Rattle.path_annotate.specs.declared.readings.Readings.{Readings}
 use Rattle.path_annotate.specs.declared.readings.RuleFacts.{RuleFacts}
 use Rattle.path_annotate.specs.ClosedForms.{behind, bad_tables}
 use Rattle.path_annotate.specs.Gates.{all_attributes, in_all, operator_sets, query_gate}
-use Rattle.path_annotate.specs.Good.{all_tables, is_free, is_plain}
+use Rattle.path_annotate.specs.Good.{all_tables}
 use Rattle.path_annotate.specs.HeadRoots.{roots_named, roots_table}
 
 -- ---- of a module

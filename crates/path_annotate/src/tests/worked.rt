@@ -4,7 +4,7 @@ ghost use Rattle.bloom_ast.specs.Program.{IsStock};
 
 use super::written::{attributes, names, note, program, root, set};
 use crate::{Note, annotate, gate_of, roots};
-use bloom_ast::Program;
+use bloom_ast::{Program, repeats_column};
 use blz_value::Items;
 use fd_closure::AttrNames;
 use std::alloc::{AllocError, Global};
@@ -299,6 +299,8 @@ fn split(rt: &impl Abort, alloc: Global, columns: &str, split: u32) -> Result<Pr
 {
     let columns = names(alloc, columns)?;
     assert!(rt; columns.as_slice().len() <= 8 && (split as usize) < columns.as_slice().len());
+    let twice = repeats_column(alloc, columns.as_slice())?;
+    assert!(rt; !twice);
     Ok(Program::Split { columns, split })
 }
 
@@ -308,6 +310,8 @@ fn latest(rt: &impl Abort, alloc: Global, columns: &str) -> Result<Program, Allo
 {
     let columns = names(alloc, columns)?;
     assert!(rt; columns.as_slice().len() == 2);
+    let twice = repeats_column(alloc, columns.as_slice())?;
+    assert!(rt; !twice);
     let mut keys = Vec::new(alloc);
     keys.push(0)?;
     Ok(Program::Latest {
@@ -321,6 +325,8 @@ fn number(rt: &impl Abort, alloc: Global, columns: &str) -> Result<Program, Allo
 {
     let columns = names(alloc, columns)?;
     assert!(rt; columns.as_slice().len() <= 8);
+    let twice = repeats_column(alloc, columns.as_slice())?;
+    assert!(rt; !twice);
     Ok(Program::Number { columns })
 }
 

@@ -1,7 +1,7 @@
 use Rattle.std.proofs.Common.{◌≡◌, ◌++◌, map, filter, drop}
 use Rattle.std.specs.List.{enumerate_from}
 use Rattle.bloom_ast.specs.Kinds.{same_kind}
-use Rattle.path_annotate.specs.Numbers as spec
+use Rattle.bloom_ast.specs.KindNumbers as spec
 use Rattle.path_annotate.proofs.kinds.numbers_of_kind.Given as goal
 
 abbrev pub invariant-loop-i : goal.invariant-loop-i

@@ -1,0 +1,3 @@
+-- The shard law.
+pub mod CopiedSteps
+pub mod ShardLaw

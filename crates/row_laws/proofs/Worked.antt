@@ -1,0 +1,4 @@
+-- Worked cases.
+pub mod Runs
+pub mod Latest
+pub mod Premises

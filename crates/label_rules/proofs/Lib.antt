@@ -1,5 +1,5 @@
-pub mod Range
+pub mod LabelLemmas
 pub mod Worst
-pub mod NoBetter
-pub mod Rows
-pub mod Monotone
+pub mod NoBetterLaw
+pub mod PathTableLemmas
+pub mod MonotoneLaw

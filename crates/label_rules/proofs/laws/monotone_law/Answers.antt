@@ -1,4 +1,4 @@
-use Rattle.label_rules.proofs.Monotone.{monotone_in_given, monotone_in_read}
+use Rattle.label_rules.proofs.MonotoneLaw.{monotone_in_given, monotone_in_read}
 use Rattle.label_rules.proofs.laws.monotone_law.Goals as goal
 
 pub returns-clause-given : goal.returns-clause-given

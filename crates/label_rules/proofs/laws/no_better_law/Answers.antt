@@ -1,4 +1,4 @@
-use Rattle.label_rules.proofs.NoBetter.{no_better_than_given, no_better_than_read}
+use Rattle.label_rules.proofs.NoBetterLaw.{no_better_than_given, no_better_than_read}
 use Rattle.label_rules.proofs.laws.no_better_law.Goals as goal
 
 pub returns-clause-given : goal.returns-clause-given

@@ -15,7 +15,7 @@ use Rattle.label_rules.specs.Label.{severity}
 use Rattle.label_rules.specs.PathTable.{is_mode_key, label_read, over}
 use Rattle.label_rules.specs.Reconciliation.{settled, is_protected, all_settled, reconcile}
 use Rattle.label_rules.specs.Laws.{path_label, best_of, DivergesAtOutputs, NoBetterThanGiven, NoBetterThanRead}
-use Rattle.label_rules.proofs.Range.{least_severity}
+use Rattle.label_rules.proofs.LabelLemmas.{least_severity}
 use Rattle.label_rules.proofs.Worst.{IsNoMore, no_more-first_worst}
 
 All-unmapped : {X Y : Type 0} (P : Y → Type 0) (f : X → Y) (xs : List X) → All P (map f xs) → All (λ x. P (f x)) xs

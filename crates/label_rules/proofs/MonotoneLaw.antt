@@ -1,5 +1,6 @@
 -- A less severe label that goes in never gives a more severe output.
 use Rattle.std.proofs.Common.{◌≡◌, ◌<◌, ◌≤◌, ℕ, Bool, true, false, nat_lt, ◌&&◌, refl, ap, sym, ◌∙◌, arith, List, [], ◌∷◌, ◌++◌, map, ◌⊎◌, inl, inr}
+use Rattle.std.specs.Cmp.{first_so, second_so}
 use Rattle.std.specs.Cmp.Derive.{both_true}
 use Rattle.std.specs.List.{All, list_all}
 use Rattle.std.proofs.lemmas.Bool.{eqb-true, ltb-true, ltb-false}
@@ -19,9 +20,9 @@ use Rattle.label_rules.specs.Label.{severity}
 use Rattle.label_rules.specs.PathTable.{is_mode_key, label_read, over, pass_path}
 use Rattle.label_rules.specs.Reconciliation.{base_label, settled_read, settled, is_covered, is_protected, first_worst, reconcile}
 use Rattle.label_rules.specs.Laws.{MonotoneInGiven, MonotoneInRead}
-use Rattle.label_rules.proofs.Range.{least_severity}
+use Rattle.label_rules.proofs.LabelLemmas.{least_severity}
 use Rattle.label_rules.proofs.Worst.{IsNoMore, no_more-first_worst, first_worst-no_more}
-use Rattle.label_rules.proofs.Rows.{IsAsGood, good-refl, ascends-lt, over_ascends}
+use Rattle.label_rules.proofs.PathTableLemmas.{IsAsGood, good-refl, ascends-lt, over_ascends}
 
 -- labels as they are read
 
@@ -106,17 +107,9 @@ path_good a b note columns mode fds h = elim (less_or_same _ _ h) [
 
 -- all paths
 
-first_of_both : (x y : Bool) → (x && y) ≡ true → x ≡ true
-first_of_both true y h = refl
-first_of_both false y h = h
-
-second_of_both : (x y : Bool) → (x && y) ≡ true → y ≡ true
-second_of_both true y h = h
-second_of_both false y h = cc
-
 list_all-kept : (test : PathLabel → Bool) (before after : List PathLabel) (p q : PathLabel) → (test q ≡ true → test p ≡ true) → list_all test (before ++ q ∷ after) ≡ true → list_all test (before ++ p ∷ after) ≡ true
-list_all-kept test [] after p q kept h = both_true (kept (first_of_both (test q) (list_all test after) h)) (second_of_both (test q) (list_all test after) h)
-list_all-kept test (x ∷ before) after p q kept h = both_true (first_of_both (test x) (list_all test (before ++ q ∷ after)) h) (list_all-kept test before after p q kept (second_of_both (test x) (list_all test (before ++ q ∷ after)) h))
+list_all-kept test [] after p q kept h = both_true (kept (first_so (test q) (list_all test after) h)) (second_so (test q) (list_all test after) h)
+list_all-kept test (x ∷ before) after p q kept h = both_true (first_so (test x) (list_all test (before ++ q ∷ after)) h) (list_all-kept test before after p q kept (second_so (test x) (list_all test (before ++ q ∷ after)) h))
 
 is_protected-kept : (mode : Mode) (fds : List Fd) (before after : List PathLabel) (p q : PathLabel) → IsAsGood fds p q → is_protected (before ++ q ∷ after) mode fds ≡ true → is_protected (before ++ p ∷ after) mode fds ≡ true
 is_protected-kept mode.Free fds before after p q good h = h

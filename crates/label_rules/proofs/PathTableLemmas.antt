@@ -15,7 +15,7 @@ use Rattle.label_rules.specs.declared.label.PathLabel.TheVariants as path
 use Rattle.label_rules.specs.Label.{severity}
 use Rattle.label_rules.specs.PathTable.{is_awaited, gate_read, over_confluent_read, over_confluent_write, over_ordered_read, over_ordered_write, over}
 use Rattle.label_rules.specs.Reconciliation.{base_label, settled_taint, settled_read, settled, is_covered}
-use Rattle.label_rules.proofs.Range.{greatest_severity}
+use Rattle.label_rules.proofs.LabelLemmas.{greatest_severity}
 
 -- in place of the second path label the first protects no less, and becomes nothing worse
 pub record IsAsGood (fds : List Fd) (a b : PathLabel) : Type 0 where

@@ -1,9 +1,21 @@
 -- Membership in lists that are made of others.
 use Rattle.std.proofs.Common.{◌≡◌, ℕ, zero, suc, ◌<◌, Bool, true, false, cond, List, [], ◌∷◌, ◌++◌, length, get_or, map, filter, refl, ap, ◌∙◌, sym, subst, inl, inr, ◌⊎◌, ◌||◌, arith}
-use Rattle.std.specs.List.{flat_map, list_any, All, Contains}
+use Rattle.std.specs.Cmp.{first_so, second_so}
+use Rattle.std.specs.List.{flat_map, list_all, list_any, All, Contains}
 use Rattle.blz_value.specs.Members.{Has, IsWithin, HaveEqualMembers}
 
 module _ {X : Type 0} where
+  -- a test that all elements pass
+
+  pub all_member : (p : X → Bool) (xs : List X) (x : X) → list_all p xs ≡ true → Has x xs → p x ≡ true
+  all_member p [] x passes h = absurd h
+  all_member p (y ∷ xs) x passes (inl e) = subst (λ z. p z ≡ true) e (first_so (p y) (list_all p xs) passes)
+  all_member p (y ∷ xs) x passes (inr h) = all_member p xs x (second_so (p y) (list_all p xs) passes) h
+
+  pub all_from : (p : X → Bool) (xs : List X) → ((x : X) → Has x xs → p x ≡ true) → list_all p xs ≡ true
+  all_from p [] each = refl
+  all_from p (y ∷ xs) each = rw (each y (inl refl)) (all_from p xs (λ x h. each x (inr h)))
+
   -- one list after another
 
   pub Has-append_left : (q : X) (xs ys : List X) → Has q xs → Has q (xs ++ ys)

@@ -2,12 +2,12 @@
 use Rattle.std.proofs.Common.{◌≡◌, ◌≢◌, ◌<◌, ◌*◌, ◌^◌, ◌%◌, ℕ, nat_lt, nat_eq, not, ◌||◌, true, false, refl, rules, arith, ◌⊎◌, inl, inr, bit_and, bit_or, ap, ◌∙◌, sym, subst}
 use Rattle.std.specs.Int.{bit_at, IsBitSet}
 use Rattle.std.proofs.Math.Bool.{or-false}
-use Rattle.std.proofs.lemmas.Bool.{cases_Bool, cases_eq, false_from_ne_true}
+use Rattle.std.proofs.lemmas.Bool.{cases_Bool, cases_eq, false_from_ne_true, true≢false}
 use Rattle.std.proofs.lemmas.Nat.{and_comm, and_le_l, and_le_r}
 use Rattle.std.proofs.lemmas.Nat.Bits.{bit_at-lt, bit_at_and, bit_at_or, bit_at-zero, bit_at-pow_same, bit_at-pow_other, same_from_bits}
 use Rattle.fd_closure.specs.Bits.{bit_of, meets}
 use Rattle.fd_closure.specs.Closure.{within}
-use Rattle.fd_closure.proofs.Within.{set_one, one_set, bit_cases, some_bit, bits-within, within-bits, within-trans, within-or_r}
+use Rattle.fd_closure.proofs.Within.{set_one, one_set, bit_cases, some_bit, bits-within, within-bits, within-refl, within-trans, within-or_r}
 
 -- sets with a number in common
 
@@ -38,7 +38,8 @@ pub bit_of-is : (n : ℕ) → n < 64 → bit_of n ≡ 2 ^ n
 unfolding bit_of
 bit_of-is n lt = let t : nat_lt n 64 ≡ true = search rules in rw t refl
 
-bit_of-above : (n : ℕ) → nat_lt n 64 ≡ false → bit_of n ≡ 0
+-- no number from 64 on is in a set
+pub bit_of-above : (n : ℕ) → nat_lt n 64 ≡ false → bit_of n ≡ 0
 unfolding bit_of
 bit_of-above n f = rw f refl
 
@@ -118,3 +119,21 @@ or-empty s = same_from_bits (bit_or s 0) s (λ k. omega (arith, bit_at_or s 0 k,
 
 pub in-none : (n s : ℕ) → meets (bit_of n) (bit_or s 0) ≡ meets (bit_of n) s
 in-none n s = ap (meets (bit_of n)) (or-empty s)
+
+-- a number is in the set of itself
+pub own-in : (n : ℕ) → n < 64 → meets (bit_of n) (bit_of n) ≡ true
+own-in n lt = within-meets n (bit_of n) lt (within-refl (bit_of n))
+
+-- a number that is in a set is small
+pub member_small : (n s : ℕ) → meets (bit_of n) s ≡ true → n < 64
+member_small n s h = elim (cases_Bool (nat_lt n 64)) [
+  | inl t ↦ search rules
+  | inr f ↦ absurd (meets-nonzero (bit_of n) s h (rw (bit_of-above n f) (omega (arith, and_le_l 0 s))))
+]
+
+-- a set of one number has no other
+pub one_number : (n m : ℕ) → n < 64 → meets (bit_of n) (bit_of m) ≡ true → m ≡ n
+one_number n m lt h = elim (cases_Bool (nat_lt m 64)) [
+  | inl t ↦ (let small : m < 64 = search rules in sym (no_other_bit m n small (in-bit n (bit_of m) lt h)))
+  | inr f ↦ absurd (let nothing : meets (bit_of n) 0 ≡ true = rw (bit_of-above m f) at h in true≢false (sym nothing ∙ in-empty n))
+]

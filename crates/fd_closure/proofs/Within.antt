@@ -1,7 +1,8 @@
 -- Sets in sets.
 use Rattle.std.proofs.Common.{◌≡◌, ◌≢◌, ◌≤◌, ◌<◌, ◌*◌, ◌^◌, ◌/◌, ◌%◌, ℕ, zero, suc, true, refl, rules, arith, eq-eqb, ◌⊎◌, inl, inr, bit_and, bit_or, ap, ◌∙◌, sym}
 use Rattle.std.specs.Int.{bit_at, IsBitSet}
-use Rattle.std.proofs.lemmas.Nat.{and_le_r, pow_pos}
+use Rattle.std.specs.Int.Bits.{and_self}
+use Rattle.std.proofs.lemmas.Nat.{and_assoc, and_comm, and_le_r, pow_pos}
 use Rattle.std.proofs.lemmas.Nat.Bits.{and_pow, bit_at-lt, bit_at-suc, bit_at_lowest, bit_at-zero, bit_at_and, bit_at_or, same_from_bits}
 use Rattle.fd_closure.specs.Closure.{within}
 
@@ -49,13 +50,18 @@ some_bit s some = let found = some_bit_by s s (omega arith) some in (found.0, on
 abbrev Below : ℕ → ℕ → Type 0
 Below a b = (k : ℕ) → bit_at a k ≤ bit_at b k
 
-within-and : (a b : ℕ) → within a b ≡ true → bit_and a b ≡ a
+-- a set is within another exactly where it is all that both have
+pub within-common : (a b : ℕ) → within a b ≡ true → bit_and a b ≡ a
 unfolding within
-within-and a b h = search rules
+within-common a b h = search rules
+
+pub common-within : (a b : ℕ) → bit_and a b ≡ a → within a b ≡ true
+unfolding within
+common-within a b e = eq-eqb _ _ e
 
 below-within : (a b : ℕ) → within a b ≡ true → Below a b
 below-within a b h k =
-    let bits : bit_at (bit_and a b) k ≡ bit_at a k = ap (λ n. bit_at n k) (within-and a b h) in
+    let bits : bit_at (bit_and a b) k ≡ bit_at a k = ap (λ n. bit_at n k) (within-common a b h) in
     omega (arith, bit_at_and a b k)
 
 within-below : (a b : ℕ) → Below a b → within a b ≡ true
@@ -82,7 +88,7 @@ within-trans a b c p q = within-below a c (λ k. omega (arith, below-within a b 
 
 -- a set within another is at most that one as a number
 pub within-le : (a b : ℕ) → within a b ≡ true → a ≤ b
-within-le a b h = omega (arith, within-and a b h, and_le_r a b)
+within-le a b h = omega (arith, within-common a b h, and_le_r a b)
 
 pub within-antisym : (a b : ℕ) → within a b ≡ true → within b a ≡ true → a ≡ b
 within-antisym a b p q = omega (arith, within-le a b p, within-le b a q)
@@ -104,3 +110,14 @@ or-within a b c p q = within-below (bit_or a b) c (λ k. omega (arith, bit_at_or
 -- what is in already adds nothing
 pub or-absorbs : (a b : ℕ) → within b a ≡ true → bit_or a b ≡ a
 or-absorbs a b p = same_from_bits (bit_or a b) a (λ k. omega (arith, bit_at_or a b k, below-within b a p k))
+
+-- what both have
+
+pub and-within_l : (a b : ℕ) → within (bit_and a b) a ≡ true
+and-within_l a b = common-within _ a (and_comm (bit_and a b) a ∙ sym (and_assoc b a a) ∙ ap (λ n. bit_and n b) (and_self a))
+
+pub and-within_r : (a b : ℕ) → within (bit_and a b) b ≡ true
+and-within_r a b = common-within _ b (and_assoc b a b ∙ ap (λ n. bit_and a n) (and_self b))
+
+pub within-and : (a b c : ℕ) → within c a ≡ true → within c b ≡ true → within c (bit_and a b) ≡ true
+within-and a b c p q = common-within c _ (sym (and_assoc b c a) ∙ ap (λ n. bit_and n b) (within-common c a p) ∙ within-common c b q)

@@ -1,7 +1,7 @@
 //! The closure of a set of attributes under dependencies.
-ghost use Rattle.std.specs.Prelude.{ℕ, ◌≡◌, ◌↔◌, List, IsTrue};
+ghost use Rattle.std.specs.Prelude.{◌≡◌, ◌↔◌, IsTrue};
 ghost use Rattle.fd_closure.specs.Closure as spec;
-ghost use Rattle.fd_closure.specs.Closure.{within, IsLeastClosed, IsCompatible};
+ghost use Rattle.fd_closure.specs.Closure.{IsLeastClosed, IsCompatible};
 
 use crate::attrs::{Attrs, Fd};
 
@@ -42,12 +42,3 @@ pub fn compatible(gate: Attrs, key: Attrs, fds: &[Fd]) -> bool
 {
     !key.is_empty() && key.is_within(closure(gate, fds))
 }
-
-/// A law: each set has one closure, a larger set has no smaller one, and a closure is its own
-/// closure.
-pub fn closure_law()
-    ensures some { (start : ℕ) (fds : List Fd) → (s : ℕ) × IsLeastClosed start fds s }
-    ensures one { (start : ℕ) (fds : List Fd) (s t : ℕ) → IsLeastClosed start fds s → IsLeastClosed start fds t → s ≡ t }
-    ensures monotone { (a b : ℕ) (fds : List Fd) (s t : ℕ) → IsTrue (within a b) → IsLeastClosed a fds s → IsLeastClosed b fds t → IsTrue (within s t) }
-    ensures idempotent { (start : ℕ) (fds : List Fd) (s : ℕ) → IsLeastClosed start fds s → IsLeastClosed s fds s }
-{}

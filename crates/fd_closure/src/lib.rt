@@ -3,10 +3,12 @@
 
 mod attrs;
 mod closing;
+mod laws;
 mod names;
 #[cfg(test)]
 mod tests;
 
 pub use attrs::{Attrs, Fd};
-pub use closing::{closure, closure_law, compatible};
+pub use closing::{closure, compatible};
+pub use laws::closure_law;
 pub use names::{AttrNames, NamesFault};

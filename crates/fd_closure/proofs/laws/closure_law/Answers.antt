@@ -1,7 +1,7 @@
 use Rattle.fd_closure.specs.Closure.{closure}
 use Rattle.fd_closure.proofs.Least.{closure-least}
 use Rattle.fd_closure.proofs.Reached.{least-one, least-monotone}
-use Rattle.fd_closure.proofs.closing.closure_law.Goals as goal
+use Rattle.fd_closure.proofs.laws.closure_law.Goals as goal
 
 pub returns-clause-some : goal.returns-clause-some
 returns-clause-some c = λ start fds. (closure start fds, closure-least start fds)

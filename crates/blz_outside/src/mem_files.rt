@@ -130,6 +130,3 @@ fn find<'a>(files: &'a [(String, Vec<u8>)], name: &str) -> Option<&'a [u8]>
     }
     None
 }
-
-#[cfg(test)]
-mod tests;

@@ -11,6 +11,3 @@ mod value_ref;
 
 pub use fault::SetFault;
 pub use set::RecordSet;
-
-#[cfg(test)]
-mod tests;

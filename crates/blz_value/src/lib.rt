@@ -21,6 +21,3 @@ pub use test::{Op, Operand, Test, holds};
 pub use text::Str;
 pub use value::{Value, compare_values};
 pub use write::{write_escaped, write_record, write_value};
-
-#[cfg(test)]
-mod tests;

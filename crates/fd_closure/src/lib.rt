@@ -5,8 +5,6 @@ mod attrs;
 mod closing;
 mod laws;
 mod names;
-#[cfg(test)]
-mod tests;
 
 pub use attrs::{Attrs, Fd};
 pub use closing::{closure, compatible};

@@ -1,6 +1,7 @@
+//! Worked rows of the operators of record sets, and sets of as many rows as there may be.
 ghost use Rattle.std.specs.Prelude.{◌≡◌, IfOk, All, length};
 
-use super::*;
+use blz_set::{RecordSet, SetFault};
 use blz_value::{Agg, Op, Operand, Record, Str, Test, Value, write_record};
 use std::alloc::Global;
 use std::process::Abort;

@@ -1,8 +1,9 @@
-use super::*;
+//! Reads and writes at the ends in memory.
+use blz_outside::{End, Failed, Files, MemFiles, MemSink, ReadFail, Sink};
 use std::test::Fail;
 
 #[test]
-fn reads_of_one_source_in_turn(rt: HostRuntime) -> Result<(), Fail> {
+fn each_read_of_a_source_has_its_own_answer(rt: HostRuntime) -> Result<(), Fail> {
     let mut files = Vec::new(rt.alloc());
     for (name, bytes) in [("a", "abc"), ("empty", ""), ("a", "later")] {
         let name = String::from_str(rt.alloc(), name)?;
@@ -23,6 +24,22 @@ fn reads_of_one_source_in_turn(rt: HostRuntime) -> Result<(), Fail> {
         if was.is_ok() {
             assert_eq!(rt; into.as_slice(), bytes.as_bytes(), "{name} at {most}");
         }
+    }
+    Ok(())
+}
+
+#[test]
+fn a_put_keeps_as_much_as_fits(rt: HostRuntime) -> Result<(), Fail> {
+    for (piece, answer, kept) in [
+        ("", Ok(()), "ab"),
+        ("cd", Ok(()), "abcd"),
+        ("cde", Ok(()), "abcde"),
+        ("cdef", Err(Failed), "abcde"),
+    ] {
+        let mut sink = MemSink::new(rt.alloc(), 5)?;
+        assert_eq!(rt; sink.put(b"ab"), Ok(()));
+        assert_eq!(rt; sink.put(piece.as_bytes()), answer, "{piece}");
+        assert_eq!(rt; sink.bytes(), kept.as_bytes(), "{piece}");
     }
     Ok(())
 }

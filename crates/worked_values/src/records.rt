@@ -1,8 +1,10 @@
 //! Worked rows of the record order, of tests over records and of texts.
-ghost use Rattle.std.specs.Prelude.{◌≡◌, ◌++◌, ◌∷◌, [], IfOk, length, vec_len};
+ghost use Rattle.std.specs.Prelude.{◌≡◌, ◌∷◌, [], IfOk};
 ghost use Rattle.blz_value.specs.Test.{TestFits};
 
-use super::*;
+use blz_value::{
+    Op, Operand, Record, Str, Test, Value, compare, holds, write_escaped, write_record, write_value,
+};
 use std::alloc::{AllocError, Global};
 use std::test::Fail;
 

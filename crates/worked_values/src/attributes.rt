@@ -1,5 +1,6 @@
-use super::*;
+//! Sets of attributes, what dependencies add to them, and the places of names.
 use blz_value::Str;
+use fd_closure::{AttrNames, Attrs, Fd, NamesFault, closure, closure_law, compatible};
 use std::alloc::{AllocError, Global};
 use std::test::Fail;
 
@@ -24,47 +25,48 @@ fn sets_hold_the_attributes_of_their_bits(rt: HostRuntime) {
     closure_law();
 }
 
+// Gate, dependencies, closure of the gate, key, whether the key is compatible.
+const GATES: [(u64, &'static [(u64, u64)], u64, u64, bool); 11] = [
+    // No dependency.
+    (0b001, &[], 0b001, 0b001, true),
+    (0b001, &[], 0b001, 0b011, false),
+    // An empty key, also at an empty gate.
+    (0b001, &[], 0b001, 0, false),
+    (0, &[(0b01, 0b10)], 0, 0, false),
+    // A chain in the order of the file, and against it.
+    (
+        0b0001,
+        &[(0b0001, 0b0010), (0b0010, 0b0100), (0b0100, 0b1000)],
+        0b1111,
+        0b1000,
+        true,
+    ),
+    (
+        0b0001,
+        &[(0b0100, 0b1000), (0b0010, 0b0100), (0b0001, 0b0010)],
+        0b1111,
+        0b1010,
+        true,
+    ),
+    // No dependency leads backwards.
+    (0b10, &[(0b01, 0b10)], 0b10, 0b01, false),
+    // Two attributes on the left are both needed.
+    (0b001, &[(0b011, 0b100)], 0b001, 0b100, false),
+    (0b011, &[(0b011, 0b100)], 0b111, 0b100, true),
+    (
+        0b0001,
+        &[(0b0011, 0b1100), (0b0001, 0b0010)],
+        0b1111,
+        0b1100,
+        true,
+    ),
+    // The last attribute.
+    (1, &[(1, 1 << 63)], (1 << 63) + 1, 1 << 63, true),
+];
+
 #[test]
 fn a_key_is_compatible_where_the_gate_leads_to_all_of_it(rt: HostRuntime) -> Result<(), Fail> {
-    // Gate, dependencies, closure of the gate, key, whether the key is compatible.
-    let rows: [(u64, &'static [(u64, u64)], u64, u64, bool); 11] = [
-        // No dependency.
-        (0b001, &[], 0b001, 0b001, true),
-        (0b001, &[], 0b001, 0b011, false),
-        // An empty key, also at an empty gate.
-        (0b001, &[], 0b001, 0, false),
-        (0, &[(0b01, 0b10)], 0, 0, false),
-        // A chain in the order of the file, and against it.
-        (
-            0b0001,
-            &[(0b0001, 0b0010), (0b0010, 0b0100), (0b0100, 0b1000)],
-            0b1111,
-            0b1000,
-            true,
-        ),
-        (
-            0b0001,
-            &[(0b0100, 0b1000), (0b0010, 0b0100), (0b0001, 0b0010)],
-            0b1111,
-            0b1010,
-            true,
-        ),
-        // No dependency leads backwards.
-        (0b10, &[(0b01, 0b10)], 0b10, 0b01, false),
-        // Two attributes on the left are both needed.
-        (0b001, &[(0b011, 0b100)], 0b001, 0b100, false),
-        (0b011, &[(0b011, 0b100)], 0b111, 0b100, true),
-        (
-            0b0001,
-            &[(0b0011, 0b1100), (0b0001, 0b0010)],
-            0b1111,
-            0b1100,
-            true,
-        ),
-        // The last attribute.
-        (1, &[(1, 1 << 63)], (1 << 63) + 1, 1 << 63, true),
-    ];
-    for (gate, pairs, reached, key, wanted) in rows {
+    for (gate, pairs, reached, key, wanted) in GATES {
         let mut fds = Vec::new(rt.alloc());
         for (from, to) in pairs {
             fds.push(Fd {

@@ -1,0 +1,11 @@
+//! Worked rows of values, records, sets, attributes and the ends in memory, over public calls.
+#![tactic(auto)]
+
+#[cfg(test)]
+mod attributes;
+#[cfg(test)]
+mod ends;
+#[cfg(test)]
+mod records;
+#[cfg(test)]
+mod sets;

@@ -1,5 +1,5 @@
 -- Files in memory, as callers see them.
-use Rattle.std.specs.Prelude.{ℕ, List, Option, option_map, find, String, Vec, string_bytes}
+use Rattle.std.specs.Prelude.{ℕ, ◌<◌, ◌≤◌, ◌⊎◌, List, Option, option_map, find, length, Contains, IsNone, IfSome, String, Vec, string_bytes}
 use Rattle.std.specs.Str.{bytes_eq}
 use Rattle.std.specs.declared.alloc.Global.{Global}
 
@@ -23,3 +23,11 @@ pub record MemFilesView : Type 0 where
   pub failing : List ℕ
   pub calls : ℕ
   pub faults : ℕ
+
+-- the call of this number is to fail, or no file has the name
+abbrev pub FailsAt : MemFilesView → ℕ → List ℕ → Type 0
+FailsAt source call name = Contains source.failing call ⊎ IsNone (bytes_at source.files name)
+
+-- a file with the name is within the limit, and there isn't room for it
+abbrev pub TakesMemory : MemFilesView → List ℕ → ℕ → ℕ → Type 0
+TakesMemory source name most room = IfSome (bytes_at source.files name) (λ bytes. (length bytes ≤ most) × (room < length bytes))

@@ -1,8 +1,8 @@
 //! Files in memory, of which any call can be made to fail.
-ghost use Rattle.std.specs.Prelude.{◌≡◌, ◌<◌, ◌≤◌, ◌==◌, ◌⊎◌, ◌↔◌, [], Some, map, length, vec_len, vec_capacity, option_map, Contains, IfSome, IsErrOf, IsNone};
+ghost use Rattle.std.specs.Prelude.{◌≡◌, ◌<◌, ◌≤◌, ◌==◌, ◌↔◌, [], Some, map, length, vec_len, vec_capacity, option_map, IfSome, IsErrOf, IsNone};
 ghost use Rattle.blz_outside.specs.Counts.{raised_count};
 ghost use Rattle.blz_outside.specs.Files.{OnWhole, OnMore, OnFailed, UnlessFailed};
-ghost use Rattle.blz_outside.specs.MemFiles.{file_of, bytes_at};
+ghost use Rattle.blz_outside.specs.MemFiles.{file_of, bytes_at, FailsAt, TakesMemory};
 ghost use Rattle.blz_outside.specs.declared.files.ReadFail;
 
 use crate::counts::raise;
@@ -53,8 +53,7 @@ impl MemFiles {
 
     // The bytes of the file with the name, unless the last call counted is to fail.
     fn readable(&self, name: &str) -> Option<&[u8]>
-        ensures none { IsNone result ↔
-            (Contains self.now.failing self.now.calls ⊎ IsNone (bytes_at self.now.files name.now)) }
+        ensures none { IsNone result ↔ FailsAt self.now self.now.calls name.now }
         ensures some { IfSome result (λ bytes. bytes_at self.now.files name.now ≡ Some bytes.now) }
     {
         if self.failing.contains(&self.calls) {
@@ -82,8 +81,7 @@ impl Files for MemFiles {
 
         // The call is counted. It fails exactly where its number is listed or no file has the name.
         ensures counted { self.new.calls ≡ raised_count self.old.calls }
-        ensures fails { IsErrOf result ReadFail.Failed ↔
-            (Contains self.old.failing self.new.calls ⊎ IsNone (bytes_at self.old.files name.now)) }
+        ensures fails { IsErrOf result ReadFail.Failed ↔ FailsAt self.old self.new.calls name.now }
 
         // `Failed` is one fault more, and every other answer leaves the count.
         ensures never_falls { self.old.faults ≤ self.new.faults }
@@ -91,8 +89,7 @@ impl Files for MemFiles {
         ensures others_keep { UnlessFailed result (self.new.faults ≡ self.old.faults) }
 
         // `Whole` gives the bytes of a file that has at most `most`.
-        ensures whole_bytes { OnWhole result
-            (bytes_at self.old.files name.now ≡ Some into.new.items) }
+        ensures whole_bytes { OnWhole result (bytes_at self.old.files name.now ≡ Some into.new.items) }
         ensures whole_within { OnWhole result (vec_len into.new ≤ most) }
 
         // `More` gives none of the bytes of a file that has more.
@@ -102,8 +99,7 @@ impl Files for MemFiles {
 
         // Memory is taken only for a file that is to be read and that `into` has no room for.
         ensures no_memory { IsErrOf result ReadFail.NoMemory →
-            IfSome (bytes_at self.old.files name.now)
-            (λ bytes. (length bytes ≤ most) × (vec_capacity into.old < length bytes)) }
+            TakesMemory self.old name.now most (vec_capacity into.old) }
     {
         self.calls = raise(self.calls);
         let Some(bytes) = self.readable(name) else {

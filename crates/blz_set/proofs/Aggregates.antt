@@ -26,8 +26,8 @@ use Rattle.blz_value.proofs.SetLemmas.{sorted_set_by, Has-set_by, Has-from_set_b
 use Rattle.blz_set.specs.declared.entry.Entry.{Entry}
 use Rattle.blz_set.specs.declared.value_ref.ValueRef.{ValueRef}
 use Rattle.blz_set.specs.declared.value_ref.ValueRef.TheVariants.{Number}
-use Rattle.blz_set.specs.ValueRef.{value_of}
-use Rattle.blz_set.specs.Entry.{row_of, rows_of}
+use Rattle.blz_set.specs.Code.ValueRef.{value_of}
+use Rattle.blz_set.specs.Code.Entry.{row_of, rows_of}
 
 -- ---- a sum, row by row
 

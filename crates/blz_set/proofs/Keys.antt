@@ -23,10 +23,10 @@ use Rattle.blz_value.proofs.SetLaws.{sorted_set_of, Has-from_set_of, members_set
 use Rattle.blz_value.proofs.Membership.{Has-map, Has-from_map, Has-get_or, Contains-from_Has, Has-filter, Has-from_filter, map_members, filter_members}
 use Rattle.blz_value.proofs.RowSets.{same_set_of, is_set_of, set_of-push_above, set_of-push_present, length-set_of-le}
 use Rattle.blz_set.specs.declared.entry.Entry.{Entry}
-use Rattle.blz_set.specs.Entry.{row_of, rows_of}
-use Rattle.blz_set.specs.Groups.{grouped, is_often}
+use Rattle.blz_set.specs.Code.Entry.{row_of, rows_of}
+use Rattle.blz_set.specs.Code.Groups.{grouped, is_often}
 use Rattle.blz_set.specs.RecordSet.{IsRecordSet, row_limit}
-use Rattle.blz_set.specs.Index.{has_key, InOrder, HaveSameRuns}
+use Rattle.blz_set.specs.Code.Index.{has_key, InOrder, HaveSameRuns}
 use Rattle.blz_set.proofs.RecordSets.{length-filter-le, filter-push}
 
 pub rows_of-push : (refs : List Entry) (r : Entry) → rows_of (refs ++ r ∷ []) ≡ rows_of refs ++ (row_of r) ∷ []

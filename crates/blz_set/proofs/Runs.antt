@@ -17,8 +17,8 @@ use Rattle.blz_value.specs.Operators.{cells}
 use Rattle.blz_value.specs.Groups.{with_key}
 use Rattle.blz_value.proofs.Membership.{Has-from_any}
 use Rattle.blz_set.specs.declared.entry.Entry.{Entry}
-use Rattle.blz_set.specs.Entry.{row_of, rows_of, entry_key}
-use Rattle.blz_set.specs.Index.{HaveKeys, has_key, is_below, InOrder, StartsAt, HaveSameRuns}
+use Rattle.blz_set.specs.Code.Entry.{row_of, rows_of, entry_key}
+use Rattle.blz_set.specs.Code.Index.{HaveKeys, has_key, is_below, InOrder, StartsAt, HaveSameRuns}
 
 -- ---- filters
 

@@ -17,9 +17,3 @@ abbrev pub Becomes : {X : Type 0} → List Row → List Row → List Row → Res
 Becomes old rows new (Ok x) = (new ≡ rows) × (length rows ≤ row_limit)
 Becomes old rows new (Err TooManyRows) = (new ≡ old) × (row_limit < length rows)
 Becomes old rows new (Err NoMemory) = new ≡ old
-
--- the old rows grow by others; a fault may leave part of them
-abbrev pub Grows : {X : Type 0} → List Row → List Row → List Row → Result X SetFault → Type 0
-Grows old more new (Ok x) = (new ≡ set_of (old ++ more)) × (length new ≤ row_limit)
-Grows old more new (Err TooManyRows) = row_limit < length (set_of (old ++ more))
-Grows old more new (Err NoMemory) = Unit {0}

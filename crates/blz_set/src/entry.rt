@@ -2,7 +2,7 @@
 ghost use Rattle.std.specs.Prelude.{◌≡◌, length, IfOk};
 ghost use Rattle.blz_value.specs.Record.{record_cmp};
 ghost use Rattle.blz_value.specs.Operators.{cells};
-ghost use Rattle.blz_set.specs.Entry.{row_of, entry_key};
+ghost use Rattle.blz_set.specs.Code.Entry.{row_of, entry_key};
 
 use crate::value_ref::ValueRef;
 use blz_value::{Record, Value};

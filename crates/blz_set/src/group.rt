@@ -3,8 +3,8 @@ ghost use Rattle.std.specs.Prelude.{◌≡◌, ◌≤◌, ◌++◌, ◌∷◌, [
 ghost use Rattle.blz_value.specs.Operators.{cells};
 ghost use Rattle.blz_value.specs.Groups.{column_values, exact_sum, nearest, least, greatest, aggregate};
 ghost use Rattle.blz_set.specs.RecordSet.{row_limit};
-ghost use Rattle.blz_set.specs.Entry.{rows_of};
-ghost use Rattle.blz_set.specs.ValueRef.{value_of};
+ghost use Rattle.blz_set.specs.Code.Entry.{rows_of};
+ghost use Rattle.blz_set.specs.Code.ValueRef.{value_of};
 
 use crate::entry::{Entry, copy_cells};
 use crate::value_ref::ValueRef;

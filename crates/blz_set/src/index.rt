@@ -4,8 +4,8 @@ ghost use Rattle.std.specs.List.{list_any};
 ghost use Rattle.blz_value.specs.Sets.{set_of};
 ghost use Rattle.blz_value.specs.Operators.{cells, project_rows};
 ghost use Rattle.blz_value.specs.Groups.{with_key};
-ghost use Rattle.blz_set.specs.Entry.{rows_of};
-ghost use Rattle.blz_set.specs.Index.{HaveKeys, InOrder, has_key, StartsAt, HaveSameRuns};
+ghost use Rattle.blz_set.specs.Code.Entry.{rows_of};
+ghost use Rattle.blz_set.specs.Code.Index.{HaveKeys, InOrder, has_key, StartsAt, HaveSameRuns};
 
 use crate::entry::Entry;
 use blz_value::Record;

@@ -6,7 +6,8 @@ ghost use Rattle.blz_value.specs.Sets.{set_of};
 ghost use Rattle.blz_value.specs.Test.{test_holds, TestFits};
 ghost use Rattle.blz_value.specs.Operators.{select_rows, project_rows, join_rows, notin_rows};
 ghost use Rattle.blz_value.specs.Groups.{group_rows, at_least_rows};
-ghost use Rattle.blz_set.specs.RecordSet.{IsRecordSet, has_row, missing_from};
+ghost use Rattle.blz_set.specs.RecordSet.{IsRecordSet};
+ghost use Rattle.blz_set.specs.Code.Missing.{has_row, missing_from};
 ghost use Rattle.blz_set.specs.References.{shown};
 ghost use Rattle.blz_set.specs.Answers.{Gives, Becomes};
 
@@ -20,7 +21,7 @@ use std::alloc::{AllocError, Global};
 use std::marker::Model;
 
 /// The most rows of a set.
-const ROW_LIMIT: usize = 262_144;
+pub(crate) const ROW_LIMIT: usize = 262_144;
 
 /// At most 262,144 records, each once, in record order.
 #[derive(Debug, Drop)]

@@ -7,7 +7,7 @@ ghost use Rattle.std.specs.Ordering.{as_partial_cmp, eq_by_cmp, on};
 ghost use Rattle.blz_value.specs.Value.{value_cmp};
 ghost use Rattle.blz_value.specs.ValueOrder.{value_cmp_total};
 ghost use Rattle.blz_value.specs.Test.{cell};
-ghost use Rattle.blz_set.specs.ValueRef.{value_of};
+ghost use Rattle.blz_set.specs.Code.ValueRef.{value_of};
 
 use blz_value::{Record, Str, Value};
 use std::alloc::{AllocError, Global};

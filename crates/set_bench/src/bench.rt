@@ -8,9 +8,10 @@ use blz_value::{Agg, Op, Operand, Record, Str, Test, Value};
 use std::alloc::{AllocError, Global};
 use std::fmt;
 
-/// The least and the greatest number of rows that a bench may have.
+/// The least number of rows that a bench may have.
 pub const LEAST_ROWS: u32 = 10;
 
+/// The greatest number of rows that a bench may have.
 pub const MOST_ROWS: u32 = 170_000;
 
 /// What an operator gave.

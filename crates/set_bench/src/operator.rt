@@ -18,6 +18,7 @@ pub enum Operator {
 }
 
 impl Operator {
+    /// All of them, in the order in which they run.
     pub const ALL: [Operator; 11] = [
         Operator::FromRows,
         Operator::Copy,

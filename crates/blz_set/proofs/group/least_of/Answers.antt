@@ -6,8 +6,8 @@ use Rattle.blz_value.specs.Value.{value_cmp}
 use Rattle.blz_value.specs.Test.{cell}
 use Rattle.blz_set.specs.declared.value_ref.ValueRef.{ValueRef}
 use Rattle.blz_set.specs.declared.entry.Entry.{Entry}
-use Rattle.blz_set.specs.ValueRef.{value_of}
-use Rattle.blz_set.specs.Entry.{row_of}
+use Rattle.blz_set.specs.Code.ValueRef.{value_of}
+use Rattle.blz_set.specs.Code.Entry.{row_of}
 use Rattle.blz_set.proofs.Aggregates.{lesser, value_of-lesser, least_picked}
 use Rattle.blz_set.proofs.group.least_of.Goals as goal
 

@@ -2,7 +2,7 @@ use Rattle.std.proofs.Common.{◌∙◌, sym, ap, arith}
 use Rattle.std.proofs.lemmas.Int.{ints}
 use Rattle.blz_value.specs.Groups.{summand}
 use Rattle.blz_value.specs.Test.{cell}
-use Rattle.blz_set.specs.ValueRef.{value_of}
+use Rattle.blz_set.specs.Code.ValueRef.{value_of}
 use Rattle.blz_set.proofs.Aggregates.{exact_sum_step}
 use Rattle.blz_set.proofs.group.sum_of.Goals as goal
 use Rattle.blz_set.proofs.group.sum_of.Goals.{in-Number, in_default}

@@ -2,7 +2,7 @@
 use Rattle.std.proofs.Common.{◌≡◌, ◌*◌, ◌^◌, drop}
 use Rattle.std.specs.Prelude.{pos, ◌+ℤ◌, ◌≤ℤ◌}
 use Rattle.blz_value.specs.Groups.{column_values, exact_sum}
-use Rattle.blz_set.specs.Entry.{rows_of}
+use Rattle.blz_set.specs.Code.Entry.{rows_of}
 use Rattle.blz_set.proofs.group.sum_of.Given as goal
 
 abbrev pub invariant-loop-entry : goal.invariant-loop-entry

@@ -3,7 +3,7 @@ use Rattle.std.proofs.Common.{◌≡◌, ◌≤◌, ◌++◌, length, take, map}
 use Rattle.blz_value.specs.Sets.{set_of}
 use Rattle.blz_value.specs.Operators.{joined}
 use Rattle.blz_set.specs.RecordSet.{row_limit}
-use Rattle.blz_set.specs.Entry.{rows_of}
+use Rattle.blz_set.specs.Code.Entry.{rows_of}
 use Rattle.blz_set.proofs.join.add_joined.Given as goal
 
 abbrev pub invariant-loop-right : goal.invariant-loop-right

@@ -5,8 +5,8 @@ use Rattle.blz_value.specs.Members.{Has}
 use Rattle.blz_value.specs.Record.{Row, record_cmp}
 use Rattle.blz_value.specs.Operators.{cells, project_rows}
 use Rattle.blz_set.specs.declared.entry.Entry.{Entry}
-use Rattle.blz_set.specs.Entry.{row_of, rows_of, entry_key}
-use Rattle.blz_set.specs.Index.{HaveKeys, InOrder}
+use Rattle.blz_set.specs.Code.Entry.{row_of, rows_of, entry_key}
+use Rattle.blz_set.specs.Code.Index.{HaveKeys, InOrder}
 use Rattle.blz_set.proofs.Runs.{key_at}
 use Rattle.blz_set.proofs.Keys.{none_at_first, first_key, above_all, same_key}
 use Rattle.blz_set.proofs.index.Index.firsts.Goals as goal

@@ -2,7 +2,7 @@
 use Rattle.std.proofs.Common.{◌≡◌, take}
 use Rattle.blz_value.specs.Sets.{set_of}
 use Rattle.blz_value.specs.Operators.{project_rows}
-use Rattle.blz_set.specs.Entry.{rows_of}
+use Rattle.blz_set.specs.Code.Entry.{rows_of}
 use Rattle.blz_set.proofs.index.Index.firsts.Given as goal
 
 abbrev pub invariant-loop-i : goal.invariant-loop-i

@@ -3,7 +3,7 @@ use Rattle.std.specs.Ordering.{is_eq}
 use Rattle.std.proofs.lemmas.Bool.{le-ltb}
 use Rattle.blz_value.specs.Operators.{cells}
 use Rattle.blz_set.specs.declared.entry.Entry.{Entry}
-use Rattle.blz_set.specs.Entry.{entry_key}
+use Rattle.blz_set.specs.Code.Entry.{entry_key}
 use Rattle.blz_set.proofs.Runs.{compared, start_tells, none_starts}
 use Rattle.blz_set.proofs.index.Index.has_run.Goals as goal
 

@@ -5,8 +5,8 @@ use Rattle.blz_value.specs.Record.{record_cmp}
 use Rattle.blz_value.specs.RecordOrder.{record_cmp_total}
 use Rattle.blz_value.specs.Operators.{cells}
 use Rattle.blz_set.specs.declared.entry.Entry.{Entry}
-use Rattle.blz_set.specs.Entry.{row_of, entry_key}
-use Rattle.blz_set.specs.Index.{HaveKeys}
+use Rattle.blz_set.specs.Code.Entry.{row_of, entry_key}
+use Rattle.blz_set.specs.Code.Index.{HaveKeys}
 use Rattle.blz_set.proofs.Runs.{order_of_keys, sorted_runs, compares}
 use Rattle.blz_set.proofs.index.Index.new.Goals as goal
 

@@ -1,7 +1,7 @@
 -- the entries so far
 use Rattle.std.proofs.Common.{◌≡◌, take}
-use Rattle.blz_set.specs.Entry.{rows_of}
-use Rattle.blz_set.specs.Index.{HaveKeys}
+use Rattle.blz_set.specs.Code.Entry.{rows_of}
+use Rattle.blz_set.specs.Code.Index.{HaveKeys}
 use Rattle.blz_set.proofs.index.Index.new.Given as goal
 
 abbrev pub invariant-loop-row : goal.invariant-loop-row

@@ -3,7 +3,7 @@ use Rattle.std.specs.Ordering.{is_ne}
 use Rattle.blz_value.specs.Record.{record_cmp}
 use Rattle.blz_value.specs.Operators.{cells}
 use Rattle.blz_set.specs.declared.entry.Entry.{Entry}
-use Rattle.blz_set.specs.Entry.{row_of, rows_of, entry_key}
+use Rattle.blz_set.specs.Code.Entry.{row_of, rows_of, entry_key}
 use Rattle.blz_set.proofs.Runs.{compared, keys_from, run_to, run_all}
 use Rattle.blz_set.proofs.index.Index.run.Goals as goal
 

@@ -2,9 +2,9 @@
 use Rattle.std.proofs.Common.{◌≡◌, true}
 use Rattle.std.specs.List.{AllWithin}
 use Rattle.blz_set.specs.declared.entry.Entry.{Entry}
-use Rattle.blz_set.specs.Entry.{row_of}
+use Rattle.blz_set.specs.Code.Entry.{row_of}
 use Rattle.blz_value.specs.Operators.{cells}
-use Rattle.blz_set.specs.Index.{has_key}
+use Rattle.blz_set.specs.Code.Index.{has_key}
 use Rattle.blz_set.proofs.index.Index.run.Given as goal
 
 abbrev pub invariant-loop-i : goal.invariant-loop-i

@@ -4,8 +4,8 @@ use Rattle.std.proofs.lemmas.List.Sorted.{IsPartitionPoint-from_clause}
 use Rattle.blz_value.specs.Record.{Row, record_cmp}
 use Rattle.blz_value.specs.Operators.{cells}
 use Rattle.blz_set.specs.declared.entry.Entry.{Entry}
-use Rattle.blz_set.specs.Entry.{entry_key}
-use Rattle.blz_set.specs.Index.{HaveKeys, InOrder, StartsAt}
+use Rattle.blz_set.specs.Code.Entry.{entry_key}
+use Rattle.blz_set.specs.Code.Index.{HaveKeys, InOrder, StartsAt}
 use Rattle.blz_set.proofs.Runs.{below_parts, start_of_keys}
 use Rattle.blz_set.proofs.index.Index.start.Goals as goal
 

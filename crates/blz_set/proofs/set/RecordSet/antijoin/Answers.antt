@@ -5,7 +5,7 @@ use Rattle.blz_value.specs.Record.{Row}
 use Rattle.blz_value.specs.Operators.{agree, notin_rows}
 use Rattle.blz_set.specs.RecordSet.{IsRecordSet}
 use Rattle.blz_set.specs.declared.entry.Entry.{Entry}
-use Rattle.blz_set.specs.Entry.{row_of, rows_of}
+use Rattle.blz_set.specs.Code.Entry.{row_of, rows_of}
 use Rattle.blz_set.proofs.RecordSets.{filter_is_set, gives_filter, filter_step}
 use Rattle.blz_set.proofs.Joins.{has_agrees}
 use Rattle.blz_set.proofs.set.RecordSet.antijoin.Goals as goal

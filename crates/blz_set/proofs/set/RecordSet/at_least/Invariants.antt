@@ -1,8 +1,8 @@
 -- the keys so far that occur often
 use Rattle.std.proofs.Common.{◌≡◌, take, filter}
 use Rattle.blz_value.specs.Operators.{project_rows}
-use Rattle.blz_set.specs.Groups.{is_often}
-use Rattle.blz_set.specs.Entry.{rows_of}
+use Rattle.blz_set.specs.Code.Groups.{is_often}
+use Rattle.blz_set.specs.Code.Entry.{rows_of}
 use Rattle.blz_set.proofs.set.RecordSet.at_least.Given as goal
 
 abbrev pub invariant-loop-first : goal.invariant-loop-first

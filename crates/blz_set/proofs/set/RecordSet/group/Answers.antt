@@ -3,9 +3,9 @@ use Rattle.blz_value.specs.Record.{Row}
 use Rattle.blz_value.specs.Operators.{cells, project_rows}
 use Rattle.blz_value.specs.Groups.{with_key, group_rows}
 use Rattle.blz_set.specs.RecordSet.{row_limit}
-use Rattle.blz_set.specs.Groups.{grouped}
+use Rattle.blz_set.specs.Code.Groups.{grouped}
 use Rattle.blz_set.specs.declared.entry.Entry.{Entry}
-use Rattle.blz_set.specs.Entry.{row_of, rows_of}
+use Rattle.blz_set.specs.Code.Entry.{row_of, rows_of}
 use Rattle.blz_set.proofs.RecordSets.{set_is_set, gives_set}
 use Rattle.blz_set.proofs.Keys.{keys_are, run_is, length-run-le, grouped_set, grouped_few}
 use Rattle.blz_set.proofs.set.RecordSet.group.Goals as goal

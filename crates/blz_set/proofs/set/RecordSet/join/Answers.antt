@@ -4,7 +4,7 @@ use Rattle.blz_value.specs.Sets.{set_of}
 use Rattle.blz_value.specs.Operators.{agree, joined, join_rows}
 use Rattle.blz_set.specs.RecordSet.{row_limit}
 use Rattle.blz_set.specs.declared.entry.Entry.{Entry}
-use Rattle.blz_set.specs.Entry.{row_of, rows_of}
+use Rattle.blz_set.specs.Code.Entry.{row_of, rows_of}
 use Rattle.blz_set.specs.Answers.{Gives}
 use Rattle.blz_set.proofs.RecordSets.{set_is_set}
 use Rattle.blz_set.proofs.Unions.{handed_on}

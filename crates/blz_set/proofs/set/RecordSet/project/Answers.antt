@@ -2,7 +2,7 @@ use Rattle.std.proofs.Common.{◌∙◌, ap, arith, length, take_all, List}
 use Rattle.blz_value.specs.Record.{Row}
 use Rattle.blz_value.specs.Operators.{project_rows}
 use Rattle.blz_set.specs.declared.entry.Entry.{Entry}
-use Rattle.blz_set.specs.Entry.{row_of, rows_of}
+use Rattle.blz_set.specs.Code.Entry.{row_of, rows_of}
 use Rattle.blz_set.proofs.RecordSets.{set_is_set, gives_set}
 use Rattle.blz_set.proofs.Keys.{keys_are, keys_few}
 use Rattle.blz_set.proofs.set.RecordSet.project.Goals as goal

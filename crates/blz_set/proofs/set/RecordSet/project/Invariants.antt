@@ -1,7 +1,7 @@
 -- the keys so far
 use Rattle.std.proofs.Common.{◌≡◌, take}
 use Rattle.blz_value.specs.Operators.{project_rows}
-use Rattle.blz_set.specs.Entry.{rows_of}
+use Rattle.blz_set.specs.Code.Entry.{rows_of}
 use Rattle.blz_set.proofs.set.RecordSet.project.Given as goal
 
 abbrev pub invariant-loop-first : goal.invariant-loop-first

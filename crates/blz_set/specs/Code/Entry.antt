@@ -3,7 +3,7 @@ use Rattle.std.specs.Prelude.{ℕ, List, [], ◌∷◌, map}
 use Rattle.blz_value.specs.Record.{Row}
 use Rattle.blz_value.specs.Operators.{cells}
 use Rattle.blz_set.specs.declared.entry.Entry.{Entry}
-use Rattle.blz_set.specs.ValueRef.{value_of}
+use Rattle.blz_set.specs.Code.ValueRef.{value_of}
 
 -- the row of an entry, and the rows of entries
 abbrev pub row_of : Entry → Row

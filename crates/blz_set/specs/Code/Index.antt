@@ -7,7 +7,7 @@ use Rattle.blz_value.specs.Record.{Row, record_cmp}
 use Rattle.blz_value.specs.Operators.{cells}
 use Rattle.blz_value.specs.Groups.{with_key}
 use Rattle.blz_set.specs.declared.entry.Entry.{Entry}
-use Rattle.blz_set.specs.Entry.{row_of, entry_key}
+use Rattle.blz_set.specs.Code.Entry.{row_of, entry_key}
 
 -- each entry has its row's values in some columns
 abbrev pub HaveKeys : List ℕ → List Entry → Type 0

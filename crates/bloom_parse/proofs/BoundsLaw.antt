@@ -1,11 +1,10 @@
 -- A rule passes the bounds exactly where no rule of the grammar has its printed text, or a text literal is long.
-use Rattle.std.proofs.Common.{◌≡◌, ◌↔◌, ℕ, zero, suc, ◌+◌, ◌≤◌, ◌||◌, ℤ, pos, ◌≤ℤ◌, Bool, true, false, nat_lt, List, [], ◌∷◌, ◌++◌, map, drop, Result, Ok, Err, ◌⊎◌, inl, inr, refl, sym, ap, subst, ◌∙◌, append_assoc, arith}
+use Rattle.std.proofs.Common.{◌≡◌, ℕ, zero, suc, ◌+◌, ◌≤◌, ◌||◌, Bool, false, nat_lt, List, [], ◌∷◌, ◌++◌, map, drop, Ok, ◌⊎◌, inl, inr, refl, sym, ap, subst, ◌∙◌, append_assoc, arith}
 use Rattle.std.proofs.lemmas.Grind.{common_steps}
 use Rattle.std.proofs.lemmas.List.Folds.{list_any-append}
 use Rattle.std.specs.List.{list_any}
 use Rattle.bloom_ast.specs.Bounds as bounds
-use Rattle.bloom_ast.specs.Bounds.{is_long, has_long_literal, formulas_of, query_levels, passes_bounds}
-use Rattle.bloom_ast.specs.Form.{RuleForm}
+use Rattle.bloom_ast.specs.Bounds.{is_long, has_long_literal, formulas_of, query_levels}
 use Rattle.bloom_ast.specs.Query.{Formula, Query}
 use Rattle.bloom_ast.specs.Query.Formula.{compare, both, either, not_so}
 use Rattle.bloom_ast.specs.Query.Query.{base, select, project, join, notin, group, at_least}
@@ -14,10 +13,10 @@ use Rattle.bloom_parse.specs.declared.lexing.terminal.Terminal.{Terminal}
 use Rattle.bloom_parse.specs.declared.lexing.terminal.Terminal.TheVariants as terminals
 use Rattle.bloom_parse.specs.declared.lexing.terminal.Word.TheVariants as words
 use Rattle.bloom_parse.specs.declared.lexing.terminal.Mark.TheVariants as marks
-use Rattle.bloom_parse.specs.Bounds.{IsRuleText, HasShortLiterals, HasPositiveBounds}
+use Rattle.bloom_parse.specs.Bounds.{HasPositiveBounds}
 use Rattle.bloom_parse.specs.Laws.{BoundsLaw}
 use Rattle.bloom_parse.specs.Layout.{Levels, levels, item_of, tree_of, rule_tree}
-use Rattle.bloom_parse.specs.Trees.{UnitTree, AndsTree, OrsTree, Item, ExprTree, word, mark, unit_text, ands_text, ors_text, item_text, more_items_text, more_pairs_text, keys_text, agg_text, unit_size, ands_size, ors_size, UnitFits, AndsFit, OrsFit, expr_text, expr_query, ExprFits, rule_text}
+use Rattle.bloom_parse.specs.Trees.{UnitTree, AndsTree, OrsTree, Item, ExprTree, word, mark, unit_text, ands_text, ors_text, item_text, more_items_text, more_pairs_text, keys_text, agg_text, unit_size, ands_size, ors_size, UnitFits, AndsFit, OrsFit, expr_text, expr_query, ExprFits}
 use Rattle.bloom_parse.proofs.BoundsLemmas.{levels_count, tree_fits, low}
 use Rattle.bloom_parse.proofs.ExprComplete.{expr_again}
 use Rattle.bloom_parse.proofs.ExprCorrect.{IsExpr, ReadsExpr, expr_reads}

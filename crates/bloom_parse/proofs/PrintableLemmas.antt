@@ -1,6 +1,5 @@
 -- A checked module is printable, and so what is printed of it is its text.
-use Rattle.std.proofs.Common.{◌≡◌, ◌≢◌, ◌≤◌, ℕ, false, nat_lt, List, [], ◌∷◌, ◌++◌, map, drop, refl, sym, subst, inl, inr, arith}
-use Rattle.std.proofs.lemmas.Grind.{common_steps}
+use Rattle.std.proofs.Common.{◌≡◌, ◌≢◌, ◌≤◌, ℕ, false, nat_lt, List, [], ◌∷◌, ◌++◌, map, drop, refl, sym, subst, inl, inr}
 use Rattle.std.proofs.lemmas.List.Elements.{All-nil, All-cons}
 use Rattle.std.specs.List.{All, AllByRecursion, flat_map, list_any}
 use Rattle.blz_value.specs.Members.{Has}

@@ -1,5 +1,5 @@
 -- A text is read as what the grammar says of it: its module, or the place of its first fault.
-use Rattle.std.proofs.Common.{◌≡◌, ◌↔◌, ℕ, zero, suc, ◌+◌, ◌<◌, ◌≤◌, false, List, [], ◌∷◌, ◌++◌, length, length-append, Option, Some, None, Result, Ok, Err, ◌⊎◌, inl, inr, refl, sym, ap, subst, ◌∙◌, append_assoc, arith}
+use Rattle.std.proofs.Common.{◌≡◌, ℕ, zero, suc, ◌+◌, ◌<◌, ◌≤◌, false, List, [], ◌∷◌, ◌++◌, length, length-append, Some, None, Result, Ok, Err, inl, inr, refl, sym, ap, subst, ◌∙◌, append_assoc, arith}
 use Rattle.std.proofs.lemmas.Bool.{cases_lt}
 use Rattle.std.proofs.lemmas.List.{append-nil}
 use Rattle.bloom_ast.specs.Form.{Form}
@@ -11,7 +11,7 @@ use Rattle.bloom_parse.specs.Laws.{ReadsTexts, ReadsFaults}
 use Rattle.bloom_parse.specs.Parsing.{IsTextOf, IsFirstFault}
 use Rattle.bloom_parse.specs.Places.{IsModuleText, Begins, NoneGoesOn, IsFault}
 use Rattle.bloom_parse.specs.Reading.{Lexed, lexed_found, lexed_left, lexed_of, at_place, reading_of}
-use Rattle.bloom_parse.specs.Tokens.{Front, front, behind_blanks, last_of, Lexes, HasTokens, place_of, start_of}
+use Rattle.bloom_parse.specs.Tokens.{Front, front, behind_blanks, Lexes, HasTokens, place_of, start_of}
 use Rattle.bloom_parse.proofs.ModuleComplete.{text_again}
 use Rattle.bloom_parse.proofs.ParsingLemmas.{text_is}
 use Rattle.bloom_parse.proofs.PlacesCorrect.{read_is_text, fault_is_first}

@@ -30,6 +30,3 @@ pub use module::{Collection, Kind, Module, Rule};
 pub use numbered::{NumberedExpr, NumberedRule};
 pub use program::Program;
 pub use reserved::{has_own_names, is_reserved};
-
-#[cfg(test)]
-mod tests;

@@ -17,8 +17,3 @@ pub use lexing::token::{Class, Token};
 pub use parser::parse;
 pub use printer::print;
 pub use refusal::{ParseFault, TextFault};
-
-#[cfg(test)]
-mod module_tests;
-#[cfg(test)]
-mod tests;

@@ -18,6 +18,3 @@ pub use latest::LatestShell;
 pub use number::NumberShell;
 pub use plain::PlainShell;
 pub use split::SplitShell;
-
-#[cfg(test)]
-mod tests;

@@ -10,8 +10,6 @@ mod note;
 mod notes;
 mod readings;
 mod stock;
-#[cfg(test)]
-mod tests;
 mod tracing;
 mod uses;
 

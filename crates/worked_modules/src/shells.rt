@@ -5,9 +5,11 @@ ghost use Rattle.bloom_ast.specs.declared.program.Program.TheVariants.{Split as 
 ghost use Rattle.bloom_ast.specs.Program.{IsStock, port_columns, table_columns};
 ghost use Rattle.bloom_ast.specs.Widths.{AreSetsOf};
 
-use super::*;
-use bloom_ast::{Collection, Expr, Kind, Module, NamedAgg, Program, Rule, check, has_own_names};
+use crate::modules::TALLY;
+use crate::reading::program_of;
+use bloom_ast::Program;
 use bloom_eval::{Arrivals, Outs};
+use blz_boxes::{Component, LatestShell, NumberShell, PlainShell, SplitShell};
 use blz_set::RecordSet;
 use blz_value::{Items, Record, Str, Value, write_record};
 use std::alloc::{AllocError, Global};
@@ -100,57 +102,8 @@ fn put_and_ask(alloc: Global, pairs: &[(&str, i64)], asked: &str) -> Result<Arri
     Ok(Arrivals::from_sets(sets))
 }
 
-// Names divided by spaces.
-fn names(alloc: Global, text: &str) -> Result<Items<Str>, AllocError> {
-    let mut items = Vec::new(alloc);
-    for name in text.split(' ') {
-        items.push(Str::from_text(alloc, name)?)?;
-    }
-    Ok(Items::from_vec(items))
-}
-
-fn collection(
-    alloc: Global,
-    kind: Kind,
-    name: &str,
-    columns: &str,
-) -> Result<Collection, AllocError> {
-    Ok(Collection {
-        kind,
-        name: Str::from_text(alloc, name)?,
-        columns: names(alloc, columns)?,
-    })
-}
-
-fn rule(alloc: Global, head: &str, body: Expr) -> Result<Rule, AllocError> {
-    Ok(Rule {
-        head: Str::from_text(alloc, head)?,
-        body,
-    })
-}
-
-// A module that counts the clicks of each campaign.
-fn tally(alloc: Global) -> Result<Module, AllocError> {
-    let mut collections = Vec::new(alloc);
-    collections.push(collection(alloc, Kind::Input, "clicks", "campaign id")?)?;
-    collections.push(collection(alloc, Kind::Output, "sums", "campaign n")?)?;
-    collections.push(collection(alloc, Kind::Table, "seen", "campaign id")?)?;
-    let clicks = Expr::Base(Str::from_text(alloc, "clicks")?);
-    let seen = Box::new(alloc, Expr::Base(Str::from_text(alloc, "seen")?))?;
-    let keys = names(alloc, "campaign")?;
-    let counted = Expr::Group(seen, keys, NamedAgg::Count, Str::from_text(alloc, "n")?);
-    let mut rules = Vec::new(alloc);
-    rules.push(rule(alloc, "seen", clicks)?)?;
-    rules.push(rule(alloc, "sums", counted)?)?;
-    Ok(Module {
-        name: Str::from_text(alloc, "tally")?,
-        collections: Items::from_vec(collections),
-        rules: Items::from_vec(rules),
-    })
-}
-
 // What arrives at the one port of a program, which has two columns.
-#[tactic(auto, using(crate::proofs::Tables::one_port_wide))]
+#[tactic(auto, using(blz_boxes::proofs::Tables::one_port_wide))]
 fn one_port_of(
     rt: &impl Abort,
     alloc: Global,
@@ -261,9 +214,7 @@ fn step_twice(
 
 // Steps a shell of modules with the clicks of a tally, one after the other.
 fn step_tally(rt: &impl Abort, alloc: Global, shell: &mut Box<dyn Component>) -> Result<(), Fail> {
-    let written = tally(alloc)?;
-    assert!(rt; has_own_names(&written));
-    let program = Program::Module(check(alloc, &written)?);
+    let program = program_of(rt, alloc, TALLY)?;
     assert!(rt; program.table_count() == 1);
     assert!(rt; shell.fits(&program));
     shell.load(&program)?;
@@ -271,7 +222,7 @@ fn step_tally(rt: &impl Abort, alloc: Global, shell: &mut Box<dyn Component>) ->
 }
 
 #[test]
-fn boxed_shells(rt: HostRuntime) -> Result<(), Fail> {
+fn a_boxed_shell_steps_the_program_that_is_loaded(rt: HostRuntime) -> Result<(), Fail> {
     let alloc = rt.alloc();
     let mut shells: Vec<Box<dyn Component>> = Vec::new(alloc);
     shells.push(Box::new(alloc, PlainShell::new(alloc))?)?;
@@ -287,25 +238,24 @@ fn boxed_shells(rt: HostRuntime) -> Result<(), Fail> {
 }
 
 #[test]
-fn split_words(rt: HostRuntime) -> Result<(), Fail> {
+fn split_puts_out_each_word_with_its_place(rt: HostRuntime) -> Result<(), Fail> {
     let alloc = rt.alloc();
     let program = split_program(alloc)?;
     let now = one_port(alloc, &[(" b \t\r\na  b", 1), ("7", 2), (" ", 3)])?;
+    let expected = "(1, 1, \"b\")(1, 2, \"a\")(1, 3, \"b\")(2, 1, 7)";
     let mut shell: Box<dyn Component> = Box::new(alloc, SplitShell::new(alloc))?;
     assert!(rt; shell.fits(&program));
     shell.load(&program)?;
     let mut outs = Outs::from_sets(Vec::new(alloc));
     shell.step(&now, &mut outs)?;
-    expect_sets(
-        &rt,
-        alloc,
-        outs.sets(),
-        "(1, 1, \"b\")(1, 2, \"a\")(1, 3, \"b\")(2, 1, 7)",
-    )
+    expect_sets(&rt, alloc, outs.sets(), expected)?;
+    // It keeps nothing, so all that it puts out is new each time.
+    shell.step_changes(&now, &mut outs)?;
+    expect_sets(&rt, alloc, outs.sets(), expected)
 }
 
 #[test]
-fn number_records_once(rt: HostRuntime) -> Result<(), Fail> {
+fn number_gives_each_record_one_number(rt: HostRuntime) -> Result<(), Fail> {
     let alloc = rt.alloc();
     let program = number_program(alloc)?;
     let first = one_port(alloc, &[("8", 0), ("9", 0)])?;

@@ -1,9 +1,6 @@
 //! How notes combine and cover one another.
-mod worked;
-mod written;
-
-use crate::{Note, combine, covers};
 use fd_closure::Attrs;
+use path_annotate::{Note, combine, covers};
 
 const NONE: Attrs = Attrs { bits: 0 };
 

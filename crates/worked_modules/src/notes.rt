@@ -2,11 +2,15 @@
 ghost use Rattle.std.specs.Prelude.{IfOk};
 ghost use Rattle.bloom_ast.specs.Program.{IsStock};
 
-use super::written::{attributes, names, note, program, root, set};
-use crate::{Note, annotate, gate_of, roots};
+use crate::modules::{
+    ASKED_ONCE, CACHE, CAMPAIGN, COMMIT, COUNT, KEYED, LOOSE, NAME_SUMS, POOR, THRESHOLD,
+};
+use crate::reading::program_of;
+use crate::written::{attributes, names, note, root, set};
 use bloom_ast::{Program, repeats_column};
 use blz_value::Items;
 use fd_closure::AttrNames;
+use path_annotate::{Note, annotate, gate_of, roots};
 use std::alloc::{AllocError, Global};
 use std::process::Abort;
 use std::test::Fail;
@@ -97,163 +101,91 @@ fn expect_roots_and_gate(
     Ok(())
 }
 
-// A module, the names of its attributes, and its notes.
-#[derive(Clone, Copy)]
-struct Worked {
-    attributes: &'static str,
-    collections: &'static str,
-    rules: &'static str,
-    notes: &'static str,
-}
-
-const JOINED: &str = "input lefts k,x;input rights k,x;output joined k,n;table tl k,x;table tr k,x";
-
-const LOOSE_JOIN: &str = "tl lefts;tr rights;joined tl project:x=x tr join:x=x count:k";
-
-const KEYED_JOIN: &str = "tl lefts;tr rights;joined tl tr join:k=k,x=x count:k";
-
-const WORKED: [Worked; 10] = [
-    // Campaign.
-    Worked {
-        attributes: "campaign,id,uid",
-        collections: "input clicks campaign,id,uid;input requests id,campaign;output response id,campaign,n;table seen campaign,id,uid;scratch poor id,campaign,n",
-        rules: "seen clicks;poor seen count:id,campaign below:n;response requests poor join:id=id,campaign=campaign",
-        notes: "CW OR[campaign,id]",
-    },
-    // Poor performers: the report.
-    Worked {
-        attributes: "campaign,id,uid,n",
-        collections: "input clicks campaign,id,uid;input requests id;output response id,n;table seen campaign,id,uid;scratch poor id,n",
-        rules: "seen clicks;poor seen count:id below:n;response requests poor join:id=id",
-        notes: "CW OR[id]",
-    },
-    // Poor performers: the cache.
-    Worked {
-        attributes: "campaign,id,uid,n",
-        collections: "input response id,n;output answers id,n;table stored id,n",
-        rules: "stored response;answers stored",
-        notes: "CW",
-    },
-    // Threshold with kept requests.
-    Worked {
-        attributes: "id,uid",
-        collections: "input clicks id,uid;input requests id;output response id;table seen id,uid;table asked id",
-        rules: "seen clicks;asked requests;response asked seen thrice:id join:id=id",
-        notes: "CW CW",
-    },
-    // Threshold with momentary requests.
-    Worked {
-        attributes: "id,uid",
-        collections: "input clicks id,uid;input requests id;output response id;table seen id,uid",
-        rules: "seen clicks;response requests seen thrice:id join:id=id",
-        notes: "CW OR[id]",
-    },
-    // Name sums.
-    Worked {
-        attributes: "campaign,name,uid",
-        collections: "input clicks campaign,name,uid;output sums name,n;table seen campaign,name,uid",
-        rules: "seen clicks;sums seen count:name",
-        notes: "OW[name]",
-    },
-    // Loose join.
-    Worked {
-        attributes: "k,x",
-        collections: JOINED,
-        rules: LOOSE_JOIN,
-        notes: "OW[-] OW[-]",
-    },
-    // Keyed join.
-    Worked {
-        attributes: "k,x",
-        collections: JOINED,
-        rules: KEYED_JOIN,
-        notes: "OW[k] OW[k]",
-    },
-    // Word count: the counts.
-    Worked {
-        attributes: "id,text,batch,at,word,n",
-        collections: "input words id,batch,at,word;output counts word,batch,n;table seen id,batch,at,word",
-        rules: "seen words;counts seen count:word,batch",
-        notes: "OW[batch,word]",
-    },
-    // Word count: the commits.
-    Worked {
-        attributes: "id,text,batch,at,word,n",
-        collections: "input counts word,batch,n;output commits word,batch,n;table committed word,batch,n",
-        rules: "committed counts;commits committed",
-        notes: "CW",
-    },
+// Worked modules, the names of their attributes, and their notes.
+const WORKED: [(&'static str, &'static str, &'static str); 10] = [
+    (CAMPAIGN, "campaign,id,uid", "CW OR[campaign,id]"),
+    (POOR, "campaign,id,uid,n", "CW OR[id]"),
+    (CACHE, "campaign,id,uid,n", "CW"),
+    (THRESHOLD, "id,uid", "CW CW"),
+    (ASKED_ONCE, "id,uid", "CW OR[id]"),
+    (NAME_SUMS, "campaign,name,uid", "OW[name]"),
+    (LOOSE, "k,x", "OW[-] OW[-]"),
+    (KEYED, "k,x", "OW[k] OW[k]"),
+    (COUNT, "id,text,batch,at,word,n", "OW[batch,word]"),
+    (COMMIT, "id,text,batch,at,word,n", "CW"),
 ];
 
 #[test]
-fn notes_of_worked_modules(rt: HostRuntime) -> Result<(), Fail> {
+fn worked_modules_have_the_notes_found_by_hand(rt: HostRuntime) -> Result<(), Fail> {
     let alloc = rt.alloc();
-    for row in WORKED {
-        let names = attributes(alloc, row.attributes)?;
-        let program = program(alloc, row.collections, row.rules)?;
-        expect_all_notes(&rt, alloc, &program, &names, row.notes)?;
+    for (text, attribute_names, notes) in WORKED {
+        let names = attributes(alloc, attribute_names)?;
+        let program = program_of(&rt, alloc, text)?;
+        expect_all_notes(&rt, alloc, &program, &names, notes)?;
     }
     Ok(())
 }
 
-// Collections, rules and notes of modules; in notes `;` stands between outputs, a space between ports.
-const BY_THEIR_RULES: [(&'static str, &'static str, &'static str); 11] = [
+// Modules and their notes: `;` stands between outputs, a space between ports.
+const BY_THEIR_RULES: [(&'static str, &'static str); 11] = [
     // A port that no rule of an output uses.
     (
-        "input a x;input b x;output o x;output p x",
-        "o a;p b",
+        "module m; input a(x); input b(x); output o(x); output p(x); o <= a; p <= b;",
         "CR none;none CR",
     ),
     // A table that two ports feed, one of them through a table.
     (
-        "input a x;input b x;output o x;table t x;table u x",
-        "t a;u t;u b;o u",
+        "module m; input a(x); input b(x); output o(x); table t(x); table u(x);
+        t <= a; u <= t; u <= b; o <= u;",
         "CW CW",
     ),
     // A group in a table, in a scratch of a table, and in a scratch in front of the output.
     (
-        "input a x,y;output o x,n;table t x,y;table c x,n",
-        "t a;c t count:x;o c",
+        "module m; input a(x, y); output o(x, n); table t(x, y); table c(x, n);
+        t <= a; c <= group(t, [x], count as n); o <= c;",
         "OW[x]",
     ),
     (
-        "input a x,y;output o x,n;table t x,y;table c x,n;scratch s x,n",
-        "t a;s t count:x;c s;o c",
+        "module m; input a(x, y); output o(x, n); table t(x, y); table c(x, n); scratch s(x, n);
+        t <= a; s <= group(t, [x], count as n); c <= s; o <= c;",
         "OW[x]",
     ),
     (
-        "input a x,y;output o x,n;table t x,y;scratch s x,n",
-        "t a;s t count:x;o s",
+        "module m; input a(x, y); output o(x, n); table t(x, y); scratch s(x, n);
+        t <= a; s <= group(t, [x], count as n); o <= s;",
         "OW[x]",
     ),
     // A group behind what a port asks.
     (
-        "input a x,y;input q x;output o x,n;table t x,y;table c x,n",
-        "t a;c t count:x;o q c join:x=x",
+        "module m; input a(x, y); input q(x); output o(x, n); table t(x, y); table c(x, n);
+        t <= a; c <= group(t, [x], count as n); o <= join(q, c, x = x);",
         "OW[x] OR[x]",
     ),
     // A port that is read beside the table that it feeds.
     (
-        "input a x;output o x;table t x",
-        "t a;o a t join:x=x",
+        "module m; input a(x); output o(x); table t(x); t <= a; o <= join(a, t, x = x);",
         "OW[x]",
     ),
     // An antijoin of tables.
     (
-        "input a x,y;input b x;output o x,y;table t x,y;table u x",
-        "t a;u b;o t u notin:x=x",
+        "module m; input a(x, y); input b(x); output o(x, y); table t(x, y); table u(x);
+        t <= a; u <= b; o <= notin(t, u, x = x);",
         "OW[x] OW[x]",
     ),
     // Two rules of an output, whose uses combine.
-    ("input a x;output o x;table t x", "t a;o a;o t", "CW"),
     (
-        "input a x,y;output o x,n;table t x,y",
-        "t a;o t count:x;o t count:x,y project:y=x,n=n",
+        "module m; input a(x); output o(x); table t(x); t <= a; o <= a; o <= t;",
+        "CW",
+    ),
+    (
+        "module m; input a(x, y); output o(x, n); table t(x, y);
+        t <= a; o <= group(t, [x], count as n);
+        o <= project(group(t, [x, y], count as n), y as x, n);",
         "OW[x]",
     ),
     (
-        "input a x,y;output o x,n;table t x,y",
-        "t a;o t count:x;o t count:y",
+        "module m; input a(x, y); output o(x, n); table t(x, y);
+        t <= a; o <= group(t, [x], count as n); o <= group(t, [y], count as n);",
         "OW[-]",
     ),
 ];
@@ -262,33 +194,52 @@ const BY_THEIR_RULES: [(&'static str, &'static str, &'static str); 11] = [
 fn notes_follow_what_the_rules_read(rt: HostRuntime) -> Result<(), Fail> {
     let alloc = rt.alloc();
     let names = attributes(alloc, "x,y")?;
-    for (collections, rules, notes) in BY_THEIR_RULES {
-        let program = program(alloc, collections, rules)?;
+    for (text, notes) in BY_THEIR_RULES {
+        let program = program_of(&rt, alloc, text)?;
         expect_all_notes(&rt, alloc, &program, &names, notes)?;
     }
     Ok(())
 }
 
+// Collections for two tables.
+const APART: &str =
+    "module m; input a(k, x); input b(k); output o(k, x); table t(k, x); table u(k);";
+
 #[test]
-fn roots_of_joined_columns(rt: HostRuntime) -> Result<(), Fail> {
+fn a_column_keeps_the_root_that_all_its_rules_give_it(rt: HostRuntime) -> Result<(), Fail> {
     let alloc = rt.alloc();
     let names = attributes(alloc, "k,x")?;
-    let apart = "input a k,x;input b k;output o k,x;table t k,x;table u k";
     // Collections, rules, and the roots and the gate of the output.
     let table = [
-        (JOINED, LOOSE_JOIN, "-,-", "-"),
-        (JOINED, KEYED_JOIN, "k,-", "k"),
+        (LOOSE, "", "-,-", "-"),
+        (KEYED, "", "k,-", "k"),
         // A left column that isn't equated.
-        (apart, "t a;u b;o t u join:k=k", "k,-", "k"),
-        (apart, "t a;u b;o t u notin:k=k", "k,x", "k"),
+        (APART, "t <= a; u <= b; o <= join(t, u, k = k);", "k,-", "k"),
+        (
+            APART,
+            "t <= a; u <= b; o <= notin(t, u, k = k);",
+            "k,x",
+            "k",
+        ),
         // Two rules of the output.
-        (apart, "t a;o t;o t project:k=k,k=x", "k,-", "k,x"),
-        (apart, "t a;o t count:k;o t count:x", "-,-", "-"),
+        (
+            APART,
+            "t <= a; o <= t; o <= project(t, k, k as x);",
+            "k,-",
+            "k,x",
+        ),
+        (
+            APART,
+            "t <= a; o <= group(t, [k], count as n); o <= group(t, [x], count as n);",
+            "-,-",
+            "-",
+        ),
         // No rule at all.
-        (apart, "t a", "-,-", "k,x"),
+        (APART, "t <= a;", "-,-", "k,x"),
     ];
     for (collections, rules, columns, gate) in table {
-        let program = program(alloc, collections, rules)?;
+        let text = format!(in alloc; "{collections} {rules}")?;
+        let program = program_of(&rt, alloc, text.as_str())?;
         expect_roots_and_gate(&rt, alloc, &program, &names, columns, gate)?;
     }
     Ok(())
@@ -348,7 +299,7 @@ fn expect_stock(
 }
 
 #[test]
-fn notes_of_stock_bodies(rt: HostRuntime) -> Result<(), Fail> {
+fn stock_bodies_have_the_notes_found_by_hand(rt: HostRuntime) -> Result<(), Fail> {
     let alloc = rt.alloc();
     let columns = "id,text,batch";
     let program = split(&rt, alloc, columns, 1)?;

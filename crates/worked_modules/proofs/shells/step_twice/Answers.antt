@@ -1,6 +1,6 @@
 use Rattle.std.proofs.Common.{◌≡◌, ◌<◌, Some, length, arith, ◌∙◌, sym, subst}
 use Rattle.blz_boxes.proofs.Tables.{emptied_tables}
-use Rattle.blz_boxes.proofs.tests.step_twice.Goals as goal
+use Rattle.worked_modules.proofs.shells.step_twice.Goals as goal
 
 pub expect_table-requires-2-clause-table : goal.expect_table-requires-2-clause-table
 expect_table-requires-2-clause-table g c =

@@ -1,8 +1,5 @@
-//! Tokens and bad tokens of small texts, and predicates that need parentheses.
-use super::printer::{Place, push_expr, push_pred};
-use super::*;
-use bloom_ast::{Expr, Pred, Term};
-use blz_value::{Items, Op, Str, Value};
+//! Tokens and bad tokens of small texts.
+use bloom_parse::{Class, ParseFault, tokens};
 use std::alloc::{AllocError, Global};
 use std::process::Abort;
 use std::test::Fail;
@@ -126,44 +123,5 @@ fn sixty_four_bytes_are_the_most(rt: HostRuntime) -> Result<(), Fail> {
         place_of_bad(&rt, rt.alloc(), longer.as_bytes())?,
         Some((1, 1))
     );
-    Ok(())
-}
-
-fn is_one(alloc: Global, name: &str) -> Result<Box<Pred>, AllocError> {
-    Ok(Box::new(
-        alloc,
-        Pred::Compare {
-            left: Term::Column(Str::from_text(alloc, name)?),
-            op: Op::Eq,
-            right: Term::Literal(Value::Int(1)),
-        },
-    )?)
-}
-
-#[test]
-fn needed_parentheses_are_printed(rt: HostRuntime) -> Result<(), Fail> {
-    let alloc = rt.alloc();
-    let either = Box::new(alloc, Pred::Or(is_one(alloc, "a")?, is_one(alloc, "b")?))?;
-    let both = Box::new(alloc, Pred::And(is_one(alloc, "c")?, is_one(alloc, "d")?))?;
-    let left = Box::new(alloc, Pred::And(either, Box::new(alloc, Pred::Not(both))?))?;
-    let pred = Pred::Or(left, is_one(alloc, "e")?);
-    let mut text = Vec::new(alloc);
-    push_pred(alloc, &pred, Place::Whole, &mut text)?;
-    let expected = "(a = 1 or b = 1) and not (c = 1 and d = 1) or e = 1";
-    assert_eq!(rt; text.as_slice(), expected.as_bytes());
-    Ok(())
-}
-
-#[test]
-fn new_names_are_printed_where_they_differ(rt: HostRuntime) -> Result<(), Fail> {
-    let alloc = rt.alloc();
-    let mut items = Vec::new(alloc);
-    items.push((Str::from_text(alloc, "a")?, Str::from_text(alloc, "a")?))?;
-    items.push((Str::from_text(alloc, "b")?, Str::from_text(alloc, "c")?))?;
-    let part = Box::new(alloc, Expr::Base(Str::from_text(alloc, "t")?))?;
-    let expr = Expr::Project(part, Items::from_vec(items));
-    let mut text = Vec::new(alloc);
-    push_expr(alloc, &expr, &mut text)?;
-    assert_eq!(rt; text.as_slice(), b"project(t, a, b as c)".as_slice());
     Ok(())
 }

@@ -1,6 +1,6 @@
 use Rattle.std.proofs.Common.{arith}
 use Rattle.path_annotate.proofs.AnnotationLemmas.{within_ports, within_outputs}
-use Rattle.path_annotate.proofs.tests.worked.note_between.Goals as goal
+use Rattle.worked_modules.proofs.notes.note_between.Goals as goal
 
 pub at-requires-clause-port : goal.at-requires-clause-port
 at-requires-clause-port g c = within_ports c.args.names.now c.args.program.now c.in_ok-notes.notes c.args.port c.in_ok-notes.ensures.notes (omega arith)

@@ -11,7 +11,7 @@ use crate::status::Status;
 use blz_outside::End;
 use label_walk::{is_small, labels};
 use std::alloc::{AllocError, Global};
-use topo_read::{TopoTextFault, read};
+use topo_read::{TopoTextFault, read_small};
 use topo_types::Topology;
 
 /// The most bytes of a topology file.
@@ -48,8 +48,9 @@ fn reply_to_text(alloc: Global, text: &[u8]) -> Result<Reply, AllocError>
     ensures status { IfOk result (λ reply. IsFromChecks reply.status) }
     ensures answer { IfOk result (λ reply. AnswersChecked (check_document (document_of text.now)) (answer_of reply)) }
 {
-    match read(alloc, text) {
-        Ok(topology) => reply_to_topology(alloc, &topology),
+    match read_small(alloc, text) {
+        Ok(Some(topology)) => reply_to_topology(alloc, &topology),
+        Ok(None) => line_reply(alloc, Status::Refused, NOT_BUILT),
         Err(TopoTextFault::NotToml) => line_reply(alloc, Status::Refused, NOT_TOML),
         Err(TopoTextFault::Form { .. }) => line_reply(alloc, Status::Refused, NOT_BUILT),
         Err(TopoTextFault::NoMemory) => Err(AllocError),

@@ -1,6 +1,6 @@
 -- A list in front of what is read.
 use Rattle.std.specs.Prelude.{List, ◌++◌, Option, option_map, Result, Ok, Err}
-use Rattle.topo_read.specs.Entries.{Path}
+use Rattle.topo_read.specs.Fields.{Path}
 
 abbrev pub with_front : {X : Type 0} → List X → Option (List X) → Option (List X)
 with_front front = option_map (λ others. front ++ others)

@@ -9,7 +9,7 @@ use Rattle.topo_read.specs.declared.fault.ValueFault.{ValueFault}
 use Rattle.topo_read.specs.declared.fault.ValueFault.TheVariants as value
 use Rattle.topo_read.specs.declared.fault.TopoTextFault.{TopoTextFault}
 use Rattle.topo_read.specs.declared.fault.TopoTextFault.TheVariants as text
-use Rattle.topo_read.specs.Entries.{Path}
+use Rattle.topo_read.specs.Fields.{Path}
 
 -- what a value gives, seen by view, unless memory ran out
 abbrev pub GivesValue : {X Y : Type 0} → (X → Y) → Result X ValueFault → Option Y → Type 0

@@ -1,7 +1,10 @@
 pub mod Document
 pub mod Values
 pub mod Tables
+pub mod Fields
 pub mod Entries
+pub mod Component
 pub mod Topology
+pub mod Small
 pub mod Gives
 pub mod Reading

@@ -4,7 +4,9 @@ use Rattle.std.specs.Fmt.{decimal}
 use Rattle.toml.specs.Data.{Members, as_table}
 use Rattle.topo_types.specs.declared.topology.Topology.{Topology}
 use Rattle.topo_read.specs.Values.{format_in}
-use Rattle.topo_read.specs.Entries.{◌>>=◌, Path, required, optional_list, only_keys, source_of, component_of, stream_of}
+use Rattle.topo_read.specs.Fields.{◌>>=◌, Path, required, optional_list, only_keys}
+use Rattle.topo_read.specs.Entries.{source_of, stream_of, fd_of}
+use Rattle.topo_read.specs.Component.{component_of}
 
 -- the list of tables under a top key, empty where the key is missing
 abbrev pub tables_at : List ℕ → Members → Result (List Members) Path
@@ -39,8 +41,10 @@ topology_of top = do
   source_tables ← tables_at (codes "source") top
   component_tables ← tables_at (codes "component") top
   stream_tables ← tables_at (codes "stream") top
-  only ← only_keys (codes "format" ∷ codes "source" ∷ codes "component" ∷ codes "stream" ∷ []) top
-  sources ← entries source_of (codes "source") source_tables
+  fd_tables ← tables_at (codes "fd") top
+  only ← only_keys (codes "format" ∷ codes "source" ∷ codes "component" ∷ codes "stream" ∷ codes "fd" ∷ []) top
+  sources ← entries (source_of format) (codes "source") source_tables
   components ← entries component_of (codes "component") component_tables
   streams ← entries stream_of (codes "stream") stream_tables
-  Ok (record { format = 2; sources = sources; components = components; streams = streams; fds = [] })
+  fds ← entries (fd_of format) (codes "fd") fd_tables
+  Ok (record { format = 2; sources = sources; components = components; streams = streams; fds = fds })

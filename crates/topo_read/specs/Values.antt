@@ -1,14 +1,21 @@
 -- What the value of a key gives: None where it isn't of the form that is wanted.
-use Rattle.std.specs.Prelude.{ℕ, ℤ, pos, negsuc, Bool, ◌==◌, nat_lt, List, [], ◌∷◌, length, Option, Some, None, if◌then◌else◌, codes}
+use Rattle.std.specs.Prelude.{ℕ, ℤ, pos, negsuc, Bool, ◌==◌, ◌&&◌, nat_lt, nat_le, List, [], ◌∷◌, length, Option, Some, None, if◌then◌else◌, codes}
 use Rattle.std.specs.List.{position_or_len, before_first, after_first}
 use Rattle.std.specs.Str.{bytes_eq}
 use Rattle.toml.specs.Data.{Data, Items, no_items, item, as_str, as_array, as_integer}
 use Rattle.blz_value.specs.Name.{is_name}
 use Rattle.topo_types.specs.declared.topology.Spot.{Spot}
+use Rattle.topo_types.specs.declared.topology.ColumnType.{ColumnType}
+use Rattle.topo_types.specs.declared.topology.ColumnType.TheVariants as types
 use Rattle.topo_types.specs.declared.topology.NoteName.{NoteName}
+use Rattle.topo_types.specs.declared.topology.NoteName.TheVariants as notes
+use Rattle.topo_types.specs.declared.topology.ModeName.{ModeName}
+use Rattle.topo_types.specs.declared.topology.ModeName.TheVariants as modes
 use Rattle.topo_read.specs.declared.values.Format.{Format}
 use Rattle.topo_read.specs.declared.values.Format.TheVariants.{One, Two}
-use Rattle.topo_types.specs.declared.topology.NoteName.TheVariants.{CR, CW, OR, OW}
+use Rattle.topo_read.specs.declared.values.FileName.{FileName}
+use Rattle.topo_read.specs.declared.values.StockName.{StockName}
+use Rattle.topo_read.specs.declared.values.StockName.TheVariants as stocks
 
 -- goes on with what was given
 infixl 10 ◌>>=◌
@@ -73,17 +80,71 @@ spot_of text = do
 abbrev pub spot_in : Data → Option Spot
 spot_in value = as_str value >>= spot_of
 
+-- 1 to 255 bytes
+abbrev pub is_file_name : List ℕ → Bool
+is_file_name text = nat_le 1 (length text) && nat_le (length text) 255
+
+-- the name of a module's file
+abbrev pub file_of : List ℕ → Option FileName
+file_of text = only_if (is_file_name text) (record { name = text })
+
+-- the file that a value names
+abbrev pub file_in : Data → Option FileName
+file_in value = as_str value >>= file_of
+
+-- int, text or any
+abbrev pub type_of : List ℕ → Option ColumnType
+type_of text = if bytes_eq text (codes "int") then Some types.Int
+    else (if bytes_eq text (codes "text") then Some types.Text
+    else (if bytes_eq text (codes "any") then Some types.Any
+    else None))
+
+-- the type of a column that a value names
+abbrev pub type_in : Data → Option ColumnType
+type_in value = as_str value >>= type_of
+
+-- a list with as many items
+abbrev pub of_length : {X : Type 0} → ℕ → List X → Option (List X)
+of_length count xs = only_if (length xs == count) xs
+
+-- the types of as many columns
+abbrev pub types_in : ℕ → Data → Option (List ColumnType)
+types_in count value = list_in type_in value >>= of_length count
+
+-- split, latest or number
+abbrev pub stock_of : List ℕ → Option StockName
+stock_of text = if bytes_eq text (codes "split") then Some stocks.Split
+    else (if bytes_eq text (codes "latest") then Some stocks.Latest
+    else (if bytes_eq text (codes "number") then Some stocks.Number
+    else None))
+
+-- the stock body that a value names
+abbrev pub stock_in : Data → Option StockName
+stock_in value = as_str value >>= stock_of
+
 -- CR, CW, OR or OW
 abbrev pub note_of : List ℕ → Option NoteName
-note_of text = if bytes_eq text (codes "CR") then Some CR
-    else (if bytes_eq text (codes "CW") then Some CW
-    else (if bytes_eq text (codes "OR") then Some OR
-    else (if bytes_eq text (codes "OW") then Some OW
+note_of text = if bytes_eq text (codes "CR") then Some notes.CR
+    else (if bytes_eq text (codes "CW") then Some notes.CW
+    else (if bytes_eq text (codes "OR") then Some notes.OR
+    else (if bytes_eq text (codes "OW") then Some notes.OW
     else None)))
 
 -- the note that a value names
 abbrev pub note_in : Data → Option NoteName
 note_in value = as_str value >>= note_of
+
+-- free, pass, seal or order
+abbrev pub mode_of : List ℕ → Option ModeName
+mode_of text = if bytes_eq text (codes "free") then Some modes.Free
+    else (if bytes_eq text (codes "pass") then Some modes.Pass
+    else (if bytes_eq text (codes "seal") then Some modes.Seal
+    else (if bytes_eq text (codes "order") then Some modes.Order
+    else None)))
+
+-- the mode that a value names
+abbrev pub mode_in : Data → Option ModeName
+mode_in value = as_str value >>= mode_of
 
 -- the format, 1 or 2
 abbrev pub format_of : ℤ → Option Format

@@ -1,58 +1,32 @@
-//! The entries of a topology, each of the table of its kind.
-ghost use Rattle.std.specs.Prelude.{◌≡◌, map, IfOk, Result};
+//! Sources, streams and dependencies, each of the table of its kind.
+ghost use Rattle.std.specs.Prelude.{◌≡◌, IfOk, Result, codes};
 ghost use Rattle.toml.specs.Data.{Members};
 ghost use Rattle.toml.specs.View.{table_view};
 ghost use Rattle.topo_read.specs.Entries as spec;
-ghost use Rattle.topo_read.specs.Entries.{Path};
-ghost use Rattle.topo_read.specs.Gives.{Gives};
+ghost use Rattle.topo_read.specs.Fields.{Path};
+ghost use Rattle.topo_read.specs.Fields as fields;
+ghost use Rattle.topo_read.specs.Gives.{Gives, GivesValue};
+ghost use Rattle.topo_read.specs.Tables as tables;
+ghost use Rattle.topo_read.specs.Values as values;
 
-use crate::fault::{TopoTextFault, break_at};
-use crate::tables::{at_key, list_at_key, unknown_key};
-use crate::values::FromValue;
+use crate::fault::{TopoTextFault, ValueFault};
+use crate::fields::{only_keys, optional, optional_list, required};
+use crate::tables::{fd_names_at, get};
+use crate::values::{Format, types_in};
 use blz_value::{Items, Str};
 use std::alloc::{AllocError, Global};
 use toml::Table;
-use topo_types::{Body, ColumnType, ComponentEntry, ModeName, SourceEntry, StreamEntry};
+use topo_types::{ColumnType, FdEntry, SourceEntry, StreamEntry};
 
-/// An entry that a table gives. The path of a break is the key in the table.
+/// An entry that a table gives in a file of this format. The path of a break is the key in the table.
 pub(crate) trait FromTable: Drop + Sized {
-    ghost reading: { Members → Result Self Path };
+    ghost use Rattle.topo_read.specs.declared.values.Format.{Format};
+
+    ghost reading: { Format → Members → Result Self Path };
 
     /// Reads a table.
-    fn from_table(alloc: Global, table: &Table) -> Result<Self, TopoTextFault>
-        ensures { Gives (λ entry. entry) result (reading (table_view table.now)) };
-}
-
-/// What the value of a required key gives.
-pub(crate) fn required<T: FromValue>(
-    alloc: Global,
-    table: &Table,
-    key: &str,
-) -> Result<T, TopoTextFault>
-    ensures { Gives (λ x. x) result (spec.required T.reading key.now (table_view table.now)) }
-{
-    at_key(alloc, table, key).map_err(|fault| fault.at(alloc, key))
-}
-
-/// The list at a key that may be missing.
-pub(crate) fn optional_list<T: FromValue>(
-    alloc: Global,
-    table: &Table,
-    key: &str,
-) -> Result<Items<T>, TopoTextFault>
-    ensures { Gives (λ items. items) result (spec.optional_list T.reading key.now (table_view table.now)) }
-{
-    list_at_key(alloc, table, key).map_err(|fault| fault.at(alloc, key))
-}
-
-/// Breaks at the first key in byte order that isn't one of these.
-pub(crate) fn only_keys(alloc: Global, table: &Table, known: &[&str]) -> Result<(), TopoTextFault>
-    ensures { Gives (λ x. x) result (spec.only_keys (map (λ key. key.now) known.now) (table_view table.now)) }
-{
-    match unknown_key(table, known) {
-        None => Ok(()),
-        Some(key) => Err(break_at(alloc, key)),
-    }
+    fn from_table(alloc: Global, format: Format, table: &Table) -> Result<Self, TopoTextFault>
+        ensures { Gives (λ entry. entry) result (reading format (table_view table.now)) };
 }
 
 fn any_types(alloc: Global, columns: &[Str]) -> Result<Items<ColumnType>, AllocError>
@@ -65,59 +39,126 @@ fn any_types(alloc: Global, columns: &[Str]) -> Result<Items<ColumnType>, AllocE
     Ok(Items::from_vec(types))
 }
 
+fn maybe_types(
+    alloc: Global,
+    count: usize,
+    table: &Table,
+) -> Result<Option<Items<ColumnType>>, ValueFault>
+    ensures { GivesValue (λ types. types) result (tables.maybe_at_key (values.types_in count) (codes "types") (table_view table.now)) }
+{
+    match get(table, "types") {
+        Some(value) => Ok(Some(types_in(alloc, count, value)?)),
+        None => Ok(None),
+    }
+}
+
+fn optional_types(
+    alloc: Global,
+    count: usize,
+    table: &Table,
+) -> Result<Option<Items<ColumnType>>, TopoTextFault>
+    ensures { Gives (λ types. types) result (fields.optional (values.types_in count) (codes "types") (table_view table.now)) }
+{
+    maybe_types(alloc, count, table).map_err(|fault| fault.at(alloc, "types"))
+}
+
+/// The types of the columns of a source.
+fn types_of(
+    alloc: Global,
+    format: Format,
+    columns: &[Str],
+    table: &Table,
+) -> Result<Items<ColumnType>, TopoTextFault>
+    ensures { Gives (λ types. types) result (spec.types_of format columns.now (table_view table.now)) }
+{
+    match format {
+        Format::One => Ok(any_types(alloc, columns)?),
+        Format::Two => match optional_types(alloc, columns.len(), table)? {
+            Some(types) => Ok(types),
+            None => Ok(any_types(alloc, columns)?),
+        },
+    }
+}
+
+fn or_no_names(alloc: Global, names: Option<Items<Str>>) -> Items<Str>
+    ensures { result ≡ spec.or_no_names names }
+{
+    match names {
+        Some(names) => names,
+        None => Items::from_vec(Vec::new(alloc)),
+    }
+}
+
+fn only_source_keys(alloc: Global, format: Format, table: &Table) -> Result<(), TopoTextFault>
+    ensures { Gives (λ x. x) result (fields.only_keys (spec.source_keys format) (table_view table.now)) }
+{
+    match format {
+        Format::One => only_keys(alloc, table, &["name", "columns", "seal", "to"]),
+        Format::Two => only_keys(alloc, table, &["name", "columns", "types", "seal", "to"]),
+    }
+}
+
 impl FromTable for SourceEntry {
     ghost reading = { spec.source_of };
 
     #[tactic(auto, unfolding(crate::specs::Entries::source_of))]
-    fn from_table(alloc: Global, table: &Table) -> Result<SourceEntry, TopoTextFault> {
+    fn from_table(
+        alloc: Global,
+        format: Format,
+        table: &Table,
+    ) -> Result<SourceEntry, TopoTextFault> {
         let name = required(alloc, table, "name")?;
         let columns: Items<Str> = required(alloc, table, "columns")?;
+        let types = types_of(alloc, format, columns.as_slice(), table)?;
+        let seal = optional(alloc, table, "seal")?;
         let to = optional_list(alloc, table, "to")?;
-        only_keys(alloc, table, &["name", "columns", "to"])?;
-        let types = any_types(alloc, columns.as_slice())?;
-        let seal = Items::from_vec(Vec::new(alloc));
+        only_source_keys(alloc, format, table)?;
         Ok(SourceEntry {
             name,
             columns,
             types,
-            seal,
+            seal: or_no_names(alloc, seal),
             to,
         })
     }
 }
 
-impl FromTable for ComponentEntry {
-    ghost reading = { spec.component_of };
-
-    #[tactic(auto, unfolding(crate::specs::Entries::component_of))]
-    fn from_table(alloc: Global, table: &Table) -> Result<ComponentEntry, TopoTextFault> {
-        let name = required(alloc, table, "name")?;
-        let inputs = optional_list(alloc, table, "inputs")?;
-        let outputs = optional_list(alloc, table, "outputs")?;
-        let notes = optional_list(alloc, table, "notes")?;
-        only_keys(alloc, table, &["name", "inputs", "outputs", "notes"])?;
-        Ok(ComponentEntry {
-            name,
-            body: Body::None,
-            inputs,
-            outputs,
-            notes,
-            replicas: 1,
-            mode: ModeName::Free,
-            key: Items::from_vec(Vec::new(alloc)),
-        })
-    }
-}
-
 impl FromTable for StreamEntry {
-    ghost reading = { spec.stream_of };
+    ghost reading = { λ format. spec.stream_of };
 
     #[tactic(auto, unfolding(crate::specs::Entries::stream_of))]
-    fn from_table(alloc: Global, table: &Table) -> Result<StreamEntry, TopoTextFault> {
+    fn from_table(
+        alloc: Global,
+        _format: Format,
+        table: &Table,
+    ) -> Result<StreamEntry, TopoTextFault> {
         let name = required(alloc, table, "name")?;
         let from = required(alloc, table, "from")?;
         let to = optional_list(alloc, table, "to")?;
         only_keys(alloc, table, &["name", "from", "to"])?;
         Ok(StreamEntry { name, from, to })
+    }
+}
+
+fn fd_names(
+    alloc: Global,
+    format: Format,
+    table: &Table,
+    key: &str,
+) -> Result<Items<Str>, TopoTextFault>
+    ensures { Gives (λ names. names) result (spec.fd_names format key.now (table_view table.now)) }
+{
+    fd_names_at(alloc, format, table, key).map_err(|fault| fault.at(alloc, key))
+}
+
+impl FromTable for FdEntry {
+    ghost reading = { spec.fd_of };
+
+    #[tactic(auto, unfolding(crate::specs::Entries::fd_of))]
+    fn from_table(alloc: Global, format: Format, table: &Table) -> Result<FdEntry, TopoTextFault> {
+        let from = fd_names(alloc, format, table, "from")?;
+        let to = fd_names(alloc, format, table, "to")?;
+        only_keys(alloc, table, &["from", "to"])?;
+        Ok(FdEntry { from, to })
     }
 }

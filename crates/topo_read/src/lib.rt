@@ -1,11 +1,14 @@
 //! Reads the topology that a TOML file gives.
 #![tactic(auto)]
 
+mod component;
 mod entries;
 mod fault;
+mod fields;
 mod reading;
+mod small;
 mod tables;
 mod values;
 
 pub use fault::TopoTextFault;
-pub use reading::read;
+pub use reading::{read, read_small};

@@ -4,13 +4,15 @@ ghost use Rattle.toml.specs.Data.{as_table};
 ghost use Rattle.toml.specs.View.{table_view, items_view};
 ghost use Rattle.topo_read.specs.Document as document;
 ghost use Rattle.topo_read.specs.Gives.{Gives, GivesValue, IsBreakAt, GivesDocument};
-ghost use Rattle.topo_read.specs.Reading.{IsReading};
+ghost use Rattle.topo_read.specs.Reading.{IsReading, IsSmallReading};
 ghost use Rattle.topo_read.specs.Topology as spec;
 ghost use Rattle.topo_read.specs.Values.{all_in};
 ghost use Rattle.topo_read.specs.Tables.{list_at_key};
 
-use crate::entries::{FromTable, only_keys, required};
+use crate::entries::FromTable;
 use crate::fault::{TopoTextFault, ValueFault, break_at};
+use crate::fields::{only_keys, required};
+use crate::small::has_small_keys;
 use crate::tables::get;
 use crate::values::Format;
 use blz_value::Items;
@@ -62,13 +64,14 @@ fn entry_break(alloc: Global, list: &str, number: usize, key: &str) -> TopoTextF
 /// The entry of a table that has this number in its list.
 fn numbered<T: FromTable>(
     alloc: Global,
+    format: Format,
     list: &str,
     number: usize,
     table: &Table,
 ) -> Result<T, TopoTextFault>
-    ensures { Gives (λ entry. entry) result (spec.numbered list.now number (T.reading (table_view table.now))) }
+    ensures { Gives (λ entry. entry) result (spec.numbered list.now number (T.reading format (table_view table.now))) }
 {
-    match T::from_table(alloc, table) {
+    match T::from_table(alloc, format, table) {
         Ok(entry) => Ok(entry),
         Err(TopoTextFault::Form { path }) => Err(entry_break(alloc, list, number, path.as_str())),
         Err(fault) => Err(fault),
@@ -77,14 +80,15 @@ fn numbered<T: FromTable>(
 
 fn entries<T: FromTable>(
     alloc: Global,
+    format: Format,
     list: &str,
     tables: &[&Table],
 ) -> Result<Items<T>, TopoTextFault>
-    ensures { Gives (λ entries. entries) result (spec.entries T.reading list.now (map (λ table. table_view table.now) tables.now)) }
+    ensures { Gives (λ entries. entries) result (spec.entries (T.reading format) list.now (map (λ table. table_view table.now) tables.now)) }
 {
     let mut entries = Vec::new(alloc);
     for (place, table) in tables.iter().enumerate() {
-        entries.push(numbered(alloc, list, place + 1, table)?)?;
+        entries.push(numbered(alloc, format, list, place + 1, table)?)?;
     }
     Ok(Items::from_vec(entries))
 }
@@ -93,20 +97,26 @@ fn entries<T: FromTable>(
 fn topology_in(alloc: Global, top: &Table) -> Result<Topology, TopoTextFault>
     ensures { Gives (λ topology. topology) result (spec.topology_of (table_view top.now)) }
 {
-    let _format: Format = required(alloc, top, "format")?;
+    let format: Format = required(alloc, top, "format")?;
     let sources = tables_at(alloc, top, "source")?;
     let components = tables_at(alloc, top, "component")?;
     let streams = tables_at(alloc, top, "stream")?;
-    only_keys(alloc, top, &["format", "source", "component", "stream"])?;
-    let sources = entries(alloc, "source", &sources)?;
-    let components = entries(alloc, "component", &components)?;
-    let streams = entries(alloc, "stream", &streams)?;
+    let fds = tables_at(alloc, top, "fd")?;
+    only_keys(
+        alloc,
+        top,
+        &["format", "source", "component", "stream", "fd"],
+    )?;
+    let sources = entries(alloc, format, "source", &sources)?;
+    let components = entries(alloc, format, "component", &components)?;
+    let streams = entries(alloc, format, "stream", &streams)?;
+    let fds = entries(alloc, format, "fd", &fds)?;
     Ok(Topology {
         format: 2,
         sources,
         components,
         streams,
-        fds: Items::from_vec(Vec::new(alloc)),
+        fds,
     })
 }
 
@@ -145,4 +155,17 @@ pub fn read(alloc: Global, text: &[u8]) -> Result<Topology, TopoTextFault>
 {
     let top = document_of(alloc, text)?;
     topology_in(alloc, &top)
+}
+
+/// As `read`, but None where the document has a key that no small topology has. It serves as long as
+/// no other topology is labelled.
+pub fn read_small(alloc: Global, text: &[u8]) -> Result<Option<Topology>, TopoTextFault>
+    ensures { IsSmallReading text.now result }
+{
+    let top = document_of(alloc, text)?;
+    let topology = topology_in(alloc, &top)?;
+    if !has_small_keys(&top) {
+        return Ok(None);
+    }
+    Ok(Some(topology))
 }

@@ -1,6 +1,6 @@
 //! What the value of a key gives.
 ghost use Rattle.std.specs.Prelude.{◌≡◌, Option, option_map};
-ghost use Rattle.toml.specs.Data.{Data};
+ghost use Rattle.toml.specs.Data.{Data, as_integer};
 ghost use Rattle.toml.specs.View.{view, items_view};
 ghost use Rattle.topo_read.specs.Gives.{GivesValue};
 ghost use Rattle.topo_read.specs.Values as spec;
@@ -9,7 +9,7 @@ use crate::fault::ValueFault;
 use blz_value::{Items, Str, is_name};
 use std::alloc::Global;
 use toml::Value;
-use topo_types::{NoteName, Spot};
+use topo_types::{ColumnType, ModeName, NoteName, Spot};
 
 /// What a value of one form gives.
 pub(crate) trait FromValue: Drop + Sized {
@@ -25,6 +25,20 @@ pub(crate) trait FromValue: Drop + Sized {
 pub(crate) enum Format {
     One,
     Two,
+}
+
+/// The name of a module's file.
+#[derive(Debug, Drop)]
+pub(crate) struct FileName {
+    pub(crate) name: Str,
+}
+
+/// The name of a stock body.
+#[derive(Clone, Copy, Debug, PartialEq, Eq)]
+pub(crate) enum StockName {
+    Split,
+    Latest,
+    Number,
 }
 
 impl FromValue for Format {
@@ -65,6 +79,61 @@ impl FromValue for Spot {
     fn from_value(alloc: Global, value: &Value) -> Result<Spot, ValueFault> {
         match value.as_str() {
             Some(text) => spot_of(alloc, text),
+            None => Err(ValueFault::Break),
+        }
+    }
+}
+
+impl FromValue for FileName {
+    ghost reading = { spec.file_in };
+
+    fn from_value(alloc: Global, value: &Value) -> Result<FileName, ValueFault> {
+        match value.as_str() {
+            Some(text) => file_of(alloc, text),
+            None => Err(ValueFault::Break),
+        }
+    }
+}
+
+impl FromValue for ColumnType {
+    ghost reading = { spec.type_in };
+
+    fn from_value(_alloc: Global, value: &Value) -> Result<ColumnType, ValueFault> {
+        match value.as_str() {
+            Some(text) => type_of(text),
+            None => Err(ValueFault::Break),
+        }
+    }
+}
+
+impl FromValue for StockName {
+    ghost reading = { spec.stock_in };
+
+    fn from_value(_alloc: Global, value: &Value) -> Result<StockName, ValueFault> {
+        match value.as_str() {
+            Some(text) => stock_of(text),
+            None => Err(ValueFault::Break),
+        }
+    }
+}
+
+impl FromValue for i64 {
+    ghost reading = { as_integer };
+
+    fn from_value(_alloc: Global, value: &Value) -> Result<i64, ValueFault> {
+        match value.as_integer() {
+            Some(number) => Ok(number),
+            None => Err(ValueFault::Break),
+        }
+    }
+}
+
+impl FromValue for ModeName {
+    ghost reading = { spec.mode_in };
+
+    fn from_value(_alloc: Global, value: &Value) -> Result<ModeName, ValueFault> {
+        match value.as_str() {
+            Some(text) => mode_of(text),
             None => Err(ValueFault::Break),
         }
     }
@@ -127,6 +196,56 @@ fn spot_of(alloc: Global, text: &str) -> Result<Spot, ValueFault>
     Ok(Spot { component, port })
 }
 
+fn is_file_name(text: &str) -> bool
+    ensures { result ≡ spec.is_file_name text.now }
+{
+    1 <= text.len() && text.len() <= 255
+}
+
+fn file_of(alloc: Global, text: &str) -> Result<FileName, ValueFault>
+    ensures { GivesValue (λ file. file) result (spec.file_of text.now) }
+{
+    if !is_file_name(text) {
+        return Err(ValueFault::Break);
+    }
+    let name = Str::from_text(alloc, text)?;
+    Ok(FileName { name })
+}
+
+fn type_of(text: &str) -> Result<ColumnType, ValueFault>
+    ensures { GivesValue (λ of_column. of_column) result (spec.type_of text.now) }
+{
+    match text {
+        "int" => Ok(ColumnType::Int),
+        "text" => Ok(ColumnType::Text),
+        "any" => Ok(ColumnType::Any),
+        _ => Err(ValueFault::Break),
+    }
+}
+
+fn stock_of(text: &str) -> Result<StockName, ValueFault>
+    ensures { GivesValue (λ stock. stock) result (spec.stock_of text.now) }
+{
+    match text {
+        "split" => Ok(StockName::Split),
+        "latest" => Ok(StockName::Latest),
+        "number" => Ok(StockName::Number),
+        _ => Err(ValueFault::Break),
+    }
+}
+
+fn mode_of(text: &str) -> Result<ModeName, ValueFault>
+    ensures { GivesValue (λ mode. mode) result (spec.mode_of text.now) }
+{
+    match text {
+        "free" => Ok(ModeName::Free),
+        "pass" => Ok(ModeName::Pass),
+        "seal" => Ok(ModeName::Seal),
+        "order" => Ok(ModeName::Order),
+        _ => Err(ValueFault::Break),
+    }
+}
+
 fn note_of(text: &str) -> Result<NoteName, ValueFault>
     ensures { GivesValue (λ note. note) result (spec.note_of text.now) }
 {
@@ -157,4 +276,19 @@ pub(crate) fn list_in<T: FromValue>(alloc: Global, value: &Value) -> Result<Item
         Some(values) => all_in(alloc, values.as_slice()),
         None => Err(ValueFault::Break),
     }
+}
+
+/// The types of as many columns.
+pub(crate) fn types_in(
+    alloc: Global,
+    count: usize,
+    value: &Value,
+) -> Result<Items<ColumnType>, ValueFault>
+    ensures { GivesValue (λ types. types) result (spec.types_in count (view value.now)) }
+{
+    let types: Items<ColumnType> = list_in(alloc, value)?;
+    if types.as_slice().len() != count {
+        return Err(ValueFault::Break);
+    }
+    Ok(types)
 }

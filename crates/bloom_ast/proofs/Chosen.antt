@@ -5,13 +5,9 @@ use Rattle.blz_value.specs.Members.{Has}
 use Rattle.fd_closure.specs.Bits.{bit_of, meets}
 use Rattle.fd_closure.specs.Closure.{within}
 use Rattle.fd_closure.proofs.Within.{within-refl, within-trans, within-or_l, within-or_r}
-use Rattle.fd_closure.proofs.Members.{within-meets, in-within, in-empty, in-or}
-use Rattle.fd_closure.proofs.Singles.{one_number}
+use Rattle.fd_closure.proofs.Members.{in-within, in-empty, in-or, one_number, own-in}
 use Rattle.bloom_ast.specs.Reads.{with_all, bit_if}
 use Rattle.bloom_ast.proofs.Unfolding.{bit_if-lt, with_all-lt}
-
-own_number : (n : ℕ) → n < 64 → meets (bit_of n) (bit_of n) ≡ true
-own_number n lt = within-meets n (bit_of n) lt (within-refl (bit_of n))
 
 from_bit_if : (b : Bool) (m n : ℕ) → n < 64 → meets (bit_of n) (bit_if b m) ≡ true → (b ≡ true) × (m ≡ n)
 from_bit_if true m n lt h = (refl, one_number n m lt h)
@@ -56,7 +52,7 @@ module _ {X : Type 0} (test : X → Bool) (number : X → ℕ) where
   chosen-at s [] x n passes lt = absurd n
   chosen-at s (y ∷ xs) x (inl e) passes lt =
       let next = bit_or s (bit_if (test y) (number y)) in
-      let own : meets (bit_of (number x)) (bit_if (test x) (number x)) ≡ true = rw passes (own_number (number x) lt) in
+      let own : meets (bit_of (number x)) (bit_if (test x) (number x)) ≡ true = rw passes (own-in (number x) lt) in
       let there : meets (bit_of (number x)) (bit_if (test y) (number y)) ≡ true = rw e own in
       let here : meets (bit_of (number x)) next ≡ true = in-within (number x) (bit_if (test y) (number y)) next lt there (within-or_r s (bit_if (test y) (number y))) in
       in-within (number x) next _ lt here (chosen-keeps next xs)

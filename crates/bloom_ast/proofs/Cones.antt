@@ -1,19 +1,17 @@
 -- What is in a cone: what an expression names, and what the rules of collections in the cone name.
-use Rattle.std.proofs.Common.{◌≡◌, ◌≤◌, ◌<◌, ◌⊎◌, inl, inr, ℕ, Bool, true, if◌then◌else◌, List, length, get_or, refl, arith, sym, subst}
+use Rattle.std.proofs.Common.{◌≡◌, ◌≤◌, ◌<◌, ◌⊎◌, inl, inr, ℕ, true, if◌then◌else◌, List, length, refl, arith, sym, subst}
 use Rattle.std.specs.Prelude.{◌==◌}
 use Rattle.std.specs.List.{list_all}
-use Rattle.std.proofs.lemmas.List.Sums.{AllPass-from_list_all, list_all-from_AllPass}
 use Rattle.std.proofs.lemmas.Bool.{cases_Bool, eqb-true, eq-eqb}
 use Rattle.blz_value.specs.Members.{Has}
-use Rattle.blz_value.proofs.Membership.{All-of_member, Has-get_or, Has-map, Has-from_map, Has-filter, Has-from_filter, Has-append_left, Has-append_right}
+use Rattle.blz_value.proofs.Membership.{Has-map, Has-from_map, Has-filter, Has-from_filter, Has-append_left, Has-append_right, all_member}
 use Rattle.fd_closure.specs.declared.attrs.Fd.{Fd}
 use Rattle.fd_closure.specs.Bits.{bit_of, meets}
 use Rattle.fd_closure.specs.Closure.{within, closure, IsClosed, IsLeastClosed}
 use Rattle.fd_closure.proofs.Within.{within-refl, within-empty, or-within}
-use Rattle.fd_closure.proofs.Members.{meets-within, within-meets, in-within}
+use Rattle.fd_closure.proofs.Members.{meets-within, within-meets, in-within, one_number}
 use Rattle.fd_closure.proofs.Least.{closure-least}
 use Rattle.fd_closure.proofs.Reached.{unfolds, folds, closed-map, closure-self, closure-trans}
-use Rattle.fd_closure.proofs.Singles.{one_number}
 use Rattle.bloom_ast.specs.declared.module.Collection.{Collection}
 use Rattle.bloom_ast.specs.Checks.{IsRule}
 use Rattle.bloom_ast.specs.Form.{RuleForm}
@@ -26,14 +24,6 @@ use Rattle.bloom_ast.specs.Reads.{set_of_name, named, arrow, arrows, scratch_arr
 use Rattle.bloom_ast.specs.Step.{rules_at}
 use Rattle.bloom_ast.proofs.Unfolding.{number_small, arrows_single}
 use Rattle.bloom_ast.proofs.KindSets.{kind-named, in_kind_set}
-
--- all elements pass a test
-
-pub all_member : {X : Type 0} (p : X → Bool) (xs : List X) (x : X) → list_all p xs ≡ true → Has x xs → p x ≡ true
-all_member p xs x h stands = All-of_member (λ y. p y ≡ true) xs x (AllPass-from_list_all p xs h) stands
-
-pub all_from : {X : Type 0} (p : X → Bool) (xs : List X) → ((x : X) → Has x xs → p x ≡ true) → list_all p xs ≡ true
-all_from p xs each = list_all-from_AllPass p xs (λ k d lt. each (get_or xs k d) (Has-get_or xs k d lt))
 
 -- a set that has each collection of an expression
 

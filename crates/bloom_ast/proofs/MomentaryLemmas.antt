@@ -4,10 +4,9 @@ use Rattle.std.proofs.lemmas.Bool.{cases_Bool, or_cases, true≢false}
 use Rattle.blz_value.specs.Members.{Has}
 use Rattle.fd_closure.specs.Bits.{bit_of, meets}
 use Rattle.fd_closure.proofs.Within.{within-or_l, within-or_r, within-refl}
-use Rattle.fd_closure.proofs.Members.{meets-some, some-meets, in-bit, bit-in, in-or, within-meets}
+use Rattle.fd_closure.proofs.Members.{meets-some, some-meets, in-bit, bit-in, in-or, within-meets, one_number, meets_more}
 use Rattle.fd_closure.proofs.Least.{closure-least}
 use Rattle.fd_closure.proofs.Reached.{least-monotone}
-use Rattle.fd_closure.proofs.Singles.{one_number, meets_more}
 use Rattle.bloom_ast.specs.declared.module.Kind.{Kind}
 use Rattle.bloom_ast.specs.declared.module.Kind.TheVariants.{Input, Output, Table, Scratch}
 use Rattle.bloom_ast.specs.declared.module.Collection.{Collection}

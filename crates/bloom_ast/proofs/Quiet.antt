@@ -10,8 +10,7 @@ use Rattle.blz_value.specs.Sets.{set_of}
 use Rattle.blz_value.proofs.Membership.{Has-append_left, Has-append_right}
 use Rattle.fd_closure.specs.Bits.{bit_of, meets}
 use Rattle.fd_closure.proofs.Within.{within-refl}
-use Rattle.fd_closure.proofs.Members.{meets-some, some-meets, in-bit, bit-in, in-or, within-meets}
-use Rattle.fd_closure.proofs.Singles.{one_number}
+use Rattle.fd_closure.proofs.Members.{meets-some, some-meets, in-bit, bit-in, in-or, within-meets, one_number}
 use Rattle.bloom_ast.specs.declared.module.Kind.{Kind}
 use Rattle.bloom_ast.specs.declared.module.Kind.TheVariants.{Input, Output, Table, Scratch}
 use Rattle.bloom_ast.specs.declared.module.Collection.{Collection}

@@ -3,7 +3,7 @@ use Rattle.std.proofs.Common.{◌≡◌, ◌<◌, ℕ, zero, suc, true, false, S
 use Rattle.std.specs.Prelude.{◌==◌}
 use Rattle.std.proofs.lemmas.Bool.{eqb-true}
 use Rattle.blz_value.specs.Members.{Has}
-use Rattle.blz_value.proofs.Membership.{Has-from_filter}
+use Rattle.blz_value.proofs.Membership.{Has-from_filter, all_member}
 use Rattle.fd_closure.specs.Bits.{bit_of, meets}
 use Rattle.fd_closure.specs.Closure.{within, closure, IsLeastClosed}
 use Rattle.fd_closure.proofs.Members.{meets-within, in-within}
@@ -23,7 +23,6 @@ use Rattle.bloom_ast.specs.Step.{rules_at}
 use Rattle.bloom_ast.proofs.Ordering.{in_named, smaller}
 use Rattle.bloom_ast.proofs.Unfolding.{number_small}
 use Rattle.bloom_ast.proofs.KindSets.{kind-named, named-kind}
-use Rattle.bloom_ast.proofs.Cones.{all_member}
 
 module _ (a : Accepted) (checked : IsChecked a.form a.heads) where
   abbrev cs : List Collection

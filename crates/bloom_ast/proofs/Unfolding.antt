@@ -12,10 +12,9 @@ use Rattle.fd_closure.specs.declared.attrs.Fd.{Fd}
 use Rattle.fd_closure.specs.Bits.{bit_of, meets}
 use Rattle.fd_closure.specs.Closure.{within, closure, IsClosed, IsLeastClosed}
 use Rattle.fd_closure.proofs.Within.{set_one, within-refl}
-use Rattle.fd_closure.proofs.Members.{bit_of-is, meets-some, some-meets, meets-within, within-meets, in-bit, bit-in, in-within, in-empty}
+use Rattle.fd_closure.proofs.Members.{bit_of-is, meets-some, some-meets, meets-within, within-meets, in-bit, bit-in, in-within, in-empty, bit_of-above}
 use Rattle.fd_closure.proofs.Least.{closure-least}
 use Rattle.fd_closure.proofs.Reached.{IsSingle, LeadsTo, cone_of, unfolds, folds}
-use Rattle.fd_closure.proofs.Singles.{bit_of-above}
 use Rattle.bloom_ast.specs.declared.module.Collection.{Collection}
 use Rattle.bloom_ast.specs.Form.{RuleForm}
 use Rattle.bloom_ast.specs.Kinds.{has_kind, is_input, is_scratch}

@@ -5,8 +5,7 @@ use Rattle.blz_value.specs.Members.{Has}
 use Rattle.fd_closure.specs.declared.attrs.Fd.{Fd}
 use Rattle.fd_closure.specs.Bits.{bit_of, meets}
 use Rattle.fd_closure.specs.Closure.{within, step, grown, grown_times, closure}
-use Rattle.fd_closure.proofs.Members.{in-or, in-within}
-use Rattle.fd_closure.proofs.Singles.{member_small}
+use Rattle.fd_closure.proofs.Members.{in-or, in-within, member_small}
 
 module _ (P : ℕ → Type 0) where
   -- what holds of each number of a set

@@ -3,6 +3,5 @@ pub mod Members
 pub mod Least
 pub mod Reached
 pub mod Places
-pub mod Singles
 pub mod Keeping
-pub mod MembersLemmas
+pub mod MembersInOrder

@@ -137,3 +137,7 @@ one_number n m lt h = elim (cases_Bool (nat_lt m 64)) [
   | inl t ↦ (let small : m < 64 = search rules in sym (no_other_bit m n small (in-bit n (bit_of m) lt h)))
   | inr f ↦ absurd (let nothing : meets (bit_of n) 0 ≡ true = rw (bit_of-above m f) at h in true≢false (sym nothing ∙ in-empty n))
 ]
+
+-- a set meets all that a set in it meets
+pub meets_more : (s a b : ℕ) → meets s a ≡ true → within a b ≡ true → meets s b ≡ true
+meets_more s a b h inside = let m = meets-some s a h in some-meets s b m.0 m.1.0 (bits-within a b inside m.0 m.1.1)

@@ -1,5 +1,5 @@
 -- Rows of one step are copies of records that arrived in it, or before it for kept rows.
-use Rattle.std.proofs.Common.{◌≡◌, ◌<◌, ◌≤◌, ℕ, Bool, true, List, [], ◌∷◌, ◌++◌, length, map, slice_get, Option, None, Some, refl, ap, ◌∙◌, sym, subst, ◌⊎◌, inl, inr, arith}
+use Rattle.std.proofs.Common.{◌≡◌, ◌<◌, ◌≤◌, ℕ, true, List, [], ◌∷◌, ◌++◌, length, map, slice_get, Option, None, Some, refl, ap, ◌∙◌, sym, subst, ◌⊎◌, inl, inr, arith}
 use Rattle.std.specs.Prelude.{◌==◌}
 use Rattle.std.specs.List.{list_all, range_with_len}
 use Rattle.std.proofs.lemmas.Bool.{cases_lt, eqb-true}
@@ -7,7 +7,7 @@ use Rattle.std.proofs.lemmas.List.{get_or_past}
 use Rattle.std.proofs.lemmas.List.FromFn.{length-map-range_with_len, get_or-map-range_with_len}
 use Rattle.blz_value.specs.Members.{Has}
 use Rattle.blz_value.specs.Record.{Row}
-use Rattle.blz_value.proofs.Membership.{Has-append_cases, Has-from_filter, Has-map}
+use Rattle.blz_value.proofs.Membership.{Has-append_cases, Has-from_filter, Has-map, all_member}
 use Rattle.blz_value.proofs.SetLaws.{Has-from_set_of}
 use Rattle.fd_closure.specs.Bits.{bit_of, meets}
 use Rattle.fd_closure.specs.Closure.{within, closure, IsLeastClosed}
@@ -30,7 +30,6 @@ use Rattle.bloom_ast.proofs.Ordering.{in_named}
 use Rattle.path_annotate.specs.HeadRoots.{agreed_root, attribute_roots, roots_numbered, roots_named, rule_roots, head_roots, roots_table}
 use Rattle.path_annotate.specs.Roots.{Roots, root_at, are_same, roots_of}
 use Rattle.path_annotate.specs.RootsLaw.{AreRootsOf}
-use Rattle.bloom_ast.proofs.Cones.{all_member}
 use Rattle.path_annotate.proofs.Copying.{AreCopies, IsFull, KeepsRoots, chosen, copies-self, copies-trans, copies-fewer, full-fewer, root-within}
 use Rattle.path_annotate.proofs.Origins.{IsCopied, copied}
 use Rattle.path_annotate.proofs.RootsLaw.{table_solves}

@@ -11,10 +11,9 @@ use Rattle.blz_value.specs.Test.{cell}
 use Rattle.blz_value.proofs.Membership.{Has-get_or, Has-from_map, any_from_Has, Has-map, Has-from_any}
 use Rattle.fd_closure.specs.Bits.{bit_of, meets}
 use Rattle.fd_closure.specs.Names.{place_of}
-use Rattle.fd_closure.proofs.Members.{in-or, in-empty, in-within, within-meets}
+use Rattle.fd_closure.proofs.Members.{in-or, in-empty, in-within, within-meets, one_number, member_small}
 use Rattle.fd_closure.proofs.Places.{place_of-get}
 use Rattle.fd_closure.proofs.Within.{within-refl, within-or_l, within-or_r}
-use Rattle.fd_closure.proofs.Singles.{one_number, member_small}
 use Rattle.bloom_ast.specs.Columns.{column_number}
 use Rattle.bloom_ast.specs.Fits.{repeats}
 use Rattle.bloom_ast.specs.Query.{Name}

@@ -4,7 +4,7 @@ use Rattle.std.proofs.lemmas.Bool.{cases_Bool, true≢false}
 use Rattle.blz_value.specs.Members.{Has}
 use Rattle.fd_closure.specs.Bits.{bit_of, meets}
 use Rattle.fd_closure.specs.Closure.{within, IsClosed, IsLeastClosed}
-use Rattle.fd_closure.proofs.Within.{within-trans, within-antisym, within-or_l, within-or_r, or-within}
+use Rattle.fd_closure.proofs.Within.{within-trans, within-antisym, within-or_l, within-or_r, or-within, and-within_l, and-within_r, within-and}
 use Rattle.fd_closure.proofs.Members.{meets-within, within-meets, in-within, in-or}
 use Rattle.fd_closure.proofs.Least.{closure-least}
 use Rattle.fd_closure.proofs.Reached.{closed-map}
@@ -21,7 +21,6 @@ use Rattle.bloom_ast.proofs.KindSets.{kind-named, named-kind, in_kind_set, from_
 use Rattle.bloom_ast.proofs.Cones.{IsKnown, direct-cone, closed_from, small_name, direct-readable}
 use Rattle.path_annotate.specs.ClosedForms.{behind}
 use Rattle.path_annotate.specs.Good.{all_tables, tables_read}
-use Rattle.path_annotate.proofs.Sets.{and-within_l, and-within_r, within-and}
 
 module _ (cs : List Collection) (rules : List RuleForm) where
   tables-behind : (q : Query) → within (tables_read cs rules q) (behind cs rules q) ≡ true

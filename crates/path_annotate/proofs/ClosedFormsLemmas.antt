@@ -6,10 +6,10 @@ use Rattle.std.specs.Int.{IsBitSet}
 use Rattle.std.specs.List.{list_all}
 use Rattle.std.proofs.lemmas.Bool.{cases_Bool, and_parts, and_from, eqb-true, eq-eqb, true≢false, false_from_ne_true, not-true, not_from_false, not_from_true}
 use Rattle.blz_value.specs.Members.{Has}
-use Rattle.blz_value.proofs.Membership.{Has-filter, Has-from_filter}
+use Rattle.blz_value.proofs.Membership.{Has-filter, Has-from_filter, all_member, all_from}
 use Rattle.fd_closure.specs.Bits.{bit_of, meets}
 use Rattle.fd_closure.specs.Closure.{within, closure}
-use Rattle.fd_closure.proofs.Within.{within-bits, bits-within}
+use Rattle.fd_closure.proofs.Within.{within-bits, bits-within, and-within_l, and-within_r}
 use Rattle.fd_closure.proofs.Members.{meets-some, some-meets, in-bit, bit-in, in-within}
 use Rattle.fd_closure.proofs.Reached.{closure-self}
 use Rattle.bloom_ast.specs.declared.module.Kind.TheVariants.{Table}
@@ -25,11 +25,10 @@ use Rattle.bloom_ast.specs.Plain.{is_free}
 use Rattle.bloom_ast.proofs.Unfolding.{bit_small}
 use Rattle.bloom_ast.proofs.Chosen.{from_chosen, in_chosen, chosen-lt}
 use Rattle.bloom_ast.proofs.KindSets.{kind-named, named-kind, kind_set-lt, is_table}
-use Rattle.bloom_ast.proofs.Cones.{all_member, all_from, from_closure, in_closure, IsReadByRule, from_head, in_head}
+use Rattle.bloom_ast.proofs.Cones.{from_closure, in_closure, IsReadByRule, from_head, in_head}
 use Rattle.path_annotate.specs.ClosedForms.{behind, is_bad_rule, spoils, bad_tables}
 use Rattle.path_annotate.specs.Good.{all_tables, tables_read, reads_table, reads_good, is_good_rule}
 use Rattle.path_annotate.proofs.Behind.{behind-cone, table-behind, in_cone}
-use Rattle.path_annotate.proofs.Sets.{and-within_l, and-within_r}
 
 -- a rule is one that a good table may have where it isn't bad and reads good tables alone
 good_parts : (momentary reads free good : Bool) → (reads ≡ false → good ≡ true)

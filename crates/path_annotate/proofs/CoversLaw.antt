@@ -1,14 +1,13 @@
 -- To cover is an order, and two notes combine to the least note that covers both.
-use Rattle.std.proofs.Common.{◌≡◌, Bool, true, false, ◌&&◌, ◌||◌, refl, ap, sym, subst, Option, Some, None}
+use Rattle.std.proofs.Common.{◌≡◌, Bool, true, false, ◌||◌, refl, ap, sym, subst, Option, Some, None}
 use Rattle.std.specs.Cmp.{first_so, second_so}
 use Rattle.std.specs.Cmp.Derive.{both_true}
 use Rattle.fd_closure.specs.declared.attrs.Attrs.{Attrs}
+use Rattle.fd_closure.proofs.Within.{within-refl, within-trans, within-antisym, and-within_l, and-within_r, within-and}
 use Rattle.path_annotate.specs.declared.note.Note.{Note}
 use Rattle.path_annotate.specs.declared.note.Note.TheVariants.{CR, CW, OR, OW}
 use Rattle.path_annotate.specs.Note.{is_write, own_gate, note_with, common_gate, covers_write, covers_gate, covers, combine}
 use Rattle.path_annotate.specs.Laws.{CoversLaw, CombineLaw}
-use Rattle.fd_closure.proofs.Within.{within-refl, within-trans, within-antisym}
-use Rattle.path_annotate.proofs.Sets.{and-within_l, and-within_r, within-and}
 
 -- W
 

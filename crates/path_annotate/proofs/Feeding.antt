@@ -5,7 +5,7 @@ use Rattle.std.proofs.lemmas.Bool.{and_parts, and_from, or_cases, or_left, or_ri
 use Rattle.blz_value.specs.Members.{Has}
 use Rattle.blz_value.proofs.Membership.{any_from_Has, Has-from_any}
 use Rattle.fd_closure.specs.Bits.{bit_of, meets}
-use Rattle.fd_closure.proofs.Singles.{member_small}
+use Rattle.fd_closure.proofs.Members.{member_small}
 use Rattle.bloom_ast.specs.declared.module.Kind.TheVariants.{Input, Table}
 use Rattle.bloom_ast.specs.declared.module.Collection.{Collection}
 use Rattle.bloom_ast.specs.Checks.{IsRule, IsChecked}

@@ -5,7 +5,7 @@ use Rattle.blz_value.specs.Members.{Has}
 use Rattle.blz_value.proofs.Membership.{Has-flat_map, Has-map, Has-filter}
 use Rattle.fd_closure.specs.Bits.{meets}
 use Rattle.fd_closure.specs.Closure.{within}
-use Rattle.fd_closure.proofs.Within.{within-trans}
+use Rattle.fd_closure.proofs.Within.{within-trans, and-within_l, and-within_r}
 use Rattle.bloom_ast.specs.Form.{RuleForm, Accepted}
 use Rattle.bloom_ast.specs.Lookup.{declared}
 use Rattle.bloom_ast.specs.Query.{Name, Query}
@@ -14,7 +14,6 @@ use Rattle.bloom_ast.specs.Step.{rules_at}
 use Rattle.path_annotate.specs.Gates.{all_attributes, operator_sets, in_all, bodies_read, query_gate, head_gate}
 use Rattle.path_annotate.specs.HeadRoots.{roots_named, roots_table}
 use Rattle.path_annotate.specs.Annotation.{rule_gate}
-use Rattle.path_annotate.proofs.Sets.{and-within_l, and-within_r}
 
 pub in_all-member : (all : ℕ) (sets : List ℕ) (set : ℕ) → Has set sets → within (in_all all sets) set ≡ true
 in_all-member all [] set h = absurd h

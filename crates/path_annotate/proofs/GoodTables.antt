@@ -3,13 +3,13 @@ use Rattle.std.proofs.Common.{◌≡◌, ◌≢◌, ◌≤◌, ◌<◌, ◌&&◌
 use Rattle.std.specs.List.{list_all, fold}
 use Rattle.std.proofs.lemmas.Bool.{cases_eq, true≢false, false_from_ne_true}
 use Rattle.blz_value.specs.Members.{Has}
+use Rattle.blz_value.proofs.Membership.{all_member, all_from}
 use Rattle.fd_closure.specs.Bits.{bit_of, meets}
 use Rattle.fd_closure.specs.Closure.{within, IsClosed, IsLeastClosed}
-use Rattle.fd_closure.proofs.Within.{within-trans, within-or_l}
-use Rattle.fd_closure.proofs.Members.{meets-within, in-within, in-empty, in-bit_same, in-bit_other}
+use Rattle.fd_closure.proofs.Within.{within-trans, within-or_l, and-within_r}
+use Rattle.fd_closure.proofs.Members.{meets-within, in-within, in-empty, in-bit_same, in-bit_other, member_small}
 use Rattle.fd_closure.proofs.Least.{closure-least}
 use Rattle.fd_closure.proofs.Reached.{closed-map}
-use Rattle.fd_closure.proofs.Singles.{member_small}
 use Rattle.bloom_ast.specs.declared.module.Kind.{Kind}
 use Rattle.bloom_ast.specs.declared.module.Kind.TheVariants.{Input, Output, Table, Scratch}
 use Rattle.bloom_ast.specs.declared.module.Collection.{Collection}
@@ -23,12 +23,11 @@ use Rattle.bloom_ast.specs.Reads.{set_of_name, named, arrow, arrows, cone, direc
 use Rattle.bloom_ast.specs.Step.{rules_at}
 use Rattle.bloom_ast.proofs.Numbers.{get-within, derived_or, derived-no_port}
 use Rattle.bloom_ast.proofs.KindSets.{kind-within, small_kind, kind-named, in_kind_set, from_kind_set, is_table}
-use Rattle.bloom_ast.proofs.Cones.{all_member, all_from, named-within, direct-cone, small_name, closed_from}
+use Rattle.bloom_ast.proofs.Cones.{named-within, direct-cone, small_name, closed_from}
 use Rattle.path_annotate.specs.Good.{all_tables, tables_read, is_good_rule, has_good_rules, with_good, good_tables}
 use Rattle.path_annotate.specs.ReadLaws.{GoodByRules, OnlyTablesAreGood, GoodByClosure, ReadsGoodByClosure}
 use Rattle.path_annotate.proofs.ClosedFormsLemmas.{reaches_bad, rule_of, reads_good-is, good_rules-is}
 use Rattle.path_annotate.proofs.Behind.{from_tables_read}
-use Rattle.path_annotate.proofs.Sets.{and-within_r}
 
 -- kinds
 

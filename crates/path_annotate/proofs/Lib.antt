@@ -1,4 +1,3 @@
-pub mod Sets
 pub mod CoversLaw
 pub mod GatesLemmas
 pub mod UsesLemmas

@@ -1,13 +1,12 @@
 -- What the rules of a checked module read, by numbers and by names.
 use Rattle.std.proofs.Common.{◌≡◌, ◌≤◌, ◌<◌, ◌&&◌, inl, inr, Option, None, Some, ℕ, Bool, true, false, not, if◌then◌else◌, List, map, filter, length, bit_and, refl, ap, ◌∙◌, sym, arith}
-use Rattle.std.specs.Cmp.{first_so, second_so}
-use Rattle.std.specs.Cmp.{both_ways}
+use Rattle.std.specs.Cmp.{first_so, second_so, both_ways}
 use Rattle.std.specs.Option.{option_map_or}
 use Rattle.std.specs.List.{list_all, flat_map, enumerate_from}
 use Rattle.std.proofs.lemmas.Simd.{map-map}
 use Rattle.std.proofs.lemmas.Bool.{true≢false, cases_Bool}
 use Rattle.blz_value.specs.Members.{Has}
-use Rattle.blz_value.proofs.Membership.{Has-filter, Has-from_filter}
+use Rattle.blz_value.proofs.Membership.{Has-filter, Has-from_filter, all_member, all_from}
 use Rattle.fd_closure.specs.declared.attrs.Fd.{Fd}
 use Rattle.fd_closure.specs.Bits.{bit_of, meets}
 use Rattle.fd_closure.specs.Closure.{closure}
@@ -26,7 +25,6 @@ use Rattle.bloom_ast.specs.Plain.{is_free, is_plain}
 use Rattle.bloom_ast.proofs.Unfolding.{number_small, bit_small}
 use Rattle.bloom_ast.proofs.Chosen.{from_chosen, in_chosen, chosen-lt}
 use Rattle.bloom_ast.proofs.KindSets.{in_kind_set, from_kind_set, kind-named, named-kind}
-use Rattle.bloom_ast.proofs.Cones.{all_member, all_from}
 use Rattle.path_annotate.specs.declared.readings.Graph.{Graph}
 use Rattle.path_annotate.specs.declared.readings.Reading.{Reading}
 use Rattle.path_annotate.specs.declared.readings.RuleFacts.{RuleFacts}

@@ -4,7 +4,7 @@ use Rattle.std.proofs.lemmas.Bool.{and_parts, and_from, true≢false}
 use Rattle.blz_value.specs.Members.{Has, IsWithin}
 use Rattle.blz_value.specs.Record.{Row}
 use Rattle.blz_value.specs.Sets.{set_of, IsRowSet}
-use Rattle.blz_value.proofs.Membership.{Has-append_left, Has-filter}
+use Rattle.blz_value.proofs.Membership.{Has-append_left, Has-filter, all_member}
 use Rattle.blz_value.proofs.SetLaws.{sorted_set_of, Has-set_of, Has-from_set_of}
 use Rattle.blz_value.proofs.OperatorsLemmas.{from_select, from_project, from_join, from_notin, from_group, from_at_least}
 use Rattle.blz_value.proofs.Maps.{flat_map_same}
@@ -29,7 +29,6 @@ use Rattle.bloom_ast.proofs.EquationsLemmas.{IsEnd, from_union, in_union}
 use Rattle.bloom_ast.proofs.PlainLemmas.{grows}
 use Rattle.bloom_ast.proofs.MomentaryLemmas.{now, port_now, table_later, scratch_now}
 use Rattle.bloom_ast.proofs.ReadsLemmas.{number_of, rules_named, rule_stands, IsRead, reads, IsIn, named_in, scratch_in, through_scratches}
-use Rattle.bloom_ast.proofs.Cones.{all_member}
 use Rattle.row_laws.proofs.Rows.Linear.{IsUnionOf, IsLinear, linear}
 
 -- How the proof goes.

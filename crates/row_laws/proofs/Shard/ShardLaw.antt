@@ -21,9 +21,8 @@ use Rattle.fd_closure.specs.Bits.{bit_of, meets}
 use Rattle.fd_closure.specs.Closure.{closure, IsLeastClosed}
 use Rattle.fd_closure.specs.Names.{place_of}
 use Rattle.fd_closure.proofs.Least.{closure-least}
-use Rattle.fd_closure.proofs.Members.{in-within}
+use Rattle.fd_closure.proofs.Members.{in-within, member_small}
 use Rattle.fd_closure.proofs.Places.{place_of-get}
-use Rattle.fd_closure.proofs.Singles.{member_small}
 use Rattle.bloom_ast.specs.declared.program.Program.TheVariants.{Module}
 use Rattle.bloom_ast.specs.Checks.{IsChecked}
 use Rattle.bloom_ast.specs.Columns.{column_number}

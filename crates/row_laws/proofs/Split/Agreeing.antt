@@ -3,8 +3,7 @@ use Rattle.std.proofs.Common.{◌≡◌, ℕ, Bool, true, List}
 use Rattle.blz_value.proofs.Maps.{same_map}
 use Rattle.fd_closure.specs.declared.attrs.Fd.{Fd}
 use Rattle.fd_closure.specs.Closure.{within}
-use Rattle.fd_closure.proofs.Members.{in-within}
-use Rattle.fd_closure.proofs.Singles.{member_small}
+use Rattle.fd_closure.proofs.Members.{in-within, member_small}
 use Rattle.fd_closure.proofs.Keeping.{HoldsOn, closure_keeps}
 use Rattle.bloom_ast.specs.declared.program.Program.{Program}
 use Rattle.bloom_ast.specs.Query.{Name}

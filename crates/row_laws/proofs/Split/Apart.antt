@@ -12,16 +12,15 @@ use Rattle.blz_value.specs.Sets.{IsRowSet}
 use Rattle.blz_value.specs.Test.{cell}
 use Rattle.blz_value.specs.Value.{value_cmp}
 use Rattle.blz_value.specs.ValueOrder.{value_cmp_exact}
-use Rattle.blz_value.proofs.Membership.{All-of_member, Has-get_or, Has-from_map, Has-from_filter, Has-append_left, Has-append_right}
+use Rattle.blz_value.proofs.Membership.{All-of_member, Has-get_or, Has-from_map, Has-from_filter, Has-append_left, Has-append_right, all_member}
 use Rattle.blz_value.proofs.SetLaws.{sorted_set_of}
 use Rattle.fd_closure.specs.declared.attrs.Fd.{Fd}
 use Rattle.fd_closure.specs.Bits.{bit_of, meets}
 use Rattle.fd_closure.specs.Closure.{within, IsLeastClosed}
 use Rattle.fd_closure.proofs.Within.{within-trans, within-or_l, within-or_r}
-use Rattle.fd_closure.proofs.Members.{in-within, meets-within}
+use Rattle.fd_closure.proofs.Members.{in-within, meets-within, member_small}
 use Rattle.fd_closure.proofs.Least.{closure-least}
 use Rattle.fd_closure.proofs.Reached.{closed-map, least-monotone}
-use Rattle.fd_closure.proofs.Singles.{member_small}
 use Rattle.bloom_ast.specs.declared.module.Kind.TheVariants.{Input}
 use Rattle.bloom_ast.specs.declared.module.Collection.{Collection}
 use Rattle.bloom_ast.specs.declared.program.Program.TheVariants.{Module}
@@ -49,7 +48,6 @@ use Rattle.bloom_ast.proofs.EquationsLemmas.{IsEnd, is_end}
 use Rattle.bloom_ast.proofs.PlainLemmas.{sorted_rows}
 use Rattle.bloom_ast.proofs.MomentaryLemmas.{now, port_now}
 use Rattle.bloom_ast.proofs.ReadsLemmas.{number_of, small_number, rules_named, rule_stands, IsRead, named_in}
-use Rattle.bloom_ast.proofs.Cones.{all_member}
 use Rattle.bloom_ast.proofs.KindNumbersLemmas.{number_at_place, at_place}
 use Rattle.bloom_ast.proofs.Levels.{neither}
 use Rattle.path_annotate.specs.Copies.{IsCopyOf}

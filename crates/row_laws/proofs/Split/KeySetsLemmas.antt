@@ -1,12 +1,12 @@
 -- A key that is a set of attributes is the list of its members.
 use Rattle.std.proofs.Common.{◌≡◌, Bool, true, false, List, refl, sym}
+use Rattle.blz_value.proofs.Membership.{all_member, all_from}
 use Rattle.fd_closure.specs.Bits.{members}
 use Rattle.fd_closure.specs.Closure.{within, closure}
-use Rattle.fd_closure.proofs.MembersLemmas.{from_members, within_by_members, members_within}
+use Rattle.fd_closure.proofs.MembersInOrder.{from_members, within_by_members, members_within}
 use Rattle.bloom_ast.specs.declared.program.Program.{Program}
 use Rattle.bloom_ast.specs.Proper.{IsProper}
 use Rattle.bloom_ast.specs.Query.{Name}
-use Rattle.bloom_ast.proofs.Cones.{all_member, all_from}
 use Rattle.path_annotate.specs.Annotation.{gate_of_output}
 use Rattle.path_annotate.specs.Attributes.{has_attribute}
 use Rattle.path_annotate.proofs.AttributesLemmas.{has_in_set, in_set_has}

@@ -9,7 +9,7 @@ use Rattle.blz_value.specs.Members.{Has}
 use Rattle.blz_value.specs.Operators.{cells}
 use Rattle.blz_value.specs.Record.{Row, record_cmp}
 use Rattle.blz_value.specs.Test.{cell}
-use Rattle.blz_value.proofs.Membership.{Contains-from_Has, Has-append_left, Has-append_right, Has-append_cases, Has-filter, Has-from_filter, Has-from_map, any_from_Has, Has-from_any}
+use Rattle.blz_value.proofs.Membership.{Contains-from_Has, Has-append_left, Has-append_right, Has-append_cases, Has-filter, Has-from_filter, Has-from_map, any_from_Has, Has-from_any, all_member, all_from}
 use Rattle.blz_value.proofs.SetLaws.{Has-set_of, Has-from_set_of}
 use Rattle.fd_closure.specs.declared.attrs.Fd.{Fd}
 use Rattle.fd_closure.specs.Bits.{bit_of, meets}
@@ -25,7 +25,6 @@ use Rattle.bloom_ast.specs.Step.{Sets, set_at}
 use Rattle.bloom_ast.specs.StockSteps.{keys_in_order, has_key, is_latest, latest_kept, latest_out}
 use Rattle.bloom_ast.specs.Steps.{tables_after_steps}
 use Rattle.bloom_ast.specs.Proper.{HasOwnColumns}
-use Rattle.bloom_ast.proofs.Cones.{all_member, all_from}
 use Rattle.bloom_ast.proofs.StepsLemmas.{longer, one_more}
 use Rattle.path_annotate.specs.Annotation.{latest_roots, key_set}
 use Rattle.path_annotate.specs.HeadRoots.{attribute_roots}

@@ -7,9 +7,8 @@ use Rattle.blz_value.proofs.Membership.{Has-map}
 use Rattle.fd_closure.specs.declared.attrs.Fd.{Fd}
 use Rattle.fd_closure.specs.Closure.{within, closure}
 use Rattle.fd_closure.proofs.Least.{closure-least}
-use Rattle.fd_closure.proofs.Members.{in-within}
+use Rattle.fd_closure.proofs.Members.{in-within, member_small}
 use Rattle.fd_closure.proofs.Reached.{least-monotone}
-use Rattle.fd_closure.proofs.Singles.{member_small}
 use Rattle.bloom_ast.specs.declared.program.Program.{Program}
 use Rattle.bloom_ast.specs.declared.program.Program.TheVariants.{Module}
 use Rattle.bloom_ast.specs.Checks.{IsChecked}

@@ -8,7 +8,7 @@ use Rattle.blz_value.specs.Record.{Row, record_cmp}
 use Rattle.fd_closure.specs.declared.attrs.Fd.{Fd}
 use Rattle.fd_closure.specs.Bits.{bit_of, meets}
 use Rattle.fd_closure.specs.Closure.{within, step, closure}
-use Rattle.fd_closure.proofs.Singles.{one_number, member_small}
+use Rattle.fd_closure.proofs.Members.{one_number, member_small}
 use Rattle.bloom_ast.specs.declared.expr.NamedAgg.TheVariants.{Count}
 use Rattle.bloom_ast.specs.declared.module.Kind.TheVariants.{Input, Output, Table}
 use Rattle.bloom_ast.specs.declared.program.Program.TheVariants.{Module}

@@ -8,8 +8,7 @@ use Rattle.blz_value.proofs.Membership.{Has-filter, Has-from_filter}
 use Rattle.fd_closure.specs.Bits.{bit_of, meets, members}
 use Rattle.fd_closure.specs.Closure.{within}
 use Rattle.fd_closure.proofs.Within.{set_one, within-bits}
-use Rattle.fd_closure.proofs.Members.{in-bit, bit-in, in-within}
-use Rattle.fd_closure.proofs.Singles.{member_small}
+use Rattle.fd_closure.proofs.Members.{in-bit, bit-in, in-within, member_small}
 
 -- ---- the numbers of a range
 

@@ -1,5 +1,5 @@
 -- What the parts of the check say of a module.
-use Rattle.std.proofs.Common.{◌≡◌, ◌==◌, ◌&&◌, not, rules, ℕ, Bool, true, false, Option, None, Result, Ok, Err, List, length, refl, subst}
+use Rattle.std.proofs.Common.{◌≡◌, ◌==◌, ◌&&◌, not, rules, ℕ, Bool, true, false, Option, None, Some, Result, Ok, Err, List, length, refl, ◌∙◌, sym, subst}
 use Rattle.std.specs.Global.{Vec}
 use Rattle.std.specs.List.{list_all}
 use Rattle.std.specs.Option.{option_or}
@@ -13,7 +13,7 @@ use Rattle.bloom_ast.specs.declared.fault.ModuleKind.TheVariants as kind
 use Rattle.bloom_ast.specs.declared.module.Collection.{Collection}
 use Rattle.bloom_ast.specs.Checks.{IsRule}
 use Rattle.bloom_ast.specs.Code.Checking.{ChecksHeads, Later}
-use Rattle.bloom_ast.specs.Faults.{kind_fault, fault_in, later_kinds, unknown_rule, columns_rule, recursive_rule, mixes, is_mixed}
+use Rattle.bloom_ast.specs.Faults.{kind_fault, fault_in, later_kinds, fault_of, unknown_rule, columns_rule, recursive_rule, mixes, is_mixed}
 use Rattle.bloom_ast.specs.Columns.{columns_of}
 use Rattle.bloom_ast.specs.Fits.{query_fits}
 use Rattle.bloom_ast.specs.Heads.{names_of}
@@ -23,6 +23,7 @@ use Rattle.bloom_ast.specs.Lookup.{declared}
 use Rattle.bloom_ast.specs.Form.{RuleForm, Form}
 use Rattle.bloom_ast.specs.Reads.{arrows, facts_of}
 use Rattle.bloom_ast.specs.Reserved.{HasOwnNames}
+use Rattle.bloom_ast.proofs.FirstFaultLemmas.{fault_same}
 use Rattle.bloom_ast.proofs.Firsts.{no_fault, are_few, rule_none, bounded, each_collection, distinct_names}
 use Rattle.bloom_ast.proofs.Ordering.{ordered}
 
@@ -67,13 +68,17 @@ module _ (cs : List Collection) (rules : List RuleForm) where
         pure = rule_none cs (facts_of cs rules) rules kind.MixedScratch (is_mixed cs (facts_of cs rules)) (λ i x. refl) none.5 r n;
       }
 
+-- a fault of a later kind is the first where there is none of size
+faulted : (m : Form) (o : Option ModuleFault) → kind_fault (facts_of m.collections m.rules) kind.TooMany m.collections m.rules ≡ None → fault_in (facts_of m.collections m.rules) later_kinds m.collections m.rules ≡ o → fault_of m ≡ o
+faulted m o size later = rw size later
+
 checks : (m : Form) (r : Result (Vec ℕ) CheckFault) → HasOwnNames m → kind_fault (facts_of m.collections m.rules) kind.TooMany m.collections m.rules ≡ None → Later m.collections m.rules r → ChecksHeads m r
 checks m (Ok heads) names size later = λ literals.
     let few = are_few m.collections (facts_of m.collections m.rules) m.rules size in
     let each = each_rule m.collections m.rules size later.clean literals in
     record {
       names = names;
-      clean = rw size later.clean;
+      clean = sym (fault_same m) ∙ faulted m None size later.clean;
       few_collections = few.0;
       few_rules = few.1;
       collections = each_collection m.collections (facts_of m.collections m.rules) m.rules size (parts m.collections m.rules later.clean).0;
@@ -81,7 +86,7 @@ checks m (Ok heads) names size later = λ literals.
       rules = each;
       ordered = rw later.are (ordered m.collections m.rules few.0 (λ r n. (each r n).free));
     }
-checks m (Err (Bad fault)) names size later = rw size later
+checks m (Err (Bad fault)) names size later = sym (fault_same m) ∙ faulted m (Some fault) size later
 checks m (Err NoMemory) names size later = tt
 
 -- the same of what two calls lent

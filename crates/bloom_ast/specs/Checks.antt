@@ -7,7 +7,8 @@ use Rattle.bloom_ast.specs.declared.fault.CheckFault.TheVariants.{Bad, NoMemory}
 use Rattle.bloom_ast.specs.declared.module.Collection.{Collection}
 use Rattle.bloom_ast.specs.Bounds.{passes_bounds}
 use Rattle.bloom_ast.specs.Columns.{columns_of}
-use Rattle.bloom_ast.specs.Faults.{fault_of, recursive_rule, mixes, is_mixed}
+use Rattle.bloom_ast.specs.Faults.{recursive_rule, mixes, is_mixed}
+use Rattle.bloom_ast.specs.FirstFault.{first_fault}
 use Rattle.bloom_ast.specs.Fits.{is_width, repeats, query_fits}
 use Rattle.bloom_ast.specs.Form.{RuleForm, Form, Accepted}
 use Rattle.bloom_ast.specs.Heads.{names_of, IsOrdered}
@@ -37,7 +38,7 @@ pub record IsRule (cs : List Collection) (rules : List RuleForm) (r : RuleForm) 
 -- the module has no fault, and the heads are in order
 pub record IsChecked (m : Form) (heads : List ℕ) : Type 0 where
   pub names : HasOwnNames m
-  pub clean : fault_of m ≡ None
+  pub clean : first_fault m ≡ None
   pub few_collections : length m.collections ≤ 32
   pub few_rules : length m.rules ≤ 64
   pub collections : (c : Collection) → Has c m.collections → IsCollection c
@@ -48,5 +49,5 @@ pub record IsChecked (m : Form) (heads : List ℕ) : Type 0 where
 -- the module itself with heads in order where it has no fault, and else its first fault
 abbrev pub Checks : Form → Result Accepted CheckFault → Type 0
 Checks m (Ok accepted) = (accepted.form ≡ m) × IsChecked m accepted.heads
-Checks m (Err (Bad fault)) = fault_of m ≡ Some fault
+Checks m (Err (Bad fault)) = first_fault m ≡ Some fault
 Checks m (Err NoMemory) = Unit {0}

@@ -1,5 +1,5 @@
 //! The shell of Split.
-ghost use Rattle.std.specs.Prelude.{◌≡◌, [], None, OnOk};
+ghost use Rattle.std.specs.Prelude.{◌≡◌, [], None, OnOk, OnErr};
 ghost use Rattle.std.specs.Option.{option_map};
 ghost use Rattle.bloom_ast.specs.declared.program.Program.TheVariants.{Split as SplitProgram};
 ghost use Rattle.blz_boxes.specs.declared.kind.ProgramKind.TheVariants.{Split as SplitKind};
@@ -72,8 +72,12 @@ impl Component for SplitShell {
         Ok(())
     }
 
-    fn kept_rows(&self, _table: u32, _into: &mut RecordSet) -> Result<(), AllocError> {
-        unreachable!()
+    fn kept_rows(&self, _table: u32, into: &mut RecordSet) -> Result<(), AllocError>
+        ensures ok { OnOk result (into.new ≡ []) }
+        ensures err { OnErr result (into.new ≡ into.old) }
+    {
+        *into = RecordSet::new(self.alloc);
+        Ok(())
     }
 
     fn clear(&mut self) {}

@@ -1,1 +1,5 @@
-pub mod Replies
+pub mod CommandLemmas
+pub mod FileLemmas
+pub mod ReplyLemmas
+pub mod ScriptLemmas
+pub mod SteadyLemmas

@@ -1,6 +1,9 @@
+pub mod Script
+pub mod Ends
 pub mod Words
 pub mod Lines
 pub mod Checks
+pub mod Commands
 pub mod Answer
 pub mod Outcome
-pub mod Reading
+pub mod Code

@@ -1,8 +1,13 @@
 -- How a call of the program ends: in its status, in what it has written and in the counts of faults.
-use Rattle.std.specs.Prelude.{◌≡◌, ◌⊎◌, ℕ, ◌<◌, ◌≤◌, List, Option, IfSome, length, take}
+use Rattle.std.specs.Prelude.{◌≡◌, ◌⊎◌, ℕ, ◌<◌, ◌≤◌, List, Option, IfSome, IsSomeAnd, length, take}
 use Rattle.blz_outside.specs.Counts.{Rose}
+use Rattle.blz_outside.specs.Files.{FileMap}
 use Rattle.blz_outside.specs.Sink.{Grows, Falls}
-use Rattle.blazes_cli.specs.Answer.{FilesStates, IsReply}
+use Rattle.blazes_cli.specs.Script.{Bytes, IsFailed}
+use Rattle.blazes_cli.specs.Ends.{FilesStates, ended}
+use Rattle.blazes_cli.specs.Words.{request_of}
+use Rattle.blazes_cli.specs.Commands.{Answer, script}
+use Rattle.blazes_cli.specs.Answer.{IsReply}
 use Rattle.blazes_cli.specs.declared.status.Status.{Status}
 use Rattle.blazes_cli.specs.declared.status.Status.TheVariants.{Done, Refused, Usage, ReadFault, WriteFault, Incomplete, NoMemory}
 
@@ -45,10 +50,14 @@ abbrev pub IsSaid : SinkStates → Status → List ℕ → Status → Type 0
 IsSaid sink status text result = ((result ≡ status) × WroteAll sink text) ⊎ ((result ≡ WriteFault) × WroteFront sink text)
 
 -- how the call ends, by its status
-abbrev pub IsOutcome : List (List ℕ) → FilesStates → SinkStates → Status → Type 0
+abbrev pub IsOutcome : List Bytes → FilesStates → SinkStates → Status → Type 0
 IsOutcome words files sink NoMemory = WroteNothing sink
-IsOutcome words files sink WriteFault = (status : Status) × (text : List ℕ) × IsReply words files status text × WroteFront sink text
-IsOutcome words files sink status = (text : List ℕ) × IsReply words files status text × WroteAll sink text
+IsOutcome words files sink WriteFault = (answer : Answer) × IsReply (request_of words) files answer × WroteFront sink answer.text
+IsOutcome words files sink status = (text : Bytes) × IsReply (request_of words) files (record { status = status; text = text }) × WroteAll sink text
+
+-- over these files, the checks of what the words ask for reach the name of a file that isn't held
+abbrev pub Misses : FileMap → List Bytes → Type 0
+Misses held words = IsSomeAnd (request_of words) (λ asked. IsFailed (ended held (script asked)))
 
 -- the answer to words that ask for nothing
 abbrev pub IsUsageOrLost : Status → Type 0

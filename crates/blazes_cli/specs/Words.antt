@@ -1,12 +1,9 @@
--- What the words of a command line ask for.
-use Rattle.std.specs.Prelude.{◌≡◌, ◌≢◌, ◌^◌, ◌-◌, ◌||◌, not, Bool, true, false, if◌then◌else◌, List, [], ◌∷◌, Option, Some, None, is_some, option_map, option_and_then, codes}
+-- What the words of a command line ask for: a row for each command.
+use Rattle.std.specs.Prelude.{◌^◌, ◌-◌, ◌||◌, true, if◌then◌else◌, List, [], ◌∷◌, Option, Some, None, is_some, option_map, option_and_then, find, codes}
 use Rattle.std.specs.Option.{option_map_or}
 use Rattle.std.specs.Str.{bytes_eq}
 use Rattle.clap.specs.Kinds.{Kinds}
-use Rattle.clap.specs.Words.{App, Rule, Row, Text, new_app, new_rule, with_rule, fault_of, matches_of, first_of, all_of, found_of, rows_of}
-use Rattle.clap.specs.declared.parser.matches.ArgMatches.{ArgMatches}
-use Rattle.blazes_cli.specs.declared.words.Request.{Request}
-use Rattle.blazes_cli.specs.declared.words.Request.TheVariants.{Label}
+use Rattle.clap.specs.Words.{App, Rule, Row, Text, new_app, new_rule, with_rule, fault_of, matches_of, first_of, all_of}
 use Rattle.clap.specs.declared.builder.ArgAction.TheVariants.{Set, Append}
 
 -- COMMAND, which is required
@@ -30,31 +27,27 @@ abbrev pub simple_command : App
 simple_command =
     with_rule (with_rule (with_rule (with_rule bare_command command_rule) file_rule) (option_rule (codes "seed"))) (option_rule (codes "count"))
 
--- the words match the simple command
-abbrev pub Match : List Text → Type 0
-Match words = fault_of simple_command words ≡ []
-
--- these are the matches of the words; there are none where the words don't match
-abbrev pub AreMatches : List Text → Option ArgMatches → Type 0
-AreMatches words (Some matches) = Match words × (rows_of (found_of matches) ≡ matches_of simple_command words)
-AreMatches words None = fault_of simple_command words ≢ []
-
 -- what a command line asks for, with the names of its files
 pub data Asked : Type 0 where
   -- the labels of the topology in this file
   label : Text → Asked
 
--- what a request asks for
-abbrev pub asked_by : Request → Asked
-asked_by (Label topology) = label topology.now
+-- the words of a command line, taken apart: COMMAND, the words after it, and the values of the options
+pub record Line : Type 0 where
+  pub command : Text
+  pub words : List Text
+  pub seed : Option Text
+  pub count : Option Text
 
--- COMMAND is this word
-abbrev pub is_command : Text → List Row → Bool
-is_command name rows = option_map_or (λ command. bytes_eq command name) (first_of (codes "command") rows) false
-
--- this option is given
-abbrev pub has_option : Text → List Row → Bool
-has_option name rows = is_some (first_of name rows)
+-- the line that matching words make; they always have a COMMAND
+abbrev pub line_of : List Row → Option Line
+line_of rows =
+    option_map (λ command. record {
+      command = command;
+      words = option_map_or (λ words. words) (all_of (codes "file") rows) [];
+      seed = first_of (codes "seed") rows;
+      count = first_of (codes "count") rows;
+    }) (first_of (codes "command") rows)
 
 -- the one text of a list of one
 abbrev pub only : List Text → Option Text
@@ -62,19 +55,26 @@ only [] = None
 only (text ∷ []) = Some text
 only (text ∷ next ∷ more) = None
 
--- the one FILE
-abbrev pub only_file : List Row → Option Text
-only_file rows = option_and_then only (all_of (codes "file") rows)
+-- the one word after a command without options
+abbrev pub only_word : Line → Option Text
+only_word line = if is_some line.seed || is_some line.count then None else only line.words
 
--- what matching words ask for: `label` with one file and no option
-abbrev pub asked : List Row → Option Asked
-asked rows =
-    if not (is_command (codes "label") rows) || has_option (codes "seed") rows || has_option (codes "count") rows then None
-    else option_map label (only_file rows)
+-- a command: its name, and what a line with it asks for
+pub record Command : Type 0 where
+  pub name : Text
+  pub asks : Line → Option Asked
 
--- what words ask for: without a fault, what their matches do
+-- the commands that are built
+abbrev pub commands : List Command
+commands = record { name = codes "label"; asks = λ line. option_map Asked.label (only_word line) } ∷ []
+
+-- what a line asks for
+abbrev pub asked : Line → Option Asked
+asked line = option_and_then (λ command. command.asks line) (find (λ command. bytes_eq command.name line.command) commands)
+
+-- what words ask for: without a fault, what their line does
 abbrev pub asked_without : Kinds → List Row → Option Asked
-asked_without [] rows = asked rows
+asked_without [] rows = option_and_then asked (line_of rows)
 asked_without (fault ∷ faults) rows = None
 
 abbrev pub request_of : List Text → Option Asked

@@ -2,9 +2,13 @@
 //! and the bytes that are written.
 #![tactic(auto)]
 
+mod file;
+mod label;
+mod label_text;
 mod program;
 mod reply;
 mod status;
+mod stop;
 mod topology_file;
 mod words;
 

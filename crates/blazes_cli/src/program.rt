@@ -1,45 +1,55 @@
 //! The call that the program makes.
-ghost use Rattle.std.specs.Prelude.{◌≡◌, ◌≢◌, ◌<◌, List, ℕ, None, Some, IfOk, IfSome, IsSomeAnd, IsTrue, map, string_bytes};
+ghost use Rattle.std.specs.Prelude.{◌≡◌, ◌≢◌, ◌<◌, None, IfOk, IfSome, IsTrue, map, string_bytes};
 ghost use Rattle.blz_outside.specs.Counts.{Rose};
-ghost use Rattle.blazes_cli.specs.Words as asking;
-ghost use Rattle.blazes_cli.specs.Answer.{files_states, IsReply, IsHeld};
-ghost use Rattle.blazes_cli.specs.Outcome.{sink_states, IsSaid, IsOutcome, IsUsageOrLost, IsReadFaultOrLost};
+ghost use Rattle.blazes_cli.specs.Answer.{IsAnswered, IsReply};
+ghost use Rattle.blazes_cli.specs.Code.Ran.{answer_of};
+ghost use Rattle.blazes_cli.specs.Code.Requests.{asked_by};
+ghost use Rattle.blazes_cli.specs.Commands.{script};
+ghost use Rattle.blazes_cli.specs.Ends.{files_states, source};
+ghost use Rattle.blazes_cli.specs.Lines.{usage_line};
+ghost use Rattle.blazes_cli.specs.Outcome.{sink_states, IsSaid, IsOutcome, IsUsageOrLost, IsReadFaultOrLost, Misses};
+ghost use Rattle.blazes_cli.specs.Words.{request_of};
 
-use crate::reply::{Reply, line_reply, name_reply};
+use crate::label::label;
+use crate::reply::{Reply, conclusion, line};
 use crate::status::Status;
-use crate::topology_file::{TOPOLOGY_LIMIT, label_reply};
 use crate::words::{Request, request_of};
-use blz_outside::{Files, ReadFail, Sink};
+use blz_outside::{Files, Sink};
 use std::alloc::{AllocError, Global};
 
 const USAGE: &str =
     "usage: blazes label|derive|plan TOPOLOGY | run TOPOLOGY DATA SCHEDULE | make TOPOLOGY DATA [--seed N] | soak [--seed N] [--count N] | shard TOPOLOGY COMPONENT COLUMN BOUND.. | restart TOPOLOGY DATA SCHEDULE | witness TOPOLOGY DATA SCHEDULE SCHEDULE | why TOPOLOGY DATA SCHEDULE STREAM REPLICA INDEX\n";
 
-fn label<F: Files>(alloc: Global, topology: &str, files: &mut F) -> Result<Reply, AllocError>
-    ensures { IfOk result (λ reply. (given : List (List ℕ)) →
-        asking.request_of given ≡ Some (asking.label topology.now) → IsReply given
-        (files_states (F.held files.old) (F.steady files.old) (F.faults files.old) (F.faults files.new))
-        reply.status reply.text.items) }
+fn answer<F: Files>(alloc: Global, request: Request<'_>, files: &mut F) -> Result<Reply, AllocError>
+    ensures { IfOk result (λ reply. IsAnswered (script (asked_by request.entry))
+        (files_states (source (F.held files.old) (F.steady files.old) (F.faults files.old))
+        (source (F.held files.new) (F.steady files.new) (F.faults files.new)))
+        (answer_of reply)) }
 {
-    let mut text = Vec::new(alloc);
-    match files.read(topology, TOPOLOGY_LIMIT, &mut text) {
-        Ok(end) => {
-            let reply = label_reply(alloc, topology, end, &text)?;
-            Ok(reply)
-        }
-        Err(ReadFail::Failed) => name_reply(alloc, Status::ReadFault, "cannot read ", topology),
-        Err(ReadFail::NoMemory) => Err(AllocError),
-    }
+    let outcome = match request {
+        Request::Label { topology } => label(alloc, topology, files),
+    };
+    conclusion(alloc, outcome)
+}
+
+fn usage_reply(alloc: Global) -> Result<Reply, AllocError>
+    ensures { IfOk result (λ reply. answer_of reply ≡ record { status = Status.Usage; text = usage_line }) }
+{
+    Ok(Reply {
+        status: Status::Usage,
+        text: line(alloc, USAGE)?,
+    })
 }
 
 fn reply_to<F: Files>(alloc: Global, words: &[String], files: &mut F) -> Result<Reply, AllocError>
-    ensures { IfOk result (λ reply. IsReply (map string_bytes words.now)
-        (files_states (F.held files.old) (F.steady files.old) (F.faults files.old) (F.faults files.new))
-        reply.status reply.text.items) }
+    ensures { IfOk result (λ reply. IsReply (request_of (map string_bytes words.now))
+        (files_states (source (F.held files.old) (F.steady files.old) (F.faults files.old))
+        (source (F.held files.new) (F.steady files.new) (F.faults files.new)))
+        (answer_of reply)) }
 {
     match request_of(alloc, words)? {
-        Some(Request::Label { topology }) => label(alloc, topology, files),
-        None => line_reply(alloc, Status::Usage, USAGE),
+        Some(request) => answer(alloc, request, files),
+        None => usage_reply(alloc),
     }
 }
 
@@ -64,28 +74,27 @@ pub fn blazes<F: Files, K: Sink>(
     out: &mut K,
 ) -> Status
     ensures outcome { IsOutcome (map string_bytes words.now)
-        (files_states (F.held files.old) (F.steady files.old) (F.faults files.old) (F.faults files.new))
+        (files_states (source (F.held files.old) (F.steady files.old) (F.faults files.old))
+        (source (F.held files.new) (F.steady files.new) (F.faults files.new)))
         (sink_states (K.written out.old) (K.written out.new) (K.room out.old) (K.room out.new)
         (K.faults out.old) (K.faults out.new))
         result }
 
     // Usage comes exactly where the words ask for nothing that is built.
-    ensures usage { result ≡ Status.Usage → asking.request_of (map string_bytes words.now) ≡ None }
-    ensures unmatched { asking.request_of (map string_bytes words.now) ≡ None → IsUsageOrLost result }
+    ensures usage { result ≡ Status.Usage → request_of (map string_bytes words.now) ≡ None }
+    ensures unmatched { request_of (map string_bytes words.now) ≡ None → IsUsageOrLost result }
 
     // ReadFault comes only where the count of the files' faults rose, and where it is greater no
     // answer but a lost one stands in its place.
     ensures read { result ≡ Status.ReadFault → Rose (F.faults files.old) (F.faults files.new) }
     ensures read_counted { F.faults files.old < F.faults files.new → IsReadFaultOrLost result }
 
-    // A steady source gives no ReadFault where it holds each name that is reached, and no answer but
-    // ReadFault or a lost one where it doesn't.
-    ensures steady_held { IsTrue (F.steady files.old) →
-        IfSome (asking.request_of (map string_bytes words.now)) (IsHeld (F.held files.old)) →
-        result ≢ Status.ReadFault }
-    ensures steady_absent { IsTrue (F.steady files.old) →
-        IsSomeAnd (asking.request_of (map string_bytes words.now)) (λ asked. ¬ IsHeld (F.held files.old) asked) →
-        IsReadFaultOrLost result }
+    // A steady source gives no ReadFault where it holds each name that the order of checks reaches,
+    // and no answer but ReadFault or a lost one where it doesn't.
+    ensures steady_held { IsTrue (F.steady files.old) → IfSome (F.held files.old)
+        (λ held. ¬ Misses held (map string_bytes words.now) → result ≢ Status.ReadFault) }
+    ensures steady_absent { IsTrue (F.steady files.old) → IfSome (F.held files.old)
+        (λ held. Misses held (map string_bytes words.now) → IsReadFaultOrLost result) }
 
     // WriteFault comes only where the count of the sink's faults rose, and always where it is greater.
     ensures write { result ≡ Status.WriteFault → Rose (K.faults out.old) (K.faults out.new) }

@@ -1,15 +1,12 @@
 //! Replies: a status, and the text that is to be written with it.
-ghost use Rattle.std.specs.Prelude.{◌≡◌, ◌++◌, IfOk, OnOk, map, codes};
-ghost use Rattle.std.specs.List.{flat_map, zip};
+ghost use Rattle.std.specs.Prelude.{◌≡◌, ◌++◌, IfOk, OnOk, Ok, codes};
 ghost use Rattle.blz_value.specs.Text.{escaped};
-ghost use Rattle.blazes_cli.specs.Lines as spec;
-ghost use Rattle.blazes_cli.specs.Reading.{answer_of, shown};
+ghost use Rattle.blazes_cli.specs.Code.Ran.{answer_of, Concludes};
 
 use crate::status::Status;
-use blz_value::{Str, write_escaped};
-use label_rules::Label;
+use crate::stop::Stop;
+use blz_value::write_escaped;
 use std::alloc::{AllocError, Global};
-use topo_types::{SourceEntry, StreamEntry, Topology};
 
 /// A status, and the text that is to be written with it.
 #[derive(Debug, Drop)]
@@ -18,101 +15,37 @@ pub struct Reply {
     pub text: Vec<u8>,
 }
 
-/// The reply of this line.
-pub fn line_reply(alloc: Global, status: Status, line: &str) -> Result<Reply, AllocError>
-    ensures { IfOk result (λ reply. answer_of reply ≡ record { status = status; text = line.now }) }
+/// This line, in a list of its own.
+pub fn line(alloc: Global, text: &str) -> Result<Vec<u8>, AllocError>
+    ensures { IfOk result (λ line. line.items ≡ text.now) }
 {
-    let text = Vec::from_slice(alloc, line.as_bytes())?;
-    Ok(Reply { status, text })
+    Vec::from_slice(alloc, text.as_bytes())
 }
 
-/// The reply of these words and the name of a file.
-pub fn name_reply(
-    alloc: Global,
-    status: Status,
-    words: &str,
-    name: &str,
-) -> Result<Reply, AllocError>
-    ensures { IfOk result (λ reply. answer_of reply ≡ record { status = status; text = words.now ++ escaped name.now ++ codes "\n" }) }
+/// The line of these words and the name of a file.
+pub fn name_line(alloc: Global, words: &str, name: &str) -> Result<Vec<u8>, AllocError>
+    ensures { IfOk result (λ line. line.items ≡ words.now ++ escaped name.now ++ codes "\n") }
 {
-    let mut text = Vec::from_slice(alloc, words.as_bytes())?;
-    write_escaped(alloc, name, &mut text)?;
-    text.push(b'\n')?;
-    Ok(Reply { status, text })
+    let mut line = Vec::from_slice(alloc, words.as_bytes())?;
+    write_escaped(alloc, name, &mut line)?;
+    line.push(b'\n')?;
+    Ok(line)
 }
 
-fn label_word(label: Label) -> &'static str
-    ensures { result.now ≡ spec.label_word label }
+/// The reply at the end of a command: its own, or the line of what stopped it.
+pub fn conclusion(alloc: Global, outcome: Result<Reply, Stop>) -> Result<Reply, AllocError>
+    ensures { IfOk result (λ reply. Concludes outcome (answer_of reply)) }
 {
-    match label {
-        Label::Seal(_) => "Seal",
-        Label::Async => "Async",
-        Label::Run => "Run",
-        Label::Inst => "Inst",
-        Label::Diverge => "Diverge",
+    match outcome {
+        Ok(reply) => Ok(reply),
+        Err(Stop::Refused(text)) => Ok(Reply {
+            status: Status::Refused,
+            text,
+        }),
+        Err(Stop::Failed(name)) => Ok(Reply {
+            status: Status::ReadFault,
+            text: name_line(alloc, "cannot read ", name.as_str())?,
+        }),
+        Err(Stop::NoMemory) => Err(AllocError),
     }
-}
-
-fn push_label_line(name: &Str, label: Label, text: &mut Vec<u8>) -> Result<(), AllocError>
-    ensures { OnOk result (text.new.items ≡ text.old.items ++ spec.label_line (name.now, label)) }
-{
-    text.extend_from_slice(name.as_str().as_bytes())?;
-    text.push(b' ')?;
-    text.extend_from_slice(label_word(label).as_bytes())?;
-    text.push(b'\n')?;
-    Ok(())
-}
-
-fn push_label_lines(names: &[&Str], labels: &[Label], text: &mut Vec<u8>) -> Result<(), AllocError>
-    ensures { OnOk result (text.new.items ≡ text.old.items ++ flat_map spec.label_line (zip (shown names.now) labels.now)) }
-{
-    let mut left = labels;
-    for name in names {
-        let [label, later @ ..] = left else {
-            return Ok(());
-        };
-        push_label_line(*name, *label, text)?;
-        left = later;
-    }
-    Ok(())
-}
-
-fn push_source_names<'a>(
-    sources: &'a [SourceEntry],
-    names: &mut Vec<&'a Str>,
-) -> Result<(), AllocError>
-    ensures { OnOk result (shown names.new.items ≡ shown names.old.items ++ map (λ source. source.name) sources.now) }
-{
-    for source in sources {
-        names.push(&source.name)?;
-    }
-    Ok(())
-}
-
-fn push_stream_names<'a>(
-    streams: &'a [StreamEntry],
-    names: &mut Vec<&'a Str>,
-) -> Result<(), AllocError>
-    ensures { OnOk result (shown names.new.items ≡ shown names.old.items ++ map (λ stream. stream.name) streams.now) }
-{
-    for stream in streams {
-        names.push(&stream.name)?;
-    }
-    Ok(())
-}
-
-/// The text of these labels: a line for each stream, sources first.
-pub fn label_text(
-    alloc: Global,
-    topology: &Topology,
-    labels: &[Label],
-) -> Result<Vec<u8>, AllocError>
-    ensures { IfOk result (λ text. text.items ≡ spec.label_text topology.now labels.now) }
-{
-    let mut names = Vec::new(alloc);
-    push_source_names(topology.sources.as_slice(), &mut names)?;
-    push_stream_names(topology.streams.as_slice(), &mut names)?;
-    let mut text = Vec::new(alloc);
-    push_label_lines(&names, labels, &mut text)?;
-    Ok(text)
 }

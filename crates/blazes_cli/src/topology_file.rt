@@ -1,16 +1,17 @@
-//! The checks of a topology file, and the labels of its streams.
-ghost use Rattle.std.specs.Prelude.{◌≡◌, List, ℕ, IfOk, IsTrue};
+//! The checks of a topology file.
+ghost use Rattle.std.specs.Prelude.{◌≡◌, IfOk, IsTrue};
 ghost use Rattle.topo_read.specs.Document.{document_of};
-ghost use Rattle.label_walk.specs.Forward.{is_forward};
-ghost use Rattle.blazes_cli.specs.Answer.{HasLabels, AnswersChecked, IsFromChecks};
-ghost use Rattle.blazes_cli.specs.Checks.{check_small, check_document, check_length};
-ghost use Rattle.blazes_cli.specs.Reading.{IsRead, answer_of};
+ghost use Rattle.label_walk.specs.Small.{is_small};
+ghost use Rattle.blazes_cli.specs.Checks as check;
+ghost use Rattle.blazes_cli.specs.Code.Ran.{Gives, Ran};
+ghost use Rattle.blazes_cli.specs.Ends.{files_states, source};
 
-use crate::reply::{Reply, label_text, line_reply, name_reply};
-use crate::status::Status;
-use blz_outside::End;
-use label_walk::{is_small, labels};
-use std::alloc::{AllocError, Global};
+use crate::file::read_file;
+use crate::reply::line;
+use crate::stop::Stop;
+use blz_outside::Files;
+use label_walk::is_small;
+use std::alloc::Global;
 use topo_read::{TopoTextFault, read_small};
 use topo_types::Topology;
 
@@ -21,50 +22,38 @@ const NOT_TOML: &str = "refused NotToml\n";
 
 const NOT_BUILT: &str = "refused NotBuilt\n";
 
-fn labelled(alloc: Global, topology: &Topology) -> Result<Reply, AllocError>
-    requires { IsTrue (is_forward topology.now) }
-    ensures status { IfOk result (λ reply. IsFromChecks reply.status) }
-    ensures labels { IfOk result (λ reply. HasLabels topology.now (answer_of reply)) }
+// The topology that is written in these bytes, with no keys but those of small ones.
+fn topology_in(alloc: Global, bytes: &[u8]) -> Result<Topology, Stop>
+    ensures { Gives (λ topology. topology) result (check.topology_in (document_of bytes.now)) }
 {
-    let labels = labels(alloc, topology)?;
-    let text = label_text(alloc, topology, labels.as_slice())?;
-    Ok(Reply {
-        status: Status::Done,
-        text,
-    })
-}
-
-fn reply_to_topology(alloc: Global, topology: &Topology) -> Result<Reply, AllocError>
-    ensures status { IfOk result (λ reply. IsFromChecks reply.status) }
-    ensures answer { IfOk result (λ reply. AnswersChecked (check_small topology.now) (answer_of reply)) }
-{
-    if !is_small(alloc, topology)? {
-        return line_reply(alloc, Status::Refused, NOT_BUILT);
-    }
-    labelled(alloc, topology)
-}
-
-fn reply_to_text(alloc: Global, text: &[u8]) -> Result<Reply, AllocError>
-    ensures status { IfOk result (λ reply. IsFromChecks reply.status) }
-    ensures answer { IfOk result (λ reply. AnswersChecked (check_document (document_of text.now)) (answer_of reply)) }
-{
-    match read_small(alloc, text) {
-        Ok(Some(topology)) => reply_to_topology(alloc, &topology),
-        Ok(None) => line_reply(alloc, Status::Refused, NOT_BUILT),
-        Err(TopoTextFault::NotToml) => line_reply(alloc, Status::Refused, NOT_TOML),
-        Err(TopoTextFault::Form { .. }) => line_reply(alloc, Status::Refused, NOT_BUILT),
-        Err(TopoTextFault::NoMemory) => Err(AllocError),
+    match read_small(alloc, bytes) {
+        Ok(Some(topology)) => Ok(topology),
+        Ok(None) => Err(Stop::Refused(line(alloc, NOT_BUILT)?)),
+        Err(TopoTextFault::NotToml) => Err(Stop::Refused(line(alloc, NOT_TOML)?)),
+        Err(TopoTextFault::Form { .. }) => Err(Stop::Refused(line(alloc, NOT_BUILT)?)),
+        Err(TopoTextFault::NoMemory) => Err(Stop::NoMemory),
     }
 }
 
-/// The reply to `label` for a topology file of this name, of which a read within the limit gave
-/// this end and these bytes.
-pub fn label_reply(alloc: Global, name: &str, end: End, text: &[u8]) -> Result<Reply, AllocError>
-    ensures status { IfOk result (λ reply. IsFromChecks reply.status) }
-    ensures answer { (bytes : List ℕ) → IsRead end text.now bytes → IfOk result (λ reply. AnswersChecked (check_length name.now bytes) (answer_of reply)) }
+/// The topology in the file of this name.
+pub fn topology_file<F: Files>(alloc: Global, name: &str, files: &mut F) -> Result<Topology, Stop>
+    ensures { Ran (λ topology. topology)
+        (files_states (source (F.held files.old) (F.steady files.old) (F.faults files.old))
+        (source (F.held files.new) (F.steady files.new) (F.faults files.new)))
+        result (check.topology_file name.now) }
 {
-    match end {
-        End::More => name_reply(alloc, Status::Refused, "refused TooLong ", name),
-        End::Whole => reply_to_text(alloc, text),
+    let bytes = read_file(alloc, name, TOPOLOGY_LIMIT, files)?;
+    topology_in(alloc, &bytes)
+}
+
+/// The topology again, where it is small.
+pub fn small_topology(alloc: Global, topology: Topology) -> Result<Topology, Stop>
+    ensures small { IfOk result (λ given. IsTrue (is_small given)) }
+    ensures gives { Gives (λ given. given) result (check.small topology) }
+{
+    if is_small(alloc, &topology)? {
+        Ok(topology)
+    } else {
+        Err(Stop::Refused(line(alloc, NOT_BUILT)?))
     }
 }

@@ -1,6 +1,7 @@
 //! What the words of a command line ask for.
-ghost use Rattle.std.specs.Prelude.{◌≡◌, IfOk, map, option_map, string_bytes, false, codes};
+ghost use Rattle.std.specs.Prelude.{◌≡◌, IfOk, map, option_map, option_and_then, string_bytes, false};
 ghost use Rattle.clap.specs.Words.{all_of, app_of, first_of, found_of, rows_of, rule_of};
+ghost use Rattle.blazes_cli.specs.Code.Requests.{AreMatches, asked_by, line_shown};
 ghost use Rattle.blazes_cli.specs.Words.{bare_command, simple_command, command_rule, file_rule, option_rule};
 ghost use Rattle.blazes_cli.specs.Words as spec;
 
@@ -13,6 +14,15 @@ use std::alloc::{AllocError, Global};
 pub enum Request<'a> {
     /// The labels of the topology in the file of this name.
     Label { topology: &'a str },
+}
+
+// The words of a command line, taken apart.
+#[derive(Drop)]
+struct Line<'m, 'a> {
+    command: &'a str,
+    words: Option<&'m [&'a str]>,
+    seed: Option<&'a str>,
+    count: Option<&'a str>,
 }
 
 fn command_arg<'a>(alloc: Global) -> Arg<'a>
@@ -60,7 +70,7 @@ fn command<'a>(alloc: Global) -> Result<Command<'a>, AllocError>
 
 // The words as the simple command reads them, where it finds no fault.
 fn read_words<'a>(alloc: Global, words: &'a [String]) -> Result<Option<ArgMatches<'a>>, AllocError>
-    ensures { IfOk result (spec.AreMatches (map string_bytes words.entry.now)) }
+    ensures { IfOk result (AreMatches (map string_bytes words.entry.now)) }
 {
     let command = command(alloc)?;
     match command.try_get_matches_from(words) {
@@ -88,53 +98,58 @@ fn values_of<'m, 'a>(matches: &'m ArgMatches<'a>, name: &str) -> Option<&'m [&'a
     matches.get_strs(name)
 }
 
-fn is_command(matches: &ArgMatches<'_>, name: &str) -> bool
-    ensures { result ≡ spec.is_command name.now (rows_of (found_of matches.now)) }
+// The line that these matches make.
+fn line_of<'m, 'a>(matches: &'m ArgMatches<'a>) -> Option<Line<'m, 'a>>
+    ensures { option_map line_shown result ≡ spec.line_of (rows_of (found_of matches.now)) }
 {
-    match value_of(matches, "command") {
-        Some(command) => command == name,
-        None => false,
+    let command = value_of(matches, "command")?;
+    Some(Line {
+        command,
+        words: values_of(matches, "file"),
+        seed: value_of(matches, "seed"),
+        count: value_of(matches, "count"),
+    })
+}
+
+// The one word after a command without options.
+fn only_word<'a>(line: &Line<'_, 'a>) -> Option<&'a str>
+    ensures { option_map (λ word. word.now) result ≡ spec.only_word (line_shown line.now) }
+{
+    if line.seed.is_some() || line.count.is_some() {
+        return None;
     }
-}
-
-fn has_option(matches: &ArgMatches<'_>, name: &str) -> bool
-    ensures { result ≡ spec.has_option name.now (rows_of (found_of matches.now)) }
-{
-    value_of(matches, name).is_some()
-}
-
-// The one FILE that the words have.
-fn only_file<'a>(matches: &ArgMatches<'a>) -> Option<&'a str>
-    ensures { option_map (λ file. file.now) result ≡ spec.only_file (rows_of (found_of matches.now)) }
-{
-    match values_of(matches, "file") {
-        Some([file]) => Some(*file),
+    match line.words {
+        Some([word]) => Some(*word),
         _ => None,
     }
 }
 
-fn label_request<'a>(matches: &ArgMatches<'a>) -> Option<Request<'a>>
-    ensures { option_map spec.asked_by result ≡ spec.asked (rows_of (found_of matches.now)) }
+// What a line asks for.
+fn request_for<'a>(line: &Line<'_, 'a>) -> Option<Request<'a>>
+    ensures { option_map asked_by result ≡ spec.asked (line_shown line.now) }
 {
-    if !is_command(matches, "label")
-        || has_option(matches, "seed")
-        || has_option(matches, "count")
-    {
-        return None;
+    if line.command == "label" {
+        let topology = only_word(line)?;
+        return Some(Request::Label { topology });
     }
-    match only_file(matches) {
-        Some(topology) => Some(Request::Label { topology }),
-        None => None,
-    }
+    None
+}
+
+// What matching words ask for.
+fn request_in<'a>(matches: &ArgMatches<'a>) -> Option<Request<'a>>
+    ensures { option_map asked_by result ≡ option_and_then spec.asked (spec.line_of (rows_of (found_of matches.now))) }
+{
+    let line = line_of(matches)?;
+    request_for(&line)
 }
 
 /// What the words ask for; `None` where they don't match the simple command, or no command that is
 /// built has such words after it.
 pub fn request_of<'a>(alloc: Global, words: &'a [String]) -> Result<Option<Request<'a>>, AllocError>
-    ensures { IfOk result (λ request. option_map spec.asked_by request ≡ spec.request_of (map string_bytes words.entry.now)) }
+    ensures { IfOk result (λ request. option_map asked_by request ≡ spec.request_of (map string_bytes words.entry.now)) }
 {
     match read_words(alloc, words)? {
-        Some(matches) => Ok(label_request(&matches)),
+        Some(matches) => Ok(request_in(&matches)),
         None => Ok(None),
     }
 }

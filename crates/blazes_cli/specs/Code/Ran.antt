@@ -1,0 +1,49 @@
+-- What a part of the program returned, beside the script that it runs.
+use Rattle.std.specs.Prelude.{◌≡◌, Option, Some, None, IfSome, Result, Ok, Err}
+use Rattle.blazes_cli.specs.Script.{Bytes, Script, Ending}
+use Rattle.blazes_cli.specs.Ends.{FilesStates, Came}
+use Rattle.blazes_cli.specs.Commands.{Answer, Work}
+use Rattle.blazes_cli.specs.Answer.{IsAnswered}
+use Rattle.blazes_cli.specs.Lines.{cannot_read}
+use Rattle.blazes_cli.specs.declared.reply.Reply.{Reply}
+use Rattle.blazes_cli.specs.declared.status.Status.TheVariants as status
+use Rattle.blazes_cli.specs.declared.stop.Stop.{Stop}
+use Rattle.blazes_cli.specs.declared.stop.Stop.TheVariants.{Refused, Failed, NoMemory}
+
+-- how a script ends where a part stops so; nothing is said where memory ran out
+abbrev pub ending_of : {A : Type 0} → Stop → Option (Ending A)
+ending_of (Refused line) = Some (Ending.refused line.items)
+ending_of (Failed name) = Some (Ending.failed name)
+ending_of NoMemory = None
+
+-- the script ends as this stop says
+abbrev pub Stopped : {A : Type 0} → FilesStates → Stop → Script A → Type 0
+Stopped files stop script = IfSome (ending_of stop) (Came files script)
+
+-- what was returned, seen by view, is how the script ends
+abbrev pub Ran : {X A : Type 0} → (X → A) → FilesStates → Result X Stop → Script A → Type 0
+Ran view files (Ok x) script = Came files script (Ending.gave (view x))
+Ran view files (Err stop) script = Stopped files stop script
+
+-- what was returned, seen by view, is what a check gives; nothing is said where memory ran out
+abbrev pub Gives : {X A : Type 0} → (X → A) → Result X Stop → Result A Bytes → Type 0
+Gives view (Ok x) given = given ≡ Ok (view x)
+Gives view (Err (Refused line)) given = given ≡ Err line.items
+Gives view (Err (Failed name)) given = ⊥
+Gives view (Err NoMemory) given = Unit {0}
+
+-- what a reply says
+abbrev pub answer_of : Reply → Answer
+answer_of reply = record { status = reply.status; text = reply.text.items }
+
+-- the reply is the answer at the end of the script; nothing is said where memory ran out
+abbrev pub Replies : FilesStates → Result Reply Stop → Script Work → Type 0
+Replies files (Ok reply) script = IsAnswered script files (answer_of reply)
+Replies files (Err stop) script = Stopped files stop script
+
+-- the answer at the end of a command; none where memory ran out
+abbrev pub Concludes : Result Reply Stop → Answer → Type 0
+Concludes (Ok reply) answer = answer ≡ answer_of reply
+Concludes (Err (Refused line)) answer = answer ≡ record { status = status.Refused; text = line.items }
+Concludes (Err (Failed name)) answer = answer ≡ record { status = status.ReadFault; text = cannot_read name }
+Concludes (Err NoMemory) answer = ⊥

@@ -1,0 +1,32 @@
+-- Requests beside what they ask for.
+use Rattle.std.specs.Prelude.{◌≡◌, ◌≢◌, List, [], Option, Some, None, map, option_map}
+use Rattle.std.specs.Option.{option_map_or}
+use Rattle.clap.specs.Words.{Text, fault_of, matches_of, found_of, rows_of}
+use Rattle.clap.specs.declared.parser.matches.ArgMatches.{ArgMatches}
+use Rattle.blazes_cli.specs.Words.{Asked, simple_command}
+use Rattle.blazes_cli.specs.Words as spec
+use Rattle.blazes_cli.specs.declared.words.Line.{Line}
+use Rattle.blazes_cli.specs.declared.words.Request.{Request}
+use Rattle.blazes_cli.specs.declared.words.Request.TheVariants.{Label}
+
+-- the words match the simple command
+abbrev pub Match : List Text → Type 0
+Match words = fault_of simple_command words ≡ []
+
+-- these are the matches of the words; there are none where the words don't match
+abbrev pub AreMatches : List Text → Option ArgMatches → Type 0
+AreMatches words (Some matches) = Match words × (rows_of (found_of matches) ≡ matches_of simple_command words)
+AreMatches words None = fault_of simple_command words ≢ []
+
+-- a line without its references
+abbrev pub line_shown : Line → spec.Line
+line_shown line = record {
+  command = line.command.now;
+  words = option_map_or (λ words. map (λ word. word.now) words.now) line.words [];
+  seed = option_map (λ value. value.now) line.seed;
+  count = option_map (λ value. value.now) line.count;
+}
+
+-- what a request asks for
+abbrev pub asked_by : Request → Asked
+asked_by (Label topology) = Asked.label topology.now

@@ -1,2 +1,4 @@
 pub mod Front
 pub mod Keys
+pub mod GivenValues
+pub mod GivenEntries

@@ -1,5 +1,5 @@
 //! The topology that the bytes of a file give.
-ghost use Rattle.std.specs.Prelude.{◌≡◌, option_map, map};
+ghost use Rattle.std.specs.Prelude.{◌≡◌, IfOk, option_map, map};
 ghost use Rattle.toml.specs.Data.{as_table};
 ghost use Rattle.toml.specs.View.{table_view, items_view};
 ghost use Rattle.topo_read.specs.Document as document;
@@ -7,6 +7,7 @@ ghost use Rattle.topo_read.specs.Gives.{Gives, GivesValue, IsBreakAt, GivesDocum
 ghost use Rattle.topo_read.specs.Reading.{IsReading, IsSmallReading};
 ghost use Rattle.topo_read.specs.Topology as spec;
 ghost use Rattle.topo_read.specs.Values.{all_in};
+ghost use Rattle.topo_types.specs.Allowed.{IsAllowed};
 ghost use Rattle.topo_read.specs.Tables.{list_at_key};
 
 use crate::entries::FromTable;
@@ -150,8 +151,10 @@ fn document_of(alloc: Global, bytes: &[u8]) -> Result<Table, TopoTextFault>
 ///
 /// NotToml comes where the bytes are no TOML document, and Form where the document isn't of the form of
 /// a topology, with the path of its first break.
+#[tactic(auto, using(crate::proofs::GivenEntries::good_topology))]
 pub fn read(alloc: Global, text: &[u8]) -> Result<Topology, TopoTextFault>
-    ensures { IsReading text.now result }
+    ensures reading { IsReading text.now result }
+    ensures allowed { IfOk result IsAllowed }
 {
     let top = document_of(alloc, text)?;
     topology_in(alloc, &top)

@@ -7,6 +7,8 @@ mod breaks;
 #[cfg(test)]
 mod faults;
 #[cfg(test)]
+mod fields;
+#[cfg(test)]
 mod label_tables;
 #[cfg(test)]
 mod labels;

@@ -1,6 +1,6 @@
 -- The rows that each operator gives, as a list over lists of rows; the operator's set is `set_of` of that list.
-use Rattle.std.specs.Prelude.{ℕ, ◌==◌, ◌<◌, Bool, not, List, ◌++◌, map, filter}
-use Rattle.std.specs.List.{All, list_all, list_any, flat_map, enumerate_from}
+use Rattle.std.specs.Prelude.{ℕ, ◌==◌, Bool, not, List, ◌++◌, map, filter}
+use Rattle.std.specs.List.{list_all, list_any, flat_map, enumerate_from}
 use Rattle.std.specs.Ordering.{eq_by_cmp}
 use Rattle.blz_value.specs.Record.{Row}
 use Rattle.blz_value.specs.Value.{value_cmp}
@@ -45,11 +45,3 @@ join_rows pairs lefts rights = flat_map (λ left. map (joined pairs left) (filte
 -- notin: the left rows that agree on all pairs with no right row
 abbrev pub notin_rows : Pairs → List Row → List Row → List Row
 notin_rows pairs lefts rights = filter (λ left. not (list_any (agree pairs left) rights)) lefts
-
--- each column is below the width
-abbrev pub ColumnsFit : List ℕ → ℕ → Type 0
-ColumnsFit columns width = All (λ column. column < width) columns
-
--- each left column is below the one width, and each right column below the other
-abbrev pub PairsFit : Pairs → ℕ → ℕ → Type 0
-PairsFit pairs left right = All (λ pair. (pair.0 < left) × (pair.1 < right)) pairs

@@ -5,12 +5,10 @@ mod forward;
 mod label_list;
 mod laws;
 mod small;
-mod upstream;
 mod walk;
 
 pub use forward::is_forward;
 pub use label_list::Labels;
-pub use laws::{labels_law, small_labels_law};
+pub use laws::{labels_law, small_labels_law, upstream_law};
 pub use small::is_small;
-pub use upstream::upstream_law;
 pub use walk::labels;

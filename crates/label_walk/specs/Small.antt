@@ -1,7 +1,7 @@
 -- Small topologies, of which the labels can be told so far.
 use Rattle.std.specs.Prelude.{◌&&◌, Bool, is_none}
 use Rattle.topo_types.specs.declared.topology.Topology.{Topology}
-use Rattle.topo_types.specs.Validity.{fault_of}
+use Rattle.topo_types.specs.Small.{fault_of}
 use Rattle.label_walk.specs.Forward.{is_forward}
 
 -- the topology has no fault, and each stream goes to later components only

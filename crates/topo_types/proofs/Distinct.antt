@@ -15,8 +15,8 @@ use Rattle.std.proofs.lemmas.Cmp.{on_total, then_total}
 use Rattle.std.proofs.lemmas.Iterator.{YieldsList, items_from_drains}
 use Rattle.std.proofs.lemmas.Map.Views.{btree_set_len-from_list}
 use Rattle.std.proofs.lemmas.Map.Text.{is_eq-slice_cmp}
-use Rattle.topo_types.specs.Parts.{Name}
-use Rattle.topo_types.specs.ValidityTwice.{are_distinct, same_pair}
+use Rattle.bloom_ast.specs.Query.{Name}
+use Rattle.topo_types.specs.Validity.Twice.{are_distinct, same_pair}
 
 -- ---- a test of what a function shows of the elements
 

@@ -6,7 +6,7 @@ use Rattle.blz_value.specs.Members.{Has}
 use Rattle.fd_closure.specs.Names.{added, place_of}
 use Rattle.fd_closure.proofs.Places.{place_of-new}
 use Rattle.topo_types.specs.declared.topology.Side.{Side}
-use Rattle.topo_types.specs.Parts.{Name}
+use Rattle.bloom_ast.specs.Query.{Name}
 use Rattle.topo_types.specs.Attributes.{with_columns, side_columns}
 
 length-kept : (names : List Name) (name : Name) (b : Bool) → length names ≤ length (if b then names else names ++ name ∷ [])
@@ -39,7 +39,7 @@ pub place_of_new : (names : List Name) (name : Name) → (Has name names → ⊥
 place_of_new names name new = no_place (place_of names name) (place_of-new names name new)
 
 -- the element of a loop and what is left after it
-left_with : {X : Type 0} (xs : List X) (i : ℕ) (x : X) → i < length xs → x ≡ get_or xs i x → drop i xs ≡ x ∷ drop (i + 1) xs
+pub left_with : {X : Type 0} (xs : List X) (i : ℕ) (x : X) → i < length xs → x ≡ get_or xs i x → drop i xs ≡ x ∷ drop (i + 1) xs
 left_with xs i x below is = drop-cons xs i x below ∙ (let one : suc i ≡ i + 1 = omega arith in cc)
 
 too_long : (n : ℕ) → 64 < n → false ≡ nat_le n 64

@@ -1,4 +1,9 @@
 //! What is wrong with a topology, and where.
+ghost use Rattle.std.specs.Prelude.{◌≡◌};
+ghost use Rattle.topo_types.specs.declared.fault.ValidFault.TheVariants.{NoMemory};
+
+use std::alloc::{AllocError, AllocFailed};
+use thiserror::Error;
 
 /// The first fault of a topology.
 #[derive(Clone, Copy, Debug, PartialEq, Eq)]
@@ -34,4 +39,31 @@ pub enum TopoPlace {
     /// The number counts the streams that come from outputs.
     Stream(u32),
     Fd(u32),
+}
+
+/// Why a topology was not accepted.
+#[derive(Debug, Drop, Error)]
+pub enum ValidFault {
+    /// The topology has this fault.
+    #[error("the topology has a fault")]
+    Bad(TopoFault),
+    /// Memory ran out.
+    #[error("out of memory")]
+    NoMemory,
+}
+
+impl From<AllocError> for ValidFault {
+    ghost from_gives = { λ _ e. e ≡ NoMemory };
+
+    fn from(_: AllocError) -> Self {
+        ValidFault::NoMemory
+    }
+}
+
+impl<T: Drop> From<AllocFailed<T>> for ValidFault {
+    ghost from_gives = { λ _ e. e ≡ NoMemory };
+
+    fn from(_: AllocFailed<T>) -> Self {
+        ValidFault::NoMemory
+    }
 }

@@ -1,5 +1,5 @@
 -- What holds of a name where it holds of all in the cones of its rules holds of each name of a checked module.
-use Rattle.std.proofs.Common.{◌≡◌, ◌<◌, ℕ, zero, suc, true, false, Some, List, [], ◌∙◌, sym, inl, inr, arith}
+use Rattle.std.proofs.Common.{◌≡◌, ◌<◌, ℕ, zero, suc, true, false, Some, List, ◌∙◌, sym, inl, inr, arith}
 use Rattle.std.proofs.lemmas.Bool.{cases_Bool, true≢false}
 use Rattle.blz_value.specs.Members.{Has}
 use Rattle.fd_closure.specs.Bits.{bit_of, meets}

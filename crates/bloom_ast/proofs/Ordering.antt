@@ -16,7 +16,7 @@ use Rattle.bloom_ast.specs.declared.module.Kind.TheVariants.{Input, Output, Tabl
 use Rattle.bloom_ast.specs.declared.module.Collection.{Collection}
 use Rattle.bloom_ast.specs.Faults.{recursive_rule}
 use Rattle.bloom_ast.specs.Form.{RuleForm}
-use Rattle.bloom_ast.specs.Code.HeadKeys.{key_at, put_head, heads_on}
+use Rattle.bloom_ast.specs.HeadOrder.{key_at, put_head, heads_on}
 use Rattle.bloom_ast.specs.Heads.{names_of, HasRule, IsDerived, InOrder, IsOrdered}
 use Rattle.bloom_ast.specs.Kinds.{is_input}
 use Rattle.bloom_ast.specs.Lookup.{collection_number}

@@ -1,5 +1,5 @@
 -- Collections by their numbers at the ends of two steps: where they hold the same, or less, so do the sets of a kind.
-use Rattle.std.proofs.Common.{◌≡◌, ◌+◌, ℕ, zero, suc, Bool, true, false, Some, List, [], ◌∷◌, ◌++◌, length, map, refl, ap, inl, inr, arith}
+use Rattle.std.proofs.Common.{◌≡◌, ℕ, zero, suc, Bool, true, false, Some, List, [], ◌∷◌, ◌++◌, length, map, refl, ap, inl, inr, arith}
 use Rattle.std.proofs.lemmas.Bool.{cases_Bool}
 use Rattle.blz_value.specs.Members.{IsWithin}
 use Rattle.blz_value.specs.Record.{Row}

@@ -1,5 +1,5 @@
 -- After a step of a stock body the next one, with nothing arriving, keeps the same and puts out nothing.
-use Rattle.std.proofs.Common.{◌≡◌, ◌++◌, ◌+◌, ℕ, zero, suc, false, not, List, [], ◌∷◌, length, filter, refl, ap, ◌∙◌, sym, subst}
+use Rattle.std.proofs.Common.{◌≡◌, ◌++◌, ℕ, zero, suc, false, not, List, [], ◌∷◌, length, filter, refl, ap, ◌∙◌, sym, subst}
 use Rattle.std.specs.List.{list_any}
 use Rattle.std.proofs.lemmas.List.{append-nil}
 use Rattle.blz_value.specs.Members.{Has}

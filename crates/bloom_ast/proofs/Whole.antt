@@ -73,19 +73,22 @@ faulted : (m : Form) (o : Option ModuleFault) → kind_fault (facts_of m.collect
 faulted m o size later = rw size later
 
 checks : (m : Form) (r : Result (Vec ℕ) CheckFault) → HasOwnNames m → kind_fault (facts_of m.collections m.rules) kind.TooMany m.collections m.rules ≡ None → Later m.collections m.rules r → ChecksHeads m r
-checks m (Ok heads) names size later = λ literals.
-    let few = are_few m.collections (facts_of m.collections m.rules) m.rules size in
-    let each = each_rule m.collections m.rules size later.clean literals in
-    record {
-      names = names;
-      clean = sym (fault_same m) ∙ faulted m None size later.clean;
-      few_collections = few.0;
-      few_rules = few.1;
-      collections = each_collection m.collections (facts_of m.collections m.rules) m.rules size (parts m.collections m.rules later.clean).0;
-      distinct = distinct_names m.collections (facts_of m.collections m.rules) m.rules (parts m.collections m.rules later.clean).0;
-      rules = each;
-      ordered = rw later.are (ordered m.collections m.rules few.0 (λ r n. (each r n).free));
-    }
+checks m (Ok heads) names size later = (
+  later.are,
+  λ literals.
+      let few = are_few m.collections (facts_of m.collections m.rules) m.rules size in
+      let each = each_rule m.collections m.rules size later.clean literals in
+      record {
+        names = names;
+        clean = sym (fault_same m) ∙ faulted m None size later.clean;
+        few_collections = few.0;
+        few_rules = few.1;
+        collections = each_collection m.collections (facts_of m.collections m.rules) m.rules size (parts m.collections m.rules later.clean).0;
+        distinct = distinct_names m.collections (facts_of m.collections m.rules) m.rules (parts m.collections m.rules later.clean).0;
+        rules = each;
+        ordered = rw later.are (ordered m.collections m.rules few.0 (λ r n. (each r n).free));
+      },
+)
 checks m (Err (Bad fault)) names size later = sym (fault_same m) ∙ faulted m (Some fault) size later
 checks m (Err NoMemory) names size later = tt
 

@@ -1,5 +1,4 @@
 -- What private functions give.
 pub mod Borrowed
 pub mod NumberedParts
-pub mod HeadKeys
 pub mod Checking

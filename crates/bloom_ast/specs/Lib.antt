@@ -15,6 +15,7 @@ pub mod Equations
 pub mod OverTables
 pub mod Laws
 pub mod Reads
+pub mod HeadOrder
 pub mod Plain
 pub mod Bounds
 pub mod Fits

@@ -5,7 +5,8 @@ ghost use Rattle.bloom_ast.specs.Checks.{Checks};
 ghost use Rattle.bloom_ast.specs.Code.Checking as checking;
 ghost use Rattle.bloom_ast.specs.Faults as spec;
 ghost use Rattle.bloom_ast.specs.Form.{form_of, rule_form, rule_forms};
-ghost use Rattle.bloom_ast.specs.Code.HeadKeys as order;
+ghost use Rattle.bloom_ast.specs.HeadOrder as order;
+ghost use Rattle.bloom_ast.specs.HeadOrder.{heads_of};
 ghost use Rattle.bloom_ast.specs.Reads.{facts_of as facts_in};
 ghost use Rattle.bloom_ast.specs.Reserved.{HasOwnNames};
 ghost use Rattle.bloom_ast.specs.declared.fault.ModuleKind.TheVariants.{TooMany};
@@ -204,7 +205,8 @@ fn clean_heads(alloc: Global, module: &Module) -> Result<Vec<u32>, CheckFault>
 /// holds, at its first place, collections before rules. The error is that fault or want of memory.
 pub fn check(alloc: Global, module: &Module) -> Result<Checked, CheckFault>
     requires names { HasOwnNames (form_of module.now) }
-    ensures { Checks (form_of module.now) result }
+    ensures checked { Checks (form_of module.now) result }
+    ensures heads { IfOk result (λ checked. checked.heads ≡ heads_of (form_of module.now)) }
 {
     let heads = clean_heads(alloc, module)?;
     let module = module.copy(alloc)?;

@@ -6,16 +6,16 @@ use Rattle.bloom_ast.specs.declared.fault.CheckFault.TheVariants.{Bad, NoMemory}
 use Rattle.bloom_ast.specs.declared.fault.ModuleFault.{ModuleFault}
 use Rattle.bloom_ast.specs.declared.module.Collection.{Collection}
 use Rattle.bloom_ast.specs.Checks.{IsChecked}
-use Rattle.bloom_ast.specs.Code.HeadKeys.{key_at, heads_on}
+use Rattle.bloom_ast.specs.HeadOrder.{key_at, heads_on, heads_of}
 use Rattle.bloom_ast.specs.Faults.{fault_in, later_kinds}
 use Rattle.bloom_ast.specs.FirstFault.{first_fault}
 use Rattle.bloom_ast.specs.Form.{RuleForm, Form}
 use Rattle.bloom_ast.specs.Literals.{RulesHaveLiterals}
 use Rattle.bloom_ast.specs.Reads.{arrows, facts_of, keys_of}
 
--- the heads in order where there is no fault and the literals can be held, and else the first fault
+-- the heads in their order where there is no fault, and else the first fault; where the literals can be held the module is checked
 abbrev pub ChecksHeads : Form → Result (Vec ℕ) CheckFault → Type 0
-ChecksHeads m (Ok heads) = RulesHaveLiterals m.rules → IsChecked m heads.items
+ChecksHeads m (Ok heads) = (heads.items ≡ heads_of m) × (RulesHaveLiterals m.rules → IsChecked m heads.items)
 ChecksHeads m (Err (Bad fault)) = first_fault m ≡ Some fault
 ChecksHeads m (Err NoMemory) = Unit {0}
 

@@ -1,5 +1,5 @@
 use Rattle.std.proofs.Common.{◌≡◌, [], drop}
-use Rattle.bloom_ast.specs.Code.HeadKeys as order
+use Rattle.bloom_ast.specs.HeadOrder as order
 use Rattle.bloom_ast.proofs.checking.heads_in.Given as goal
 
 abbrev pub invariant-loop-i : goal.invariant-loop-i

@@ -1,7 +1,7 @@
 use Rattle.std.proofs.Common.{◌≡◌, ◌∙◌, ℕ, List, [], ◌∷◌, refl, ap, subst, nat_lt, inl, inr}
 use Rattle.std.specs.List.{insert}
 use Rattle.std.proofs.lemmas.Bool.{cases_Bool}
-use Rattle.bloom_ast.specs.Code.HeadKeys.{key_at, place_for, put_head}
+use Rattle.bloom_ast.specs.HeadOrder.{key_at, place_for, put_head}
 use Rattle.bloom_ast.proofs.checking.put_head.Goals as goal
 
 placed : (key : ℕ → ℕ) (h : ℕ) (heads : List ℕ) → insert heads (place_for key (key h) heads) h ≡ put_head key h heads

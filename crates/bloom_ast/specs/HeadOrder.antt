@@ -1,7 +1,9 @@
--- Heads by what they read: each before the first that has a greater key.
+-- The order of heads that a check chooses: by what they read, as a number; who reads another has the greater number.
 use Rattle.std.specs.Prelude.{ℕ, suc, ◌+◌, if◌then◌else◌, List, [], ◌∷◌, nat_lt, slice_index_or}
 use Rattle.bloom_ast.specs.declared.module.Collection.{Collection}
+use Rattle.bloom_ast.specs.Form.{Form}
 use Rattle.bloom_ast.specs.Kinds.{is_input}
+use Rattle.bloom_ast.specs.Reads.{arrows, keys_of}
 
 -- the key of the collection with the number
 abbrev pub key_at : List ℕ → ℕ → ℕ
@@ -21,3 +23,7 @@ put_head key_of h (g ∷ heads) = if nat_lt (key_of h) (key_of g) then h ∷ g �
 abbrev pub heads_on : (ℕ → ℕ) → ℕ → List Collection → List ℕ → List ℕ
 heads_on key_of at [] heads = heads
 heads_on key_of at (c ∷ cs) heads = heads_on key_of (at + 1) cs (if is_input c.kind then heads else put_head key_of at heads)
+
+-- the collections of a module that are no inputs, each before the first that reads more
+abbrev pub heads_of : Form → List ℕ
+heads_of m = heads_on (key_at (keys_of m.collections (arrows m.collections m.rules))) 0 m.collections []

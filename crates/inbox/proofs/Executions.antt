@@ -1,0 +1,8 @@
+-- Executions, step by step.
+pub mod Results
+pub mod Appending
+pub mod Histories
+pub mod Lengthening
+pub mod Senders
+pub mod Completing
+pub mod Standing

@@ -1,0 +1,5 @@
+-- Emitted lists: what they have, in which order, and how they grow.
+pub mod Growing
+pub mod Rows
+pub mod Repeats
+pub mod Seals

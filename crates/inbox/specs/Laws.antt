@@ -1,0 +1,34 @@
+-- The laws of executions, complete or not, with forgets or without, each in one word.
+use Rattle.std.specs.Prelude.{◌≡◌, ◌↔◌, ℕ, ◌<◌, Ok, List, length}
+use Rattle.fd_closure.specs.declared.attrs.Attrs.{Attrs}
+use Rattle.topo_types.specs.declared.mode.Mode.TheVariants.{Seal}
+use Rattle.topo_types.specs.Data.{Data}
+use Rattle.inbox.specs.Messages.{Batch, Entry, all_pairs}
+use Rattle.inbox.specs.Instances.{Instance}
+use Rattle.inbox.specs.Timesteps.{timesteps, Stands, Goes}
+use Rattle.inbox.specs.Wiring.{Wiring}
+use Rattle.inbox.specs.Executions.{Execution, after_step, execution_of, emitted_list}
+use Rattle.inbox.specs.Growth.{IsExtendedBy, TakesWithinLogs, HearsWhatIsSent, LogsWhatIsSent, NoRepeats}
+use Rattle.inbox.specs.Events.{Step}
+
+-- each legal step only lengthens emitted lists and logs
+abbrev pub ListsGrow : Type 0
+ListsGrow = (w : Wiring) (given : Data) (steps : List Step) (step : Step) (x y : Execution) → execution_of w given steps ≡ Ok x → after_step w given step x ≡ Ok y → IsExtendedBy w given x y
+
+-- what was heard or logged stands in the emitted list of its feed, and no replica took more than its log has
+pub record IsSent (w : Wiring) (given : Data) (x : Execution) : Type 0 where
+  pub takes : TakesWithinLogs x
+  pub hears : HearsWhatIsSent w given x
+  pub logs : LogsWhatIsSent w given x
+
+-- so it is after any legal steps
+abbrev pub AllIsSent : Type 0
+AllIsSent = (w : Wiring) (given : Data) (steps : List Step) (x : Execution) → execution_of w given steps ≡ Ok x → IsSent w given x
+
+-- no emitted list has a record twice, nor two seals of one partition
+abbrev pub ListsDontRepeat : Type 0
+ListsDontRepeat = (w : Wiring) (given : Data) (x : Execution) (stream replica : ℕ) → NoRepeats (emitted_list w given x stream replica)
+
+-- under Seal a record stands in a timestep exactly where it was heard and waits for nothing
+abbrev pub SealedTimesteps : Type 0
+SealedTimesteps = (i : Instance) (key : Attrs) (batches : List Batch) (entry : Entry) → i.mode ≡ Seal key → entry.0 < length i.ports → Stands (timesteps i batches) entry ↔ Goes i (all_pairs batches) entry

@@ -1,0 +1,13 @@
+pub mod Messages
+pub mod Instances
+pub mod Timesteps
+pub mod Emission
+pub mod Lives
+pub mod Wiring
+pub mod Events
+pub mod Executions
+pub mod Completeness
+pub mod Folds
+pub mod Growth
+pub mod Standing
+pub mod Laws

@@ -1,0 +1,101 @@
+-- Rows of lists and keys of records, as the laws on rows have them.
+use Rattle.std.proofs.Common.{◌≡◌, ◌<◌, ℕ, Bool, true, Option, None, Some, List, [], length, map, slice_get, ap, refl, ◌∙◌, sym, subst}
+use Rattle.std.specs.Prelude.{◌↔◌, if◌then◌else◌}
+use Rattle.std.specs.Option.{option_map, option_map_or, option_and_then, unwrap_or}
+use Rattle.std.proofs.lemmas.Option.{slice_get-get_or}
+use Rattle.blz_value.specs.Members.{Has}
+use Rattle.blz_value.specs.Operators.{cells}
+use Rattle.blz_value.specs.Record.{Row}
+use Rattle.blz_value.proofs.Membership.{Has-flat_map, Has-from_flat_map, Has-from_filter}
+use Rattle.blz_value.proofs.SetLaws.{Has-set_of, Has-from_set_of}
+use Rattle.fd_closure.specs.declared.attrs.Attrs.{Attrs}
+use Rattle.fd_closure.specs.Bits.{bit_of, meets}
+use Rattle.fd_closure.specs.Closure.{within}
+use Rattle.fd_closure.proofs.Members.{in-within}
+use Rattle.bloom_ast.specs.declared.program.Program.{Program}
+use Rattle.bloom_ast.specs.ProgramStep.{empty_tables}
+use Rattle.row_laws.specs.Classes.{columns_at}
+use Rattle.row_laws.specs.Runs.{output_rows, over_steps, output_over}
+use Rattle.topo_types.specs.Data.{key_places}
+use Rattle.topo_types.specs.Messages.{Message, row, seal, row_in, rows_in}
+use Rattle.topo_types.specs.Sets.{below}
+use Rattle.topo_types.specs.View.{View, End, component_at, mode_of, mode_key, port_attrs, port_numbers, Stream, stream_at}
+use Rattle.inbox.specs.Messages.{Entry}
+use Rattle.inbox.specs.Instances.{PortKey, Instance}
+use Rattle.inbox.specs.Instances as instances
+use Rattle.inbox.specs.Lives.{Life, Lives, all_lives, life_timesteps, emitted_by}
+use Rattle.inbox.specs.Wiring.{instance_at, instance_for, port_for, wiring_of}
+use Rattle.inbox.specs.Executions.{list_from, emitted_list}
+use Rattle.inbox.proofs.Lists.Rows.{life_rows, rows_of_list}
+use Rattle.inbox.proofs.Timesteps.Whole.{Has-filter_map, Has-from_filter_map}
+use Rattle.inbox.proofs.WiringLemmas.{get_or-below, instance-wired, stream-wired, length-below}
+use Rattle.stream_deps.specs.Agreement.{port_roots, value_at}
+use Rattle.stream_deps.specs.Laws.{RowsLaw, KeyLaw, EntryKeyLaw}
+use Rattle.stream_deps.proofs.Joint.{has_attribute_is, value_is, key_values}
+use Rattle.stream_deps.proofs.Lists.{rows_over_steps}
+use Rattle.fd_closure.proofs.Members.{member_small}
+use Rattle.path_annotate.specs.Attributes.{value_in}
+use Rattle.blz_value.proofs.Maps.{same_map}
+use Rattle.fd_closure.specs.Bits.{members}
+
+-- ---- rows of a list
+
+row_of : (message : Message) (r : Row) → row_in message ≡ Some r → message ≡ row r
+row_of (row a) r e = ap row (ap (λ (o : Option Row). unwrap_or o a) e)
+row_of (seal k n) r e = cc
+
+rows_out : (r : Row) (messages : List Message) → Has r (rows_in messages) → Has (row r) messages
+rows_out r messages h = let m = Has-from_filter_map row_in r messages h in subst (λ (z : Message). Has z messages) (row_of m.0 r m.2) m.1
+
+-- a record that stands in the list of an output, and the lives in which it is a row
+abbrev IsRowOfLives : Program → Instance → (log : List Entry) → Lives → (output : ℕ) → Row → Type 0
+IsRowOfLives program i log lives output r =
+    Has (row r) (emitted_by i log lives output) ↔ ((life : Life) × Has life (all_lives lives) × Has r (output_over program output (life_timesteps i log life)))
+
+rows_of_instance : (program : Program) (i : Instance) → i.program ≡ Some program → (log : List Entry) (lives : Lives) (output : ℕ) (r : Row) → output < length i.outputs → IsRowOfLives program i log lives output r
+rows_of_instance program i has log lives output r within =
+    let list = emitted_by i log lives output in
+    let same = rows_of_list program i has log lives output within in
+    let steps : (life : Life) → life_rows program i log output life ≡ over_steps program (output_rows program output) (empty_tables program) (life_timesteps i log life) = λ life. rows_over_steps program (empty_tables program) (life_timesteps i log life) output in (
+      λ h.
+          let m = Has-from_flat_map (life_rows program i log output) r (all_lives lives) (same.0 r (Has-filter_map row_in (row r) r list h refl)) in
+          (m.0, m.1, Has-set_of r _ (subst (λ (l : List Row). Has r l) (steps m.0) m.2)),
+      λ h. rows_out r list (same.1 r (Has-flat_map (life_rows program i log output) h.0 r (all_lives lives) h.1 (subst (λ (l : List Row). Has r l) (sym (steps h.0)) (Has-from_set_of r _ h.2)))),
+    )
+
+pub rows_law : RowsLaw
+rows_law v d x s c o i program r valid within from has sends =
+    let numbers = valid.numbered.origins s (c, o) within from in
+    let there : o < length (instance_for v c i).outputs = subst (λ (n : ℕ). o < n) (sym (length-below _ (length (component_at v c).outputs))) numbers.1 in
+    let own : IsRowOfLives program (instance_at (wiring_of v) c i) (x.logs c) (x.lives c i) o r = subst (λ (z : Instance). IsRowOfLives program z (x.logs c) (x.lives c i) o r) (sym (instance-wired v c i numbers.0 sends))
+    (rows_of_instance program (instance_for v c i) has (x.logs c) (x.lives c i) o r there) in
+    let list : emitted_list (wiring_of v) d x s i ≡ emitted_by (instance_at (wiring_of v) c i) (x.logs c) (x.lives c i) o =
+    ap (λ (l : Option Stream). option_map_or (λ (line : Stream). list_from line.origin (wiring_of v) d x line s i) l []) (stream-wired v s within)
+    ∙ ap (λ (origin : Option End). list_from origin (wiring_of v) d x (stream_at v s) s i) from in
+    (λ h. own.0 (subst (λ (l : List Message). Has (row r) l) list h), λ h. subst (λ (l : List Message). Has (row r) l) (sym list) (own.1 h))
+
+-- ---- keys
+
+pub key_law : KeyLaw
+key_law v c p key program r valid there has inside =
+    same_map (value_in v.attributes (columns_at program p) r) (value_at (port_roots v c p) r) (members key)
+    (λ a h.
+    let member = (Has-from_filter (λ n. meets (bit_of n) key) a (below 64) h).1 in
+    value_is v valid c there program has p a r (has_attribute_is v valid c there program has p a (in-within a key (port_attrs v c p).bits (member_small a key member) member inside)))
+    ∙ sym (key_values (port_roots v c p) r (members key))
+
+places_of : (v : View) (c j : ℕ) (key : Attrs) (p : ℕ) → mode_key (mode_of v c) ≡ Some key → p < length (component_at v c).ports → within key.bits (port_attrs v c p).bits ≡ true
+    → instances.key_places_at (instance_for v c j) p ≡ Some (key_places (port_roots v c p) key.bits)
+places_of v c j key p mode within_ports inside =
+    let ports = map (λ q. port_for v c q (mode_key (mode_of v c))) (port_numbers v c) in
+    let at : slice_get ports p ≡ Some (port_for v c p (mode_key (mode_of v c))) =
+    slice_get-get_or ports p (port_for v c p (mode_key (mode_of v c))) (subst (λ (n : ℕ). p < n) (sym (length-below _ (length (component_at v c).ports))) within_ports)
+    ∙ ap Some (get_or-below (λ q. port_for v c q (mode_key (mode_of v c))) (length (component_at v c).ports) p (port_for v c p (mode_key (mode_of v c))) within_ports) in
+    ap (option_and_then (λ (q : PortKey). q.places)) at
+    ∙ ap (λ (k : Option Attrs). (port_for v c p k).places) mode
+    ∙ ap (λ (b : Bool). if b then Some (key_places (port_roots v c p) key.bits) else None) inside
+
+pub entry_key_law : EntryKeyLaw
+entry_key_law v c j key entry there replica mode within_ports inside =
+    ap (λ (i : Instance). instances.key_of_entry i entry) (instance-wired v c j there replica)
+    ∙ ap (option_map (λ places. cells places entry.1)) (places_of v c j key entry.0 mode within_ports inside)

@@ -1,0 +1,45 @@
+-- Histories of a valid topology, and the records that streams send to the ports of a component.
+use Rattle.std.specs.Prelude.{ℕ, ◌≡◌, ◌<◌, IsTrue, Ok, List, length}
+use Rattle.blz_value.specs.Members.{Has}
+use Rattle.blz_value.specs.Record.{Row}
+use Rattle.bloom_ast.specs.Step.{Sets, set_at}
+use Rattle.topo_types.specs.Data.{Data, IsData}
+use Rattle.topo_types.specs.Messages.{row}
+use Rattle.topo_types.specs.Valid.{IsValid}
+use Rattle.topo_types.specs.View.{View, stream_replicas, goes_to}
+use Rattle.inbox.specs.Messages.{Batch, Pair, Entry}
+use Rattle.inbox.specs.Growth.{ComesFrom, EntryComesFrom}
+use Rattle.inbox.specs.Lives.{Life, all_lives}
+use Rattle.inbox.specs.Wiring.{Wiring, wiring_of, instance_at}
+use Rattle.inbox.specs.Executions.{Execution, emitted_list, execution_of}
+use Rattle.inbox.specs.Events.{Step}
+
+-- legal steps of a valid topology over its data reach this execution
+pub record IsHistory (v : View) (d : Data) (x : Execution) : Type 0 where
+  pub valid : IsValid v
+  pub fits : IsData v d
+  pub steps : List Step
+  pub legal : execution_of (wiring_of v) d steps ≡ Ok x
+
+-- ---- rank: what was heard by a step was emitted before it
+
+-- all that stands in lives and logs of the second execution stands in emitted lists of the first
+pub record WasSentBefore (w : Wiring) (given : Data) (x y : Execution) : Type 0 where
+  pub heard : (component replica : ℕ) (life : Life) (batch : Batch) (pair : Pair)
+      → Has life (all_lives (y.lives component replica)) → Has batch life.heard → Has pair batch → ComesFrom w given x (instance_at w component replica) pair
+  pub logged : (component : ℕ) (entry : Entry) → Has entry (y.logs component) → EntryComesFrom w given x (instance_at w component 0) entry
+
+-- ---- records that come to a port
+
+-- a sending replica of a stream into the port has emitted the record
+pub record IsSentTo (v : View) (d : Data) (x : Execution) (component port : ℕ) (r : Row) : Type 0 where
+  pub stream : ℕ
+  pub sender : ℕ
+  pub within : stream < length v.streams
+  pub goes : IsTrue (goes_to v component port stream)
+  pub sends : sender < stream_replicas v stream
+  pub sent : Has (row r) (emitted_list (wiring_of v) d x stream sender)
+
+-- each record of some timesteps was sent to its port
+abbrev pub AreSent : View → Data → Execution → (component : ℕ) → List Sets → Type 0
+AreSent v d x c nows = (now : Sets) (port : ℕ) (r : Row) → Has now nows → Has r (set_at now port) → IsSentTo v d x c port r

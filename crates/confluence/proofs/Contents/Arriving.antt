@@ -1,0 +1,127 @@
+-- What arrives at an instance of a component with a body, in timesteps and in all.
+use Rattle.std.proofs.Common.{◌≡◌, ◌<◌, ◌==◌, ℕ, true, false, Option, Some, List, [], ◌∷◌, length, ap, ◌∙◌, sym, subst, inl, inr}
+use Rattle.std.proofs.lemmas.Bool.{cases_lt, eqb-true}
+use Rattle.std.proofs.lemmas.List.{get_or_past, length-map}
+use Rattle.std.proofs.lemmas.List.FromFn.{length-map-range_with_len}
+use Rattle.blz_value.specs.Members.{Has}
+use Rattle.blz_value.specs.Record.{Row}
+use Rattle.blz_value.proofs.Membership.{Has-from_any, any_from_Has}
+use Rattle.blz_value.proofs.SetLaws.{Has-from_set_of}
+use Rattle.bloom_ast.specs.declared.program.Program.{Program}
+use Rattle.bloom_ast.specs.Program.{port_columns, output_columns}
+use Rattle.bloom_ast.specs.Step.{Sets, set_at}
+use Rattle.path_annotate.specs.Annotation.{note_of}
+use Rattle.path_annotate.specs.declared.note.Note.{Note}
+use Rattle.topo_types.specs.Data.{Data}
+use Rattle.topo_types.specs.Feeds.{Feed}
+use Rattle.topo_types.specs.Messages.{row, rows_in}
+use Rattle.topo_types.specs.Valid.{IsValid, Runs, IsCovered}
+use Rattle.topo_types.specs.View.{View, End, origin_of, program_of, is_order, replicas_of, component_at, note_at, has_stream, goes_to, ends_of, same_end, stream_numbers}
+use Rattle.topo_types.proofs.Spreading.{from_below, in_below, both_true}
+use Rattle.inbox.specs.Instances.{Instance}
+use Rattle.inbox.specs.Timesteps.{timesteps}
+use Rattle.inbox.specs.Lives.{Life, all_lives}
+use Rattle.inbox.specs.Wiring.{Wiring, wiring_of, instance_at}
+use Rattle.inbox.specs.Executions.{Execution, emitted_list}
+use Rattle.inbox.proofs.WiringLemmas.{IsFeedInto, instance-feeds}
+use Rattle.stream_deps.specs.Sent.{IsHistory, IsSentTo, AreSent}
+use Rattle.confluence.specs.Complete.{contents_at, contents_into}
+use Rattle.confluence.proofs.Honest.HeardWhole.{Has-from_rows_in}
+use Rattle.confluence.proofs.Determined.Parts.{IsPart, covered_on}
+use Rattle.confluence.proofs.Contents.Heard.{from_into, stands_heard, heard_into}
+use Rattle.confluence.proofs.Contents.Instances.{instance_is, ports_are, inside, not_order, long_timesteps}
+use Rattle.confluence.proofs.Determined.Rows.{AreInside}
+
+-- a port with a stream is one of its component
+pub port_there : (v : View) (c p : ℕ) → IsValid v → has_stream v c p ≡ true → (c < length v.components) × (p < length (component_at v c).ports)
+port_there v c p valid h =
+    let s = Has-from_any (goes_to v c p) (stream_numbers v) h in
+    let e = Has-from_any (λ (end : End). same_end (c, p) end) (ends_of v s.0) s.2 in
+    let at = valid.numbered.ends s.0 e.0 (from_below (length v.streams) s.0 s.1) e.1 in
+    let same = both_true (c == e.0.0) (p == e.0.1) e.2 in
+    let ce : c ≡ e.0.0 = eqb-true c e.0.0 same.0 in
+    let pe : p ≡ e.0.1 = eqb-true p e.0.1 same.1 in
+    (subst (λ (n : ℕ). n < length v.components) (sym ce) at.0, subst (λ (n : ℕ). p < length (component_at v n).ports) (sym ce) (subst (λ (n : ℕ). n < length (component_at v e.0.0).ports) (sym pe) at.1))
+
+module _ (v : View) (d : Data) (x : Execution) (history : IsHistory v d x) (s c o j : ℕ) (within : s < length v.streams) (origin : origin_of v s ≡ Some (c, o)) (sender : j < replicas_of v c)
+    (program : Program) (body : program_of v c ≡ Some program) (unordered : is_order v c ≡ false) where
+  abbrev w : Wiring
+  w = wiring_of v
+
+  abbrev i : Instance
+  i = instance_at w c j
+
+  abbrev all : Sets
+  all = contents_into w d x c j
+
+  abbrev at : (c < length v.components) × (o < length (component_at v c).outputs)
+  at = inside v d x history.valid s c o j within origin sender
+
+  pub runs : Runs v c program
+  runs = (history.valid.components c at.0).runs program body
+
+  pub ports_same : length (port_columns program) ≡ length (component_at v c).ports
+  ports_same = sym (length-map (port_columns program) _) ∙ sym (ap length runs.ports) ∙ length-map (component_at v c).ports _
+
+  pub outputs_same : length (output_columns program) ≡ length (component_at v c).outputs
+  outputs_same = sym (length-map (output_columns program) _) ∙ sym (ap length runs.outputs) ∙ length-map (component_at v c).outputs _
+
+  pub output_column : o < length (output_columns program)
+  output_column = subst (λ (n : ℕ). o < n) (sym outputs_same) at.1
+
+  pub ports_own : length i.ports ≡ length (port_columns program)
+  ports_own = ports_are v d x history.valid s c o j within origin sender ∙ sym ports_same
+
+  -- a note covers what a part gives a port
+  pub note_covers : (rows : Sets → Sets → List Row) (given : ℕ → Option Note) (gate : ℕ) → IsPart v program o rows given gate → (port : ℕ) → port < length (component_at v c).ports → IsCovered (note_at v c port o) (given port)
+  note_covers rows given gate part port lt = covered_on (note_at v c port o) (note_of v.attributes program port o) (given port) (runs.notes port o lt at.1) (part.covered port)
+
+  -- what arrives was sent by a stream into the port
+  record Arrives (port : ℕ) (r : Row) : Type 0 where
+    feed : Feed
+    into : IsFeedInto v c feed
+    port_is : feed.port ≡ port
+    sent : Has (row r) (emitted_list w d x feed.stream feed.sender)
+
+  arrives : (port : ℕ) (r : Row) → Has r (set_at all port) → Arrives port r
+  arrives port r h =
+      let f = (from_into w d x c j port r h).1 in
+      record {
+        feed = f.feed;
+        into = instance-feeds v c j f.feed (subst (λ (z : Instance). Has f.feed z.feeds) (instance_is v d x history.valid s c o j within origin sender) f.of_feed);
+        port_is = f.port_is;
+        sent = Has-from_rows_in r (emitted_list w d x f.feed.stream f.feed.sender) (Has-from_set_of r (rows_in (emitted_list w d x f.feed.stream f.feed.sender)) f.sent);
+      }
+
+  pub arrives_over : (port : ℕ) (r : Row) → Has r (set_at all port) → has_stream v c port ≡ true
+  arrives_over port r h =
+      let a = arrives port r h in
+      any_from_Has (goes_to v c port) a.feed.stream (stream_numbers v) (in_below (length v.streams) a.feed.stream a.into.stream) (subst (λ (p : ℕ). goes_to v c p a.feed.stream ≡ true) a.port_is a.into.goes)
+
+  pub arrives_sent : (port : ℕ) (r : Row) → Has r (set_at all port) → IsSentTo v d x c port r
+  arrives_sent port r h =
+      let a = arrives port r h in
+      record { stream = a.feed.stream; sender = a.feed.sender; within = a.into.stream; goes = subst (λ (p : ℕ). goes_to v c p a.feed.stream ≡ true) a.port_is a.into.goes; sends = a.into.sender; sent = a.sent }
+
+  -- what arrives in the timesteps of a life is among all that arrives
+  pub life_inside : (life : Life) → Has life (all_lives (x.lives c j)) → AreInside (timesteps i life.heard) all
+  life_inside life of_life now port r came h = elim (cases_lt port (length now)) [
+    | inl lt ↦
+        let below : port < length i.ports = subst (λ (n : ℕ). port < n) (long_timesteps i life.heard now came) lt in
+        heard_into w d x c j history.steps history.legal life of_life (port, r) below
+        (stands_heard i life.heard (port, r) (not_order v d x history.valid s c o j within origin sender program body unordered) (record { now = now; among = came; there = h }))
+    | inr past ↦ absurd (subst (λ (l : List Row). Has r l) (get_or_past now port [] past) h)
+  ]
+
+  pub inside_sent : (nows : List Sets) → AreInside nows all → AreSent v d x c nows
+  inside_sent nows into now port r came h = arrives_sent port r (into now port r came h)
+
+  pub long_all : length all ≡ length (port_columns program)
+  long_all = length-map-range_with_len (contents_at w d x i) 0 (length i.ports) ∙ ports_own
+
+  pub long_life : (life : Life) (now : Sets) → Has now (timesteps i life.heard) → length now ≡ length (port_columns program)
+  long_life life now came = long_timesteps i life.heard now came ∙ ports_own
+
+  pub all_inside : AreInside (all ∷ []) all
+  all_inside now port r (inl e) h = subst (λ (z : Sets). Has r (set_at z port)) (sym e) h
+  all_inside now port r (inr never) h = absurd never

@@ -1,0 +1,15 @@
+-- Partition of a life, and the honest law.
+pub mod SmallSets
+pub mod HeardWhole
+pub mod FromFeeds
+pub mod Partitions
+pub mod KeysAtPorts
+pub mod CarriedKeys
+pub mod KeysOfRows
+pub mod TimestepSets
+pub mod Runs
+pub mod LivesHeard
+pub mod Rows
+pub mod Sources
+pub mod HonestLaw
+pub mod PartitionLaw

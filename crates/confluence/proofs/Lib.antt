@@ -1,0 +1,5 @@
+pub mod Labels
+pub mod Honest
+pub mod Contents
+pub mod Determined
+pub mod Regions

@@ -1,0 +1,10 @@
+-- Region by region: equal contents.
+pub mod Members
+pub mod ByEmission
+pub mod Acyclic
+pub mod Cyclic
+pub mod Premises
+pub mod Induction
+pub mod Corollaries
+pub mod RegionLaw
+pub mod ValidatedLaw

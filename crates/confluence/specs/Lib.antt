@@ -1,0 +1,7 @@
+pub mod Complete
+pub mod Honest
+pub mod Sound
+pub mod OrderReplicas
+pub mod LabelMeaning
+pub mod Partitions
+pub mod Laws

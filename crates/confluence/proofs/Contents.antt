@@ -5,5 +5,4 @@ pub mod Arriving
 pub mod Pairing
 pub mod IntoPorts
 pub mod NoBody
-pub mod SequencerLaw
 pub mod OrderReplicas

@@ -6,7 +6,6 @@ pub mod Partitions
 pub mod KeysAtPorts
 pub mod CarriedKeys
 pub mod KeysOfRows
-pub mod TimestepSets
 pub mod Runs
 pub mod LivesHeard
 pub mod Rows

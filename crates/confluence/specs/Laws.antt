@@ -1,5 +1,5 @@
 -- The laws of labels and executions, each in one word: of every valid topology, all data and all steps.
-use Rattle.std.specs.Prelude.{◌≡◌, ℕ, Ok, List, length, ◌<◌, IsTrue, Some, ◌≤◌, ◌⊎◌, [], take}
+use Rattle.std.specs.Prelude.{◌≡◌, ℕ, Ok, List, length, ◌<◌, IsTrue, Some, ◌≤◌, ◌⊎◌, []}
 use Rattle.blz_value.specs.Record.{Row}
 use Rattle.fd_closure.specs.declared.attrs.Attrs.{Attrs}
 use Rattle.fd_closure.specs.Closure.{within}
@@ -16,16 +16,14 @@ use Rattle.label_rules.specs.declared.label.Label.TheVariants.{Seal, Async, Run}
 use Rattle.label_rules.specs.Label.{severity}
 use Rattle.label_walk.specs.Paths.{label_at, region_inputs, is_replicated_set}
 use Rattle.label_walk.specs.Labels.{AreLabels}
-use Rattle.inbox.specs.Wiring.{Wiring, wiring_of, carried_places}
-use Rattle.inbox.specs.Executions.{Execution, contents, execution_of, emitted_list}
+use Rattle.inbox.specs.Wiring.{wiring_of, carried_places}
+use Rattle.inbox.specs.Executions.{Execution, execution_of, emitted_list}
 use Rattle.inbox.specs.Events.{Step}
 use Rattle.inbox.specs.Messages.{Batch}
-use Rattle.inbox.specs.Folds.{fold_rows}
 use Rattle.confluence.specs.Complete.{IsCompleted}
 use Rattle.confluence.specs.LabelMeaning.{IsOutside, IsProtected, HasGoodPaths, IsGuarded, IsInCycle, HasGoodInputs, HasConfluentPaths}
 use Rattle.confluence.specs.Sound.{IsSteady, HaveEqualContents, HasOneStepContents, IsBodied, IsSender, Sound, RestartSound, IsOpenSound, IsAcyclic}
 use Rattle.confluence.specs.Honest.{IsHonest}
-use Rattle.confluence.specs.OrderReplicas.{IsOrderOutput, most_taken}
 use Rattle.confluence.specs.Partitions.{IsSealing, RulesByPartitions, OutputsByPartitions}
 
 -- ---- what a label says
@@ -83,11 +81,6 @@ abbrev pub OutputsLaw : Type 0
 OutputsLaw = (v : View) (d : Data) (x : Execution) (c j : ℕ) (key : Attrs) (batches : List Batch) (program : Program) (value : Row) → IsSealing v d x c j key batches → program_of v c ≡ Some program → OutputsByPartitions v d x c j key program batches value
 
 -- ---- contents
-
--- the contents of a replica are those of one timestep for each of the first entries of the log, as many as it took in the life in which it took most
-abbrev pub SequencerLaw : Type 0
-SequencerLaw = (w : Wiring) (d : Data) (x : Execution) (s c o i : ℕ) (program : Program) → IsOrderOutput w s c o i program
-    → contents w d x s i ≡ fold_rows program (take (most_taken (x.lives c i)) (x.logs c)) o
 
 -- in a complete history the contents of an output outside cycles that is protected, or to which no path has an O note, are the one-step answer to all that arrives
 abbrev pub DeterminedOutputs : Type 0

@@ -1,7 +1,6 @@
 pub mod Complete
 pub mod Honest
 pub mod Sound
-pub mod OrderReplicas
 pub mod LabelMeaning
 pub mod Partitions
 pub mod Laws

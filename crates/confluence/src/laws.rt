@@ -9,7 +9,6 @@ ghost use Rattle.confluence.specs.Laws.{
   HonestLaw,
   RulesLaw,
   OutputsLaw,
-  SequencerLaw,
   DeterminedOutputs,
   RegionLaw,
   OpenRegionLaw,
@@ -63,12 +62,6 @@ pub fn honest_law()
 pub fn partition_law()
     ensures rules { RulesLaw }
     ensures outputs { OutputsLaw }
-{}
-
-/// The contents of a replica of an Order component are those of one timestep for each of the first
-/// entries of the log, as many as it took in the life in which it took most.
-pub fn sequencer_law()
-    ensures { SequencerLaw }
 {}
 
 /// In a complete execution, with forgets or without, the contents of an output outside cycles that is

@@ -3,6 +3,6 @@ pub mod Results
 pub mod Appending
 pub mod Histories
 pub mod Lengthening
-pub mod Senders
+pub mod Sent
 pub mod Completing
 pub mod Standing

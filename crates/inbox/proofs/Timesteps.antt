@@ -7,3 +7,4 @@ pub mod Partitions
 pub mod Touching
 pub mod Held
 pub mod Widths
+pub mod OfLives

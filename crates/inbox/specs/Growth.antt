@@ -51,6 +51,12 @@ pub record EntryComesFrom (w : Wiring) (given : Data) (x : Execution) (i : Insta
 abbrev pub LogsWhatIsSent : Wiring → Data → Execution → Type 0
 LogsWhatIsSent w given x = (component : ℕ) (entry : Entry) → Has entry (x.logs component) → EntryComesFrom w given x (instance_at w component 0) entry
 
+-- all that stands in lives and logs of the second execution stands in emitted lists of the first
+pub record WasSentBefore (w : Wiring) (given : Data) (x y : Execution) : Type 0 where
+  pub heard : (component replica : ℕ) (life : Life) (batch : Batch) (pair : Pair)
+      → Has life (all_lives (y.lives component replica)) → Has batch life.heard → Has pair batch → ComesFrom w given x (instance_at w component replica) pair
+  pub logged : (component : ℕ) (entry : Entry) → Has entry (y.logs component) → EntryComesFrom w given x (instance_at w component 0) entry
+
 -- ---- repeats
 
 -- two messages are one record, or seals of one partition

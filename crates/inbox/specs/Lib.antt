@@ -8,6 +8,7 @@ pub mod Events
 pub mod Executions
 pub mod Completeness
 pub mod Folds
+pub mod OrderReplicas
 pub mod Growth
 pub mod Standing
 pub mod Laws

@@ -7,12 +7,11 @@ use Rattle.inbox.specs.Messages.{all_pairs}
 use Rattle.blz_value.specs.Members.{Has}
 use Rattle.inbox.specs.Lives.{life_timesteps}
 use Rattle.inbox.specs.Wiring.{instance_at, instance_for, wiring_of}
-use Rattle.inbox.proofs.Executions.Senders.{history_holds}
+use Rattle.inbox.proofs.Executions.Sent.{history_holds, sent_by_now}
 use Rattle.inbox.proofs.WiringLemmas.{instance-wired, instance-ports}
+use Rattle.inbox.proofs.Timesteps.OfLives.{life_timesteps-many}
 use Rattle.stream_deps.specs.Laws.{HeardLaw, TimestepsLaw, FeedsLaw, ArrivalsLaw, LifeLaw}
-use Rattle.stream_deps.proofs.Rank.{sent_by_now}
 use Rattle.stream_deps.proofs.Sending.{feed_sends, heard_sent, timestep_sent}
-use Rattle.stream_deps.proofs.Timesteps.{timestep-shape}
 use Rattle.stream_deps.proofs.Tracing.{width_law}
 use Rattle.stream_deps.proofs.Viewed.{port_count, stream_is, are_arrivals}
 
@@ -40,5 +39,5 @@ life_law v d x c j program life h within there has lived =
     let i = instance_for v c j in
     let is = instance-wired v c j within there in
     arrivals_law v d x c program (life_timesteps (instance_at (wiring_of v) c j) (x.logs c) life) h within has
-    (λ now among. timestep-shape i (x.logs c) life now (subst (λ (z : Instance). Has now (life_timesteps z (x.logs c) life)) is among) ∙ instance-ports v c j ∙ port_count v h.valid c within program has)
+    (λ now among. life_timesteps-many i (x.logs c) life now (subst (λ (z : Instance). Has now (life_timesteps z (x.logs c) life)) is among) ∙ instance-ports v c j ∙ port_count v h.valid c within program has)
     (timesteps_law v d x c j life h within there lived)

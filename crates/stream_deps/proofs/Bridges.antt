@@ -1,7 +1,7 @@
 -- Rows of lists and keys of records, as the laws on rows have them.
-use Rattle.std.proofs.Common.{◌≡◌, ◌<◌, ℕ, Bool, true, Option, None, Some, List, [], length, map, slice_get, ap, refl, ◌∙◌, sym, subst}
+use Rattle.std.proofs.Common.{◌≡◌, ◌<◌, ℕ, Bool, true, Option, None, Some, List, length, map, slice_get, ap, refl, ◌∙◌, sym, subst}
 use Rattle.std.specs.Prelude.{◌↔◌, if◌then◌else◌}
-use Rattle.std.specs.Option.{option_map, option_map_or, option_and_then, unwrap_or}
+use Rattle.std.specs.Option.{option_map, option_and_then, unwrap_or}
 use Rattle.std.proofs.lemmas.Option.{slice_get-get_or}
 use Rattle.blz_value.specs.Members.{Has}
 use Rattle.blz_value.specs.Operators.{cells}
@@ -13,26 +13,24 @@ use Rattle.fd_closure.specs.Bits.{bit_of, meets}
 use Rattle.fd_closure.specs.Closure.{within}
 use Rattle.fd_closure.proofs.Members.{in-within}
 use Rattle.bloom_ast.specs.declared.program.Program.{Program}
-use Rattle.bloom_ast.specs.ProgramStep.{empty_tables}
 use Rattle.row_laws.specs.Classes.{columns_at}
-use Rattle.row_laws.specs.Runs.{output_rows, over_steps, output_over}
+use Rattle.row_laws.specs.Runs.{output_over}
 use Rattle.topo_types.specs.Data.{key_places}
 use Rattle.topo_types.specs.Messages.{Message, row, seal, row_in, rows_in}
 use Rattle.topo_types.specs.Sets.{below}
-use Rattle.topo_types.specs.View.{View, End, component_at, mode_of, mode_key, port_attrs, port_numbers, Stream, stream_at}
+use Rattle.topo_types.specs.View.{View, component_at, mode_of, mode_key, port_attrs, port_numbers}
 use Rattle.inbox.specs.Messages.{Entry}
 use Rattle.inbox.specs.Instances.{PortKey, Instance}
 use Rattle.inbox.specs.Instances as instances
 use Rattle.inbox.specs.Lives.{Life, Lives, all_lives, life_timesteps, emitted_by}
 use Rattle.inbox.specs.Wiring.{instance_at, instance_for, port_for, wiring_of}
-use Rattle.inbox.specs.Executions.{list_from, emitted_list}
 use Rattle.inbox.proofs.Lists.Rows.{life_rows, rows_of_list}
 use Rattle.inbox.proofs.Timesteps.Whole.{Has-filter_map, Has-from_filter_map}
-use Rattle.inbox.proofs.WiringLemmas.{get_or-below, instance-wired, stream-wired, length-below}
+use Rattle.inbox.proofs.WiringLemmas.{get_or-below, instance-wired, length-below}
+use Rattle.inbox.proofs.Lists.Origins.{output_list}
 use Rattle.stream_deps.specs.Agreement.{port_roots, value_at}
 use Rattle.stream_deps.specs.Laws.{RowsLaw, KeyLaw, EntryKeyLaw}
 use Rattle.stream_deps.proofs.Joint.{has_attribute_is, value_is, key_values}
-use Rattle.stream_deps.proofs.Lists.{rows_over_steps}
 use Rattle.fd_closure.proofs.Members.{member_small}
 use Rattle.path_annotate.specs.Attributes.{value_in}
 use Rattle.blz_value.proofs.Maps.{same_map}
@@ -55,12 +53,11 @@ IsRowOfLives program i log lives output r =
 rows_of_instance : (program : Program) (i : Instance) → i.program ≡ Some program → (log : List Entry) (lives : Lives) (output : ℕ) (r : Row) → output < length i.outputs → IsRowOfLives program i log lives output r
 rows_of_instance program i has log lives output r within =
     let list = emitted_by i log lives output in
-    let same = rows_of_list program i has log lives output within in
-    let steps : (life : Life) → life_rows program i log output life ≡ over_steps program (output_rows program output) (empty_tables program) (life_timesteps i log life) = λ life. rows_over_steps program (empty_tables program) (life_timesteps i log life) output in (
+    let same = rows_of_list program i has log lives output within in (
       λ h.
           let m = Has-from_flat_map (life_rows program i log output) r (all_lives lives) (same.0 r (Has-filter_map row_in (row r) r list h refl)) in
-          (m.0, m.1, Has-set_of r _ (subst (λ (l : List Row). Has r l) (steps m.0) m.2)),
-      λ h. rows_out r list (same.1 r (Has-flat_map (life_rows program i log output) h.0 r (all_lives lives) h.1 (subst (λ (l : List Row). Has r l) (sym (steps h.0)) (Has-from_set_of r _ h.2)))),
+          (m.0, m.1, Has-set_of r _ m.2),
+      λ h. rows_out r list (same.1 r (Has-flat_map (life_rows program i log output) h.0 r (all_lives lives) h.1 (Has-from_set_of r _ h.2))),
     )
 
 pub rows_law : RowsLaw
@@ -69,9 +66,7 @@ rows_law v d x s c o i program r valid within from has sends =
     let there : o < length (instance_for v c i).outputs = subst (λ (n : ℕ). o < n) (sym (length-below _ (length (component_at v c).outputs))) numbers.1 in
     let own : IsRowOfLives program (instance_at (wiring_of v) c i) (x.logs c) (x.lives c i) o r = subst (λ (z : Instance). IsRowOfLives program z (x.logs c) (x.lives c i) o r) (sym (instance-wired v c i numbers.0 sends))
     (rows_of_instance program (instance_for v c i) has (x.logs c) (x.lives c i) o r there) in
-    let list : emitted_list (wiring_of v) d x s i ≡ emitted_by (instance_at (wiring_of v) c i) (x.logs c) (x.lives c i) o =
-    ap (λ (l : Option Stream). option_map_or (λ (line : Stream). list_from line.origin (wiring_of v) d x line s i) l []) (stream-wired v s within)
-    ∙ ap (λ (origin : Option End). list_from origin (wiring_of v) d x (stream_at v s) s i) from in
+    let list = output_list v d x s c o i within from in
     (λ h. own.0 (subst (λ (l : List Message). Has (row r) l) list h), λ h. subst (λ (l : List Message). Has (row r) l) (sym list) (own.1 h))
 
 -- ---- keys

@@ -1,8 +1,7 @@
 -- Induction on the number of steps: what holds of the records of sources, and of each row of an output over arrivals of which it holds, holds of all emitted records.
 use Rattle.std.proofs.Common.{◌≡◌, refl, ap, sym, subst, ◌∙◌, ℕ, ◌<◌, true, List, [], ◌∷◌, ◌++◌, length, inl, inr, Option, None, Some, not, map}
-use Rattle.std.specs.Prelude.{Ok, Result}
+use Rattle.std.specs.Prelude.{Ok}
 use Rattle.std.specs.Option.{option_map_or, unwrap_or}
-use Rattle.std.proofs.lemmas.List.Sums.{fold-append}
 use Rattle.blz_value.specs.Members.{Has}
 use Rattle.blz_value.specs.Record.{Row}
 use Rattle.blz_value.proofs.Membership.{Has-append_cases, Has-append_left, Has-append_right, Has-from_map, Has-from_filter}
@@ -18,26 +17,20 @@ use Rattle.inbox.specs.Messages.{all_pairs}
 use Rattle.inbox.specs.Instances.{Instance, entries_of}
 use Rattle.inbox.specs.Lives.{Life, all_lives, life_timesteps, emitted_by}
 use Rattle.inbox.specs.Wiring.{instance_at, instance_for, wiring_of}
-use Rattle.inbox.specs.Executions.{Execution, first_execution, result_and_then, list_from, emitted_list, after_step, execution_of}
-use Rattle.inbox.specs.Events.{Step, Refusal}
+use Rattle.inbox.specs.Executions.{Execution, first_execution, list_from, emitted_list, after_step, execution_of}
+use Rattle.inbox.specs.Events.{Step}
 use Rattle.inbox.proofs.Executions.Histories.{by_history, step_changes}
-use Rattle.inbox.proofs.Executions.Senders.{history_holds}
+use Rattle.inbox.proofs.Executions.Sent.{history_holds, step_before}
 use Rattle.inbox.proofs.Timesteps.Whole.{Has-filter_map}
 use Rattle.inbox.proofs.WiringLemmas.{instance-wired, instance-ports, stream-wired, length-below}
+use Rattle.inbox.proofs.Executions.Appending.{legal_more}
+use Rattle.inbox.proofs.Timesteps.OfLives.{timestep_entry, life_timesteps-many}
+use Rattle.inbox.proofs.Lists.NoBody.{nothing_without}
 use Rattle.stream_deps.specs.Sent.{IsSentTo}
-use Rattle.stream_deps.proofs.Rank.{step_before}
-use Rattle.stream_deps.proofs.Lists.{emitted_in_step, nothing_without}
 use Rattle.stream_deps.proofs.Sending.{timestep_sent}
-use Rattle.stream_deps.proofs.Timesteps.{timestep_entry, timestep-shape}
+use Rattle.stream_deps.proofs.Rows.{emitted_in_step}
 use Rattle.bloom_ast.specs.Steps.{tables_after_steps}
 use Rattle.path_annotate.specs.Roots.{Roots}
-
--- ---- histories by their last step
-
-pub after_more : (w : _) (given : Data) (steps : List Step) (step : Step) (x y : Execution) → execution_of w given steps ≡ Ok x → after_step w given step x ≡ Ok y → execution_of w given (steps ++ step ∷ []) ≡ Ok y
-after_more w given steps step x y legal at =
-    fold-append (λ (result : Result Execution Refusal) (s : Step). result_and_then result (after_step w given s)) (Ok first_execution) steps (step ∷ [])
-    ∙ ap (λ (r : Result Execution Refusal). result_and_then r (after_step w given step)) legal ∙ at
 
 -- ---- records of sources
 
@@ -120,9 +113,9 @@ module _ (v : View) (d : Data) (valid : IsValid v) (Q : (stream : ℕ) → Row �
               let nows = life_timesteps instance (y.logs c) e.life in
               let among : (other : Sets) → Has other (e.step.earlier ++ e.step.now ∷ []) → Has other nows = λ other m. subst (λ (l : List Sets). Has other l) (sym e.step.are) (among_more e.step.earlier e.step.later e.step.now other m) in
               outputs s c o program e.step.earlier e.step.now r within from numbers.0 some
-              (λ other m. timestep-shape instance (y.logs c) e.life other (among other m) ∙ instance-ports v c i)
+              (λ other m. life_timesteps-many instance (y.logs c) e.life other (among other m) ∙ instance-ports v c i)
               (λ other port q m stands. arrives c i e.life other port q numbers.0 sends e.lived (among other m) stands)
-              e.step.stands
+              e.step.there
 
       pub emitted_from : OfEmitted y
       emitted_from s i r within sends h =
@@ -154,7 +147,7 @@ module _ (v : View) (d : Data) (valid : IsValid v) (Q : (stream : ℕ) → Row �
         let before = step_before (wiring_of v) d x y (history_holds (wiring_of v) d reached.steps x reached.legal) (step_changes (wiring_of v) d step x y at) in
         record {
           steps = reached.steps ++ step ∷ [];
-          legal = after_more (wiring_of v) d reached.steps step x y reached.legal at;
+          legal = legal_more (wiring_of v) d reached.steps step x y reached.legal at;
           holds = emitted_from y (λ c j life now port r within there lived h stands.
               let sent : IsSentTo v d x c port r = timestep_sent v d x valid y before c j life now port r within there lived h stands in
               record { stream = sent.stream; within = sent.within; goes = sent.goes; holds = reached.holds sent.stream sent.sender r sent.within sent.sends sent.sent });

@@ -11,15 +11,15 @@ use Rattle.topo_types.specs.Messages.{Message, row, seal, row_in}
 use Rattle.topo_types.specs.Valid.{IsValid}
 use Rattle.topo_types.specs.View.{View, replicas_of}
 use Rattle.inbox.specs.Messages.{Batch, Entry, all_pairs}
-use Rattle.inbox.specs.Growth.{feed_numbered, ComesFrom, EntryComesFrom}
+use Rattle.inbox.specs.Growth.{feed_numbered, ComesFrom, EntryComesFrom, WasSentBefore}
 use Rattle.inbox.specs.Instances.{Instance, port_of_feed, entry_of, entries_of}
 use Rattle.inbox.specs.Lives.{Life, all_lives, life_timesteps}
 use Rattle.inbox.specs.Wiring.{instance_for, wiring_of}
 use Rattle.inbox.specs.Executions.{Execution, emitted_list}
 use Rattle.inbox.proofs.Timesteps.Whole.{Has-from_filter_map}
 use Rattle.inbox.proofs.WiringLemmas.{IsFeedInto, instance-wired, instance-feeds, port_of-feed}
-use Rattle.stream_deps.specs.Sent.{WasSentBefore, IsSentTo}
-use Rattle.stream_deps.proofs.Timesteps.{timestep_entry}
+use Rattle.inbox.proofs.Timesteps.OfLives.{timestep_entry}
+use Rattle.stream_deps.specs.Sent.{IsSentTo}
 
 module _ (v : View) (d : Data) (x : Execution) where
   -- what stands in the emitted list of a feed was sent to the feed's port

@@ -1,5 +1,5 @@
 -- Dependencies at streams, in all histories, complete or not, with forgets or without.
-use Rattle.std.specs.Prelude.{ℕ, ◌≡◌, ◌<◌, ◌↔◌, IsTrue, Bool, is_some, Ok, Some, List, [], ◌∷◌, ◌++◌, length}
+use Rattle.std.specs.Prelude.{ℕ, ◌≡◌, ◌<◌, ◌↔◌, IsTrue, Bool, is_some, Some, List, [], ◌∷◌, ◌++◌, length}
 use Rattle.std.specs.List.{list_all}
 use Rattle.blz_value.specs.Members.{Has}
 use Rattle.blz_value.specs.Record.{Row}
@@ -25,18 +25,12 @@ use Rattle.inbox.specs.Messages.{Entry, all_pairs}
 use Rattle.inbox.specs.Instances.{entries_of}
 use Rattle.inbox.specs.Instances as instances
 use Rattle.inbox.specs.Lives.{Life, all_lives, life_timesteps}
-use Rattle.inbox.specs.Wiring.{Wiring, wiring_of, instance_at, carried_places}
-use Rattle.inbox.specs.Executions.{Execution, emitted_list, after_step, execution_of}
-use Rattle.inbox.specs.Events.{Step}
+use Rattle.inbox.specs.Wiring.{wiring_of, instance_at, carried_places}
+use Rattle.inbox.specs.Executions.{Execution, emitted_list}
 use Rattle.stream_deps.specs.Agreement.{port_roots, HaveSameValues, IsTraced, IsCopiedFrom, IsCarriedBy}
-use Rattle.stream_deps.specs.Sent.{IsHistory, WasSentBefore, IsSentTo, AreSent}
+use Rattle.stream_deps.specs.Sent.{IsHistory, IsSentTo, AreSent}
 use Rattle.bloom_ast.specs.Steps.{tables_after_steps, AreArrivals}
 use Rattle.fd_closure.specs.Bits.{members}
-
--- Rank: what instances have heard and what logs hold after a step stood in emitted lists before it
-abbrev pub RankLaw : Type 0
-RankLaw = (w : Wiring) (given : Data) (steps : List Step) (step : Step) (x y : Execution)
-    → execution_of w given steps ≡ Ok x → after_step w given step x ≡ Ok y → WasSentBefore w given x y
 
 -- ---- rows of outputs
 

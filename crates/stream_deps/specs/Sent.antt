@@ -7,10 +7,7 @@ use Rattle.topo_types.specs.Data.{Data, IsData}
 use Rattle.topo_types.specs.Messages.{row}
 use Rattle.topo_types.specs.Valid.{IsValid}
 use Rattle.topo_types.specs.View.{View, stream_replicas, goes_to}
-use Rattle.inbox.specs.Messages.{Batch, Pair, Entry}
-use Rattle.inbox.specs.Growth.{ComesFrom, EntryComesFrom}
-use Rattle.inbox.specs.Lives.{Life, all_lives}
-use Rattle.inbox.specs.Wiring.{Wiring, wiring_of, instance_at}
+use Rattle.inbox.specs.Wiring.{wiring_of}
 use Rattle.inbox.specs.Executions.{Execution, emitted_list, execution_of}
 use Rattle.inbox.specs.Events.{Step}
 
@@ -20,14 +17,6 @@ pub record IsHistory (v : View) (d : Data) (x : Execution) : Type 0 where
   pub fits : IsData v d
   pub steps : List Step
   pub legal : execution_of (wiring_of v) d steps ≡ Ok x
-
--- ---- rank: what was heard by a step was emitted before it
-
--- all that stands in lives and logs of the second execution stands in emitted lists of the first
-pub record WasSentBefore (w : Wiring) (given : Data) (x y : Execution) : Type 0 where
-  pub heard : (component replica : ℕ) (life : Life) (batch : Batch) (pair : Pair)
-      → Has life (all_lives (y.lives component replica)) → Has batch life.heard → Has pair batch → ComesFrom w given x (instance_at w component replica) pair
-  pub logged : (component : ℕ) (entry : Entry) → Has entry (y.logs component) → EntryComesFrom w given x (instance_at w component 0) entry
 
 -- ---- records that come to a port
 

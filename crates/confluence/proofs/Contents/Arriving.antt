@@ -24,12 +24,13 @@ use Rattle.inbox.specs.Lives.{Life, all_lives}
 use Rattle.inbox.specs.Wiring.{Wiring, wiring_of, instance_at}
 use Rattle.inbox.specs.Executions.{Execution, emitted_list}
 use Rattle.inbox.proofs.WiringLemmas.{IsFeedInto, instance-feeds}
+use Rattle.inbox.proofs.Timesteps.Widths.{timesteps-many}
 use Rattle.stream_deps.specs.Sent.{IsHistory, IsSentTo, AreSent}
 use Rattle.confluence.specs.Complete.{contents_at, contents_into}
 use Rattle.confluence.proofs.Honest.HeardWhole.{Has-from_rows_in}
 use Rattle.confluence.proofs.Determined.Parts.{IsPart, covered_on}
 use Rattle.confluence.proofs.Contents.Heard.{from_into, stands_heard, heard_into}
-use Rattle.confluence.proofs.Contents.Instances.{instance_is, ports_are, inside, not_order, long_timesteps}
+use Rattle.confluence.proofs.Contents.Instances.{instance_is, ports_are, inside, not_order}
 use Rattle.confluence.proofs.Determined.Rows.{AreInside}
 
 -- a port with a stream is one of its component
@@ -107,7 +108,7 @@ module _ (v : View) (d : Data) (x : Execution) (history : IsHistory v d x) (s c 
   pub life_inside : (life : Life) → Has life (all_lives (x.lives c j)) → AreInside (timesteps i life.heard) all
   life_inside life of_life now port r came h = elim (cases_lt port (length now)) [
     | inl lt ↦
-        let below : port < length i.ports = subst (λ (n : ℕ). port < n) (long_timesteps i life.heard now came) lt in
+        let below : port < length i.ports = subst (λ (n : ℕ). port < n) (timesteps-many i life.heard now came) lt in
         heard_into w d x c j history.steps history.legal life of_life (port, r) below
         (stands_heard i life.heard (port, r) (not_order v d x history.valid s c o j within origin sender program body unordered) (record { now = now; among = came; there = h }))
     | inr past ↦ absurd (subst (λ (l : List Row). Has r l) (get_or_past now port [] past) h)
@@ -120,7 +121,7 @@ module _ (v : View) (d : Data) (x : Execution) (history : IsHistory v d x) (s c 
   long_all = length-map-range_with_len (contents_at w d x i) 0 (length i.ports) ∙ ports_own
 
   pub long_life : (life : Life) (now : Sets) → Has now (timesteps i life.heard) → length now ≡ length (port_columns program)
-  long_life life now came = long_timesteps i life.heard now came ∙ ports_own
+  long_life life now came = timesteps-many i life.heard now came ∙ ports_own
 
   pub all_inside : AreInside (all ∷ []) all
   all_inside now port r (inl e) h = subst (λ (z : Sets). Has r (set_at z port)) (sym e) h

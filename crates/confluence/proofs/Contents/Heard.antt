@@ -29,7 +29,7 @@ use Rattle.inbox.specs.Events.{Step}
 use Rattle.inbox.proofs.Timesteps.AtOnce.{at_once_timesteps-heard}
 use Rattle.inbox.proofs.Executions.Completing.{all_delivered}
 use Rattle.inbox.proofs.Timesteps.Held.{nothing_held}
-use Rattle.inbox.proofs.Executions.Senders.{history_holds}
+use Rattle.inbox.proofs.Executions.Sent.{history_holds}
 use Rattle.inbox.proofs.Timesteps.UnderSeal.{seal_timesteps-go}
 use Rattle.inbox.proofs.Timesteps.Whole.{Has-filter_map, Has-from_filter_map}
 use Rattle.inbox.proofs.WiringLemmas.{port_of-feed}

@@ -1,87 +1,34 @@
 -- The contents of a stream of a component that isn't Order: the rows of its output over the lives of the instance that emits them.
-use Rattle.std.proofs.Common.{◌≡◌, ◌<◌, ◌++◌, ℕ, Bool, true, false, Some, List, [], ◌∷◌, length, map, take, refl, ap, ◌∙◌, sym, subst, inl, inr, arith}
-use Rattle.std.specs.Prelude.{if◌then◌else◌}
-use Rattle.std.specs.List.{flat_map}
-use Rattle.std.specs.Option.{option_map_or}
+use Rattle.std.proofs.Common.{◌≡◌, ◌<◌, ℕ, true, false, Some, List, [], ◌∷◌, length, refl, ap, ◌∙◌, sym, subst, inl, arith}
 use Rattle.std.proofs.lemmas.Bool.{lt-ltb}
-use Rattle.std.proofs.lemmas.List.FromFn.{length-map-range_with_len}
 use Rattle.blz_value.specs.Members.{Has, IsWithin}
 use Rattle.blz_value.specs.Record.{Row}
-use Rattle.blz_value.proofs.Membership.{Has-append_right, Has-flat_map, Has-from_flat_map, Has-from_map, Has-append_cases}
+use Rattle.blz_value.proofs.Membership.{Has-append_right, Has-flat_map, Has-from_flat_map}
 use Rattle.blz_value.proofs.SetLaws.{sorted_set_of, Has-set_of, Has-from_set_of, same_row_sets}
 use Rattle.bloom_ast.specs.declared.program.Program.{Program}
 use Rattle.bloom_ast.specs.ProgramStep.{empty_tables, answer_of}
 use Rattle.bloom_ast.specs.Step.{Sets, set_at}
 use Rattle.row_laws.specs.Runs.{output_rows, over_steps, output_over}
 use Rattle.row_laws.proofs.Confluent.ConfluentLaw.{one_step_answers}
-use Rattle.topo_types.specs.declared.mode.Mode.{Mode}
-use Rattle.topo_types.specs.declared.mode.Mode.TheVariants.{Free, Pass, Seal, Order}
 use Rattle.topo_types.specs.Data.{Data}
 use Rattle.topo_types.specs.Messages.{Message, rows_in}
 use Rattle.topo_types.specs.Valid.{IsValid}
-use Rattle.topo_types.specs.View.{View, origin_of, program_of, is_order, is_order_mode, replicas_of, component_at, Stream, stream_at}
-use Rattle.inbox.specs.Messages.{Pair, Batch, Entry}
+use Rattle.topo_types.specs.View.{View, origin_of, program_of, is_order, is_order_mode, replicas_of, component_at}
 use Rattle.inbox.specs.Instances.{Instance}
-use Rattle.inbox.specs.Timesteps.{timestep_of, one_timestep, one_by_one, released_steps, first_part, second_part, steps_in, each_after, each_set_off, timesteps, newly_whole}
-use Rattle.inbox.specs.Lives.{Life, all_lives, of_entry, emitted_by}
+use Rattle.inbox.specs.Timesteps.{timesteps}
+use Rattle.inbox.specs.Lives.{Life, all_lives, emitted_by}
 use Rattle.inbox.specs.Wiring.{Wiring, wiring_of, instance_at, instance_for, is_there}
-use Rattle.inbox.specs.Executions.{Execution, list_from, emitted_list, contents}
+use Rattle.inbox.specs.Executions.{Execution, emitted_list, contents}
 use Rattle.inbox.specs.Completeness.{IsComplete}
 use Rattle.inbox.specs.Folds.{rows_from}
 use Rattle.inbox.proofs.Lists.Rows.{life_rows, rows_of_list}
-use Rattle.inbox.proofs.WiringLemmas.{instance-wired, there-wired, stream-wired, length-below, instance-ports}
-use Rattle.stream_deps.proofs.Lists.{rows_over_steps}
+use Rattle.inbox.proofs.WiringLemmas.{instance-wired, there-wired, length-below, instance-ports}
+use Rattle.inbox.proofs.Timesteps.OfLives.{life_timesteps-hearing}
+use Rattle.inbox.proofs.Lists.Origins.{output_list}
 use Rattle.confluence.specs.Complete.{contents_into}
 use Rattle.confluence.proofs.Contents.Heard.{last_heard}
 use Rattle.confluence.proofs.Determined.Rows.{AreAllIn, IsDetermined}
 use Rattle.bloom_ast.specs.Proper.{IsProper}
-
--- ---- each timestep has one set for each port
-
-abbrev AllLong : ℕ → List Sets → Type 0
-AllLong n nows = (now : Sets) → Has now nows → length now ≡ n
-
-long_arrivals : (n : ℕ) (entries : List Entry) → length (timestep_of n entries) ≡ n
-long_arrivals n entries = length-map-range_with_len _ 0 n
-
-long_append : (n : ℕ) (xs ys : List Sets) → AllLong n xs → AllLong n ys → AllLong n (xs ++ ys)
-long_append n xs ys a b now h = elim (Has-append_cases now xs ys h) [ inl l ↦ a now l | inr r ↦ b now r ]
-
-long_together : (n : ℕ) (entries : List Entry) → AllLong n (one_timestep n entries)
-long_together n [] now h = absurd h
-long_together n (entry ∷ entries) now (inl e) = ap length (sym e) ∙ long_arrivals n (entry ∷ entries)
-long_together n (entry ∷ entries) now (inr h) = absurd h
-
-long_one_by_one : (n : ℕ) (entries : List Entry) → AllLong n (one_by_one n entries)
-long_one_by_one n entries now h = let m = Has-from_map (λ (entry : Entry). timestep_of n (entry ∷ [])) now entries h in ap length (sym m.2) ∙ long_arrivals n (m.0 ∷ [])
-
-long_released : (i : Instance) (entries : List Entry) → AllLong (length i.ports) (released_steps i entries)
-long_released i entries now (inl e) = ap length (sym e) ∙ long_arrivals (length i.ports) _
-long_released i entries now (inr h) = long_one_by_one (length i.ports) _ now h
-
-long_first : (i : Instance) (keys : List Row) (entries : List Entry) → AllLong (length i.ports) (first_part i keys entries)
-long_first i [] entries now h = absurd h
-long_first i (key ∷ keys) entries now h = long_released i _ now h
-
-long_in : (mode : Mode) (i : Instance) (heard : List Pair) (batch : Batch) → AllLong (length i.ports) (steps_in mode i heard batch)
-long_in Free i heard batch = long_together (length i.ports) _
-long_in (Pass key) i heard batch = long_together (length i.ports) _
-long_in (Seal key) i heard batch = long_append (length i.ports) (first_part i (newly_whole i heard batch) _) (second_part i heard batch) (long_first i (newly_whole i heard batch) _) (long_together (length i.ports) _)
-long_in Order i heard batch = λ now h. absurd h
-
-long_after : (i : Instance) (heard : List Pair) (batches : List Batch) → AllLong (length i.ports) (flat_map (λ s. s.steps) (each_after i heard batches))
-long_after i heard [] now h = absurd h
-long_after i heard (batch ∷ batches) now h = long_append (length i.ports) (steps_in i.mode i heard batch) (flat_map (λ s. s.steps) (each_after i (heard ++ batch) batches)) (long_in i.mode i heard batch) (long_after i (heard ++ batch) batches) now h
-
-pub long_timesteps : (i : Instance) (batches : List Batch) (now : Sets) → Has now (timesteps i batches) → length now ≡ length i.ports
-long_timesteps i batches = long_after i [] batches
-
-by_mode : (i : Instance) (log : List Entry) (life : Life) (b : Bool) → b ≡ false → flat_map (λ s. s.steps) (if b then map (of_entry i) (take life.taken log) else each_set_off i life.heard) ≡ timesteps i life.heard
-by_mode i log life true e = cc
-by_mode i log life false e = refl
-
-by_origin : (w : Wiring) (d : Data) (x : Execution) (line : Stream) (s c o i : ℕ) → line.origin ≡ Some (c, o) → list_from line.origin w d x line s i ≡ emitted_by (instance_at w c i) (x.logs c) (x.lives c i) o
-by_origin w d x line s c o i e = ap (λ origin. list_from origin w d x line s i) e
 
 -- ---- one stream
 
@@ -105,7 +52,7 @@ module _ (v : View) (d : Data) (x : Execution) (valid : IsValid v) (s c o j : �
   ports_are = ap (λ (z : Instance). length z.ports) instance_is ∙ instance-ports v c j
 
   pub list_is : emitted_list w d x s j ≡ emitted_by i (x.logs c) (x.lives c j) o
-  list_is = ap (λ line. option_map_or (λ l. list_from l.origin w d x l s j) line []) (stream-wired v s within) ∙ by_origin w d x (stream_at v s) s c o j origin
+  list_is = output_list v d x s c o j within origin
 
   pub output_there : o < length i.outputs
   output_there =
@@ -120,7 +67,7 @@ module _ (v : View) (d : Data) (x : Execution) (valid : IsValid v) (s c o j : �
     not_order = ap (λ (z : Instance). is_order_mode z.mode) instance_is ∙ unordered
 
     life_is : (life : Life) → life_rows program i (x.logs c) o life ≡ over_steps program (output_rows program o) (empty_tables program) (timesteps i life.heard)
-    life_is life = ap (λ nows. rows_from program (empty_tables program) nows o) (by_mode i (x.logs c) life (is_order_mode i.mode) not_order) ∙ rows_over_steps program (empty_tables program) (timesteps i life.heard) o
+    life_is life = ap (λ nows. rows_from program (empty_tables program) nows o) (life_timesteps-hearing i (x.logs c) life not_order)
 
     -- the life in which a record was emitted
     pub from_contents : (r : Row) → Has r (contents w d x s j) → (life : Life) × Has life (all_lives (x.lives c j)) × Has r (output_over program o (timesteps i life.heard))

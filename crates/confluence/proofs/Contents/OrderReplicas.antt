@@ -1,9 +1,6 @@
 -- In a complete history all replicas of an Order component have equal contents.
-use Rattle.std.proofs.Common.{◌≡◌, ◌<◌, ◌≤◌, ℕ, max, true, Option, None, Some, List, [], ◌∷◌, length, map, refl, ap, ◌∙◌, sym, inl, inr, arith}
-use Rattle.std.specs.List.{fold}
-use Rattle.std.proofs.Math.Nat.{le-max_left, le-max_right}
+use Rattle.std.proofs.Common.{◌≡◌, ◌<◌, ◌≤◌, ℕ, true, Option, None, Some, [], ◌∷◌, length, map, refl, ap, ◌∙◌, sym, inl, arith}
 use Rattle.std.proofs.lemmas.List.{take_all, length-map}
-use Rattle.blz_value.specs.Members.{Has}
 use Rattle.blz_value.proofs.Membership.{Has-append_right, Has-map}
 use Rattle.blz_value.proofs.SetLaws.{Has-from_set_of}
 use Rattle.bloom_ast.specs.declared.program.Program.{Program}
@@ -20,24 +17,15 @@ use Rattle.inbox.specs.Executions.{Execution, emitted_list, contents}
 use Rattle.inbox.specs.Completeness.{IsComplete}
 use Rattle.inbox.proofs.Executions.Completing.{all_taken}
 use Rattle.inbox.proofs.WiringLemmas.{stream-wired}
-use Rattle.confluence.specs.OrderReplicas.{most_taken}
+use Rattle.inbox.specs.OrderReplicas.{most_taken}
 use Rattle.confluence.proofs.Honest.HeardWhole.{Has-from_rows_in}
-use Rattle.confluence.proofs.Contents.SequencerLaw.{sequencer_law}
+use Rattle.inbox.proofs.Lists.SequencerLaw.{sequencer_law, fold_max-member}
 use Rattle.confluence.proofs.Determined.DeterminedOutputs.{no_rows}
 use Rattle.confluence.proofs.Contents.Instances.{inside, instance_is, is_there_so, ports_are, output_there}
 use Rattle.confluence.proofs.Contents.NoBody.{no_body_no_rows}
 
-fold_more : (xs : List ℕ) (a : ℕ) → a ≤ fold max a xs
-fold_more [] a = omega arith
-fold_more (x ∷ xs) a = let first = le-max_left a x in let rest = fold_more xs (max a x) in omega (arith, first, rest)
-
-fold_member : (xs : List ℕ) (a q : ℕ) → Has q xs → q ≤ fold max a xs
-fold_member [] a q h = absurd h
-fold_member (x ∷ xs) a q (inl e) = let first = le-max_right a x in let rest = fold_more xs (max a x) in omega (arith, e, first, rest)
-fold_member (x ∷ xs) a q (inr h) = fold_member xs (max a x) q h
-
 last_most : (lives : Lives) → lives.last.taken ≤ most_taken lives
-last_most lives = fold_member (map (λ (life : Life). life.taken) (all_lives lives)) 0 lives.last.taken (Has-map (λ (life : Life). life.taken) lives.last (all_lives lives) (Has-append_right lives.last lives.earlier (lives.last ∷ []) (inl refl)))
+last_most lives = fold_max-member (map (λ (life : Life). life.taken) (all_lives lives)) 0 lives.last.taken (Has-map (λ (life : Life). life.taken) lives.last (all_lives lives) (Has-append_right lives.last lives.earlier (lives.last ∷ []) (inl refl)))
 
 -- without a body the contents are empty
 pub no_contents : (v : View) (d : Data) (x : Execution) → IsValid v → (s c o j : ℕ) → s < length v.streams → origin_of v s ≡ Some (c, o) → j < replicas_of v c → program_of v c ≡ None → contents (wiring_of v) d x s j ≡ []

@@ -1,7 +1,8 @@
 -- The honest law: by induction on the region of a stream's component.
-use Rattle.std.proofs.Common.{if◌then◌else◌, ◌≡◌, refl, ap, sym, subst, ◌∙◌, ℕ, zero, suc, ◌<◌, Bool, true, false, List, [], ◌∷◌, ◌++◌, length, map, take, append-nil, inr, Option, None, Some, arith}
+use Rattle.std.proofs.Common.{◌≡◌, refl, ap, sym, subst, ◌∙◌, ℕ, zero, suc, ◌<◌, true, false, List, [], ◌∷◌, ◌++◌, length, append-nil, inr, Option, None, Some, arith}
+use Rattle.std.proofs.lemmas.Bool.{false_from_ne_true}
 use Rattle.std.specs.Prelude.{is_some}
-use Rattle.std.specs.List.{flat_map, list_all}
+use Rattle.std.specs.List.{list_all}
 use Rattle.std.specs.Option.{option_map, option_map_or, option_and_then}
 use Rattle.fd_closure.specs.declared.attrs.Attrs.{Attrs}
 use Rattle.blz_value.specs.Members.{Has}
@@ -17,11 +18,10 @@ use Rattle.topo_types.specs.Regions.{region_of}
 use Rattle.topo_types.specs.Valid.{IsValid}
 use Rattle.topo_types.specs.View.{View, End, origin_of, stream_at, stream_replicas, component_at, output_at, mode_of, mode_key, program_of, replicas_of, has_stream, goes_to, senders_of, stream_of, streams_to, is_order_mode}
 use Rattle.topo_types.proofs.Spreading.{both_true}
-use Rattle.inbox.specs.Messages.{Entry}
 use Rattle.inbox.specs.Instances.{Instance, is_carrying}
-use Rattle.inbox.specs.Timesteps.{each_set_off, timesteps}
+use Rattle.inbox.specs.Timesteps.{timesteps}
 use Rattle.inbox.specs.Wiring.{Wiring, wiring_of, instance_for, carried_places}
-use Rattle.inbox.specs.Lives.{Life, all_lives, of_entry, life_timesteps, emitted_by}
+use Rattle.inbox.specs.Lives.{Life, all_lives, emitted_by}
 use Rattle.inbox.specs.Executions.{Execution, list_from, emitted_list}
 use Rattle.inbox.specs.Growth.{feed_numbered, NoRepeats}
 use Rattle.inbox.proofs.Lists.Repeats.{no_repeats-emitted_by}
@@ -35,15 +35,13 @@ use Rattle.confluence.proofs.Honest.FromFeeds.{IsFedHonestly}
 use Rattle.confluence.proofs.Honest.HeardWhole.{Has-rows_in, Has-from_rows_in}
 use Rattle.inbox.specs.Folds.{rows_from}
 use Rattle.inbox.proofs.Lists.Seals.{seals_of_list}
+use Rattle.inbox.proofs.Timesteps.OfLives.{life_timesteps-hearing}
 use Rattle.confluence.proofs.Honest.KeysAtPorts.{carrying_is, places_only}
 use Rattle.confluence.proofs.Honest.CarriedKeys.{carries-from, may_carry-is, carried_output, carried_at, port_places, into_port, not_ordered, comes_lower, output_places, key_of_source}
 use Rattle.confluence.proofs.Honest.Sources.{no_other_seal, no_row_again, honest_source}
 use Rattle.confluence.proofs.Honest.Rows.{same_rows}
 
 -- ---- one output
-
-not_order_timesteps : (i : Instance) (log : List Entry) (life : Life) → is_order_mode i.mode ≡ false → life_timesteps i log life ≡ timesteps i life.heard
-not_order_timesteps i log life hears = ap (λ b. flat_map (λ s. s.steps) (if b then map (of_entry i) (take life.taken log) else each_set_off i life.heard)) hears
 
 has_program : (o : Option Program) → is_some o ≡ true → (program : Program) × (o ≡ Some program)
 has_program None e = cc
@@ -53,10 +51,6 @@ has_program (Some program) e = (program, refl)
 places_of : (o : Option Attrs) (f : Attrs → List ℕ) (places : List ℕ) → option_map f o ≡ Some places → (key : Attrs) × (o ≡ Some key) × (places ≡ f key)
 places_of None f places e = cc
 places_of (Some key) f places e = (key, refl, let same : Some (f key) ≡ Some places = e in cc)
-
-is_false : (b : Bool) → (b ≡ true → ⊥) → b ≡ false
-is_false true never = absurd (never refl)
-is_false false never = refl
 
 module _ (v : View) (d : Data) (x : Execution) (history : IsHistory v d x) (holds : Holds v d) where
   valid : IsValid v
@@ -134,11 +128,11 @@ module _ (v : View) (d : Data) (x : Execution) (history : IsHistory v d x) (hold
         let at : places ≡ key_places (output_at v c o).columns key.bits = named.2 ∙ ap (λ cs. key_places cs key.bits) columns in
         record {
           counts = sealed.counts;
-          no_row = λ r h. is_false (is_same_row (cells places r) k) (λ t.
+          no_row = λ r h. false_from_ne_true (is_same_row (cells places r) k) (λ t.
               let is : cells (key_places (output_at v c o).columns key.bits) r ≡ k = ap (λ ps. cells ps r) (sym at) ∙ is_same_row-is (cells places r) k t in
               let in_list : Has r (rows_in list) = Has-rows_in r list (subst (λ l. Has (row r) l) (sym cut_at) (Has-append_right (row r) before (seal k count ∷ after) (inr h))) in
               let lived = Has-from_flat_map (life_rows program i (x.logs c) o) r all ((rows_of_list program i body.1 (x.logs c) (x.lives c j) o long).0 r in_list) in
-              let there_too : Has r (rows_from program (empty_tables program) (timesteps i lived.0.heard) o) = subst (λ nows. Has r (rows_from program (empty_tables program) nows o)) (not_order_timesteps i (x.logs c) lived.0 hears) lived.2 in
+              let there_too : Has r (rows_from program (empty_tables program) (timesteps i lived.0.heard) o) = subst (λ nows. Has r (rows_from program (empty_tables program) nows o)) (life_timesteps-hearing i (x.logs c) lived.0 hears) lived.2 in
               let here = same_rows v d x history holds c o j there replica out program body.1 key mode may both.1 (fed_honestly c there key mode (λ port u u_lt goes. any_stream port u u_lt key mode goes) j)
               sealed.heard lived.0.heard
               (record { life = sealed.life; lived = sealed.lived; first = sealed.first })

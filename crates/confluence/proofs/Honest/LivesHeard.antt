@@ -17,16 +17,16 @@ use Rattle.inbox.specs.Executions.{Execution}
 use Rattle.inbox.specs.Growth.{ComesFrom}
 use Rattle.inbox.specs.Laws.{IsSent}
 use Rattle.inbox.proofs.Timesteps.AtOnce.{GoesAtOnce, at_once_timesteps-heard}
-use Rattle.inbox.proofs.Executions.Senders.{history_holds}
+use Rattle.inbox.proofs.Executions.Sent.{history_holds}
 use Rattle.inbox.proofs.Timesteps.UnderSeal.{seal_timesteps-go}
 use Rattle.inbox.proofs.Timesteps.Whole.{entries_of-append}
 use Rattle.inbox.proofs.WiringLemmas.{instance-wired}
+use Rattle.inbox.proofs.Timesteps.Widths.{timesteps-many}
 use Rattle.stream_deps.specs.Sent.{IsHistory, AreSent}
 use Rattle.stream_deps.proofs.Arrives.{heard_law, arrivals_law}
 use Rattle.confluence.specs.Partitions.{IsLived}
 use Rattle.confluence.proofs.Honest.FromFeeds.{AllCome}
 use Rattle.confluence.proofs.Honest.KeysAtPorts.{ports_same}
-use Rattle.confluence.proofs.Honest.TimestepSets.{timesteps_long}
 use Rattle.bloom_ast.specs.Steps.{AreArrivals}
 
 -- a mode with a key is Pass or Seal
@@ -77,4 +77,4 @@ module _ (v : View) (d : Data) (x : Execution) (history : IsHistory v d x) (c j 
     pub all_arrive : (program : Program) → program_of v c ≡ Some program → AreArrivals program (timesteps i batches)
     all_arrive program body =
         arrivals_law v d x c program (timesteps i batches) history there body
-        (λ now h. timesteps_long i batches now h ∙ ports_same v c j key mode program ((history.valid.components c there).runs program body)) all_sent
+        (λ now h. timesteps-many i batches now h ∙ ports_same v c j key mode program ((history.valid.components c there).runs program body)) all_sent

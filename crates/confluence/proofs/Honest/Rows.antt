@@ -48,6 +48,7 @@ use Rattle.inbox.proofs.WiringLemmas.{instance-ports}
 use Rattle.stream_deps.specs.Sent.{IsHistory}
 use Rattle.stream_deps.specs.Laws.{HaveKey}
 use Rattle.stream_deps.proofs.Joint.{keyed_law}
+use Rattle.stream_deps.proofs.Rows.{put_out_over, arrived_up, arrivals_up}
 use Rattle.confluence.proofs.Honest.LivesHeard.{by_mode, all_come, heard_standing, all_sent, all_arrive}
 use Rattle.confluence.specs.Partitions.{IsLived, IsFed}
 use Rattle.confluence.proofs.Honest.FromFeeds.{AllCome, IsFedHonestly, heard_fed, whole_heard}
@@ -55,7 +56,7 @@ use Rattle.confluence.proofs.Honest.Partitions.{IsRestriction, at_once_port, at_
 use Rattle.confluence.proofs.Honest.KeysAtPorts.{carrying_is, restricts, ports_same, within-small, Has-members, in_numbers, one_of}
 use Rattle.confluence.proofs.Honest.CarriedKeys.{MayCarry, may_carry-is, carried_source, carried_output, towards_carries, goes_is}
 use Rattle.confluence.proofs.Honest.KeysOfRows.{copied_key, own_at, has_at}
-use Rattle.confluence.proofs.Honest.Runs.{to_over, from_over, put_out_over, arrived_up, arrivals_up}
+use Rattle.confluence.proofs.Honest.Runs.{to_over, from_over}
 use Rattle.inbox.specs.Folds.{rows_from}
 use Rattle.bloom_ast.specs.Steps.{AreArrivals}
 use Rattle.path_annotate.specs.Given.{AreAllC, is_w}

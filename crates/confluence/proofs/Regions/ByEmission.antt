@@ -22,7 +22,7 @@ use Rattle.inbox.specs.Growth.{feed_numbered, ComesFrom, TakesWithinLogs}
 use Rattle.inbox.specs.Events.{Step}
 use Rattle.inbox.proofs.Executions.Histories.{by_history, Changes, hears, logs, takes, forgets, step_changes}
 use Rattle.inbox.proofs.Executions.Lengthening.{same_numbers, with_logged-lives, step_takes, begun_takes, step_grows}
-use Rattle.inbox.proofs.Executions.Senders.{Has-continues, pairs-come}
+use Rattle.inbox.proofs.Executions.Sent.{Has-continues, pairs-come}
 use Rattle.inbox.proofs.WiringLemmas.{instance-wired, instance-feeds}
 
 -- ---- what lives have heard

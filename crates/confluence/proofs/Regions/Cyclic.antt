@@ -36,6 +36,7 @@ use Rattle.inbox.specs.Executions.{Execution, emitted_list, contents}
 use Rattle.inbox.specs.Completeness.{IsComplete}
 use Rattle.inbox.proofs.Timesteps.Whole.{Has-filter_map}
 use Rattle.inbox.proofs.WiringLemmas.{port_of-feed, instance-wired, instance-feeds}
+use Rattle.inbox.proofs.Timesteps.Widths.{timesteps-many}
 use Rattle.stream_deps.specs.Sent.{IsHistory}
 use Rattle.confluence.specs.Complete.{contents_into}
 use Rattle.topo_types.specs.Laws.{OrderIsAcyclic}
@@ -43,7 +44,7 @@ use Rattle.confluence.proofs.Honest.HeardWhole.{Has-rows_in, Has-from_rows_in}
 use Rattle.confluence.proofs.Determined.Parts.{by_parts}
 use Rattle.confluence.proofs.Determined.Rows.{AreInside, confluent_part}
 use Rattle.confluence.proofs.Contents.Heard.{stands_heard, heard_entry}
-use Rattle.confluence.proofs.Contents.Instances.{inside, not_order, from_contents, long_timesteps}
+use Rattle.confluence.proofs.Contents.Instances.{inside, not_order, from_contents}
 use Rattle.confluence.proofs.Contents.Arriving.{runs, output_column, life_inside, arrives_sent}
 use Rattle.confluence.proofs.Determined.DeterminedOutputs.{contents_by_parts, c_part, nothing_part, no_rows}
 use Rattle.confluence.proofs.Regions.Members.{same_cycle}
@@ -119,7 +120,7 @@ module _ (v : View) (d : Data) (valid : IsValid v) (order_acyclic : OrderIsAcycl
     | inl lt ↦
         let inst : Instance = instance_at w m i in
         let at = inside v d x valid s m o i stands origin lt_i in
-        let below_it : port < length inst.ports = subst (λ (n : ℕ). port < n) (long_timesteps inst life.heard now came) lt in
+        let below_it : port < length inst.ports = subst (λ (n : ℕ). port < n) (timesteps-many inst life.heard now came) lt in
         let e = heard_entry inst (all_pairs life.heard) (port, r) (stands_heard inst life.heard (port, r) (not_order v d x valid s m o i stands origin lt_i program body unordered) (record { now = now; among = came; there = h })) in
         let b = Has-from_flat_map (λ batch. batch) (e.feed, row r) life.heard e.there in
         let number_lt = feed_there inst e.feed port e.port below_it in

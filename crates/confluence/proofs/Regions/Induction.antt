@@ -11,13 +11,13 @@ use Rattle.bloom_ast.specs.declared.program.Program.{Program}
 use Rattle.bloom_ast.specs.ProgramStep.{answer_of}
 use Rattle.bloom_ast.specs.Step.{set_at}
 use Rattle.blz_value.specs.Sets.{set_of}
-use Rattle.topo_types.specs.Data.{Data, IsData, Holds, source_data}
+use Rattle.topo_types.specs.Data.{Data, IsData, Holds}
 use Rattle.topo_types.specs.Graph.{is_in}
-use Rattle.topo_types.specs.Messages.{rows_in, row, source_messages}
+use Rattle.topo_types.specs.Messages.{rows_in, row}
 use Rattle.topo_types.specs.Regions.{region_of, region_set, is_in_cycle}
 use Rattle.topo_types.specs.Sets.{below}
 use Rattle.topo_types.specs.Valid.{IsValid}
-use Rattle.topo_types.specs.View.{View, End, origin_of, program_of, is_order, is_replicated, replicas_of, senders_of, goes_to, stream_numbers, stream_at}
+use Rattle.topo_types.specs.View.{View, End, origin_of, program_of, is_order, is_replicated, replicas_of, senders_of, goes_to, stream_numbers}
 use Rattle.topo_types.proofs.Spreading.{from_below, in_below}
 use Rattle.label_rules.specs.declared.label.Label.{Label}
 use Rattle.label_rules.specs.declared.label.Label.TheVariants.{Seal, Async, Run, Inst, Diverge}
@@ -25,8 +25,8 @@ use Rattle.label_rules.specs.Label.{severity}
 use Rattle.label_walk.specs.Labels.{AreLabels, IsLabel, IsRegionLabel, IsOutsideLabel}
 use Rattle.label_walk.specs.Paths.{label_at, is_from_outside, region_inputs, is_replicated_set}
 use Rattle.inbox.specs.Wiring.{Wiring, wiring_of}
-use Rattle.inbox.specs.Executions.{Execution, emitted_list, list_from, contents}
-use Rattle.inbox.proofs.WiringLemmas.{stream-wired}
+use Rattle.inbox.specs.Executions.{Execution, emitted_list, contents}
+use Rattle.inbox.proofs.Lists.Origins.{source_list}
 use Rattle.stream_deps.specs.Sent.{IsHistory}
 use Rattle.confluence.specs.Complete.{IsCompleted, contents_into}
 use Rattle.confluence.specs.LabelMeaning.{IsOutside, IsProtected, IsGuarded, IsInCycle, HasGoodPaths, HasGoodInputs, HasConfluentPaths}
@@ -211,10 +211,7 @@ module _ (premises : Premises) (v : View) (labels : List Label) (d : Data) (vali
 
   -- a source
   source_equal : (s : ℕ) → s < length v.streams → origin_of v s ≡ None → (x y : Execution) → HaveEqualContents v d x y s
-  source_equal s stands origin x y i j lt_i lt_j = ap (λ l. set_of (rows_in l)) (list x i ∙ sym (list y j))
-    where
-      list : (z : Execution) (k : ℕ) → emitted_list w d z s k ≡ source_messages (stream_at v s) (source_data d s)
-      list z k = ap (λ line. option_map_or (λ l. list_from l.origin w d z l s k) line []) (stream-wired v s stands) ∙ ap (λ from. list_from from w d z (stream_at v s) s k) origin
+  source_equal s stands origin x y i j lt_i lt_j = ap (λ l. set_of (rows_in l)) (source_list v d x s i stands origin ∙ sym (source_list v d y s j stands origin))
 
   label_of : (s : ℕ) (from : Option End) → s < length v.streams → origin_of v s ≡ from → IsLabel v labels s from (label_at labels s)
   label_of s from stands origin = subst (λ (o : Option End). IsLabel v labels s o (label_at labels s)) origin (are.are s stands)

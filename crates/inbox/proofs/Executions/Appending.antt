@@ -14,7 +14,7 @@ use Rattle.inbox.specs.Emission.{Kept, emit, begin_life, nothing_emitted}
 use Rattle.inbox.specs.Lives.{Life, Lives, hear_batch, take_entry, forget_all, of_entry, life_sets_off, after_life, kept_after}
 use Rattle.topo_types.specs.Data.{Data}
 use Rattle.inbox.specs.Wiring.{Wiring}
-use Rattle.inbox.specs.Executions.{first_execution, result_and_then, after_step, execution_of}
+use Rattle.inbox.specs.Executions.{first_execution, result_and_then, after_step, execution_of, Execution}
 use Rattle.inbox.specs.Events.{Step}
 
 -- ---- one batch more
@@ -38,10 +38,11 @@ timesteps-more i batches batch =
 
 -- ---- lives
 
-sets_off-hearing : (i : Instance) (log : List Entry) (life : Life) → is_order_mode i.mode ≡ false → life_sets_off i log life ≡ each_set_off i life.heard
+-- what a life sets off, where the instance hears messages, and where it takes entries
+pub sets_off-hearing : (i : Instance) (log : List Entry) (life : Life) → is_order_mode i.mode ≡ false → life_sets_off i log life ≡ each_set_off i life.heard
 sets_off-hearing i log life not_order = ap (λ b. if b then map (of_entry i) (take life.taken log) else each_set_off i life.heard) not_order
 
-sets_off-taking : (i : Instance) (log : List Entry) (life : Life) → is_order_mode i.mode ≡ true → life_sets_off i log life ≡ map (of_entry i) (take life.taken log)
+pub sets_off-taking : (i : Instance) (log : List Entry) (life : Life) → is_order_mode i.mode ≡ true → life_sets_off i log life ≡ map (of_entry i) (take life.taken log)
 sets_off-taking i log life is = ap (λ b. if b then map (of_entry i) (take life.taken log) else each_set_off i life.heard) is
 
 -- what a last life makes, after the lives before it
@@ -87,3 +88,7 @@ kept_after-forget i log lives =
 
 pub execution_of-more : (w : Wiring) (given : Data) (steps : List Step) (step : Step) → execution_of w given (steps ++ step ∷ []) ≡ result_and_then (execution_of w given steps) (after_step w given step)
 execution_of-more w given steps step = fold-append (λ result s. result_and_then result (after_step w given s)) (Ok first_execution) steps (step ∷ [])
+
+-- a legal step more after legal steps
+pub legal_more : (w : Wiring) (given : Data) (steps : List Step) (step : Step) (x y : Execution) → execution_of w given steps ≡ Ok x → after_step w given step x ≡ Ok y → execution_of w given (steps ++ step ∷ []) ≡ Ok y
+legal_more w given steps step x y legal at = execution_of-more w given steps step ∙ ap (λ r. result_and_then r (after_step w given step)) legal ∙ at

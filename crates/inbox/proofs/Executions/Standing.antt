@@ -2,7 +2,6 @@
 use Rattle.std.proofs.Common.{◌≡◌, refl, ap, sym, subst, ◌∙◌, ℕ, ◌+◌, ◌<◌, ◌==◌, ◌&&◌, Bool, true, false, List, [], ◌∷◌, ◌++◌, length, get_or, Some, slice_get}
 use Rattle.std.specs.Prelude.{Ok, if◌then◌else◌}
 use Rattle.std.specs.List.{fold}
-use Rattle.std.specs.Option.{option_map_or}
 use Rattle.topo_types.specs.Data.{Data}
 use Rattle.topo_types.specs.View.{is_order_mode, Stream}
 use Rattle.topo_types.specs.Messages.{Message}
@@ -12,11 +11,12 @@ use Rattle.inbox.specs.Timesteps.{set_off}
 use Rattle.inbox.specs.Emission.{list_of, emit, begin_life, nothing_emitted}
 use Rattle.inbox.specs.Lives.{Lives, one_life, hear_batch, take_entry, forget_all, of_entry, kept_after}
 use Rattle.inbox.specs.Wiring.{Wiring, instance_at, is_there}
-use Rattle.inbox.specs.Executions.{Execution, first_execution, with_lives, is_hearing, with_logged, list_from, emitted_list, result_and_then, after_step, execution_of}
+use Rattle.inbox.specs.Executions.{Execution, first_execution, with_lives, is_hearing, with_logged, emitted_list, after_step}
 use Rattle.inbox.specs.Standing.{Seat, SeatStandsFor, Seats, SeatsStandFor, StandsFor}
 use Rattle.inbox.specs.Events.{Part, Step}
-use Rattle.inbox.proofs.Executions.Appending.{kept_after-hear, kept_after-take, kept_after-forget, execution_of-more}
+use Rattle.inbox.proofs.Executions.Appending.{kept_after-hear, kept_after-take, kept_after-forget, legal_more}
 use Rattle.inbox.proofs.Executions.Lengthening.{same_numbers, with_logged-lives, with_logged-logs, kept_after-log, hearing_isnt_order, takes_within_logs}
+use Rattle.inbox.proofs.Lists.Origins.{list-output}
 
 -- ---- the beginning
 
@@ -46,8 +46,7 @@ stands_first w given = record {
 pub stands_emitted : (w : Wiring) (given : Data) (x : Execution) (net : Seats) (s c o r : ℕ) (line : Stream) → SeatsStandFor w x net → slice_get w.streams s ≡ Some line → line.origin ≡ Some (c, o) → is_there w c r ≡ true
     → emitted_list w given x s r ≡ list_of (net.seats c r).kept o
 stands_emitted w given x net s c o r line stands at origin there =
-    ap (λ l. option_map_or (λ n. list_from n.origin w given x n s r) l []) at
-    ∙ ap (λ from. list_from from w given x line s r) origin
+    list-output w given x s c o r line at origin
     ∙ ap (λ kept. list_of kept o) (sym (stands.seats c r there).kept)
 
 -- ---- one seat is changed
@@ -72,9 +71,6 @@ one_seat w x net after component replica change stands stay new = record {
       ] refl;
   logs = λ c. stay.logs c ∙ stands.logs c;
 }
-
-more_run : (w : Wiring) (given : Data) (steps : List Step) (step : Step) (x y : Execution) → execution_of w given steps ≡ Ok x → after_step w given step x ≡ Ok y → execution_of w given (steps ++ step ∷ []) ≡ Ok y
-more_run w given steps step x y run at = execution_of-more w given steps step ∙ ap (λ r. result_and_then r (after_step w given step)) run ∙ at
 
 -- what becomes of a seat that hears a batch
 abbrev pub seat_hears : Instance → Batch → Seat → Seat
@@ -114,7 +110,7 @@ pub stands_hearing : (w : Wiring) (given : Data) (steps : List Step) (step : Ste
     → StandsFor w given (steps ++ step ∷ []) after
 stands_hearing w given steps step net after s component replica parts pairs at hears there stay changed = record {
   execution = with_lives component replica (hear_batch pairs) s.execution;
-  run = more_run w given steps step s.execution (with_lives component replica (hear_batch pairs) s.execution) s.run at;
+  run = legal_more w given steps step s.execution (with_lives component replica (hear_batch pairs) s.execution) s.run at;
   stands = one_seat w s.execution net after component replica (hear_batch pairs) s.stands stay
       (subst (λ seat. SeatStandsFor (instance_at w component replica) (s.execution.logs component) (hear_batch pairs (s.execution.lives component replica)) seat) (sym changed)
       (seat-hears (instance_at w component replica) (s.execution.logs component) (s.execution.lives component replica) pairs (net.seats component replica) (hearing_isnt_order w component replica parts hears) (s.stands.seats component replica there)));
@@ -133,7 +129,7 @@ stands_taking w given steps step net after s component replica entry at there or
     let is_next : get_or (s.execution.logs component) (s.execution.lives component replica).last.taken entry ≡ entry = sym (ap (λ n. get_or (s.execution.logs component) n entry) seat.taken) ∙ sym (ap (λ l. get_or l (net.seats component replica).taken entry) log) ∙ next in
     record {
       execution = with_lives component replica take_entry s.execution;
-      run = more_run w given steps step s.execution (with_lives component replica take_entry s.execution) s.run at;
+      run = legal_more w given steps step s.execution (with_lives component replica take_entry s.execution) s.run at;
       stands = one_seat w s.execution net after component replica take_entry s.stands stay
           (subst (λ z. SeatStandsFor (instance_at w component replica) (s.execution.logs component) (take_entry (s.execution.lives component replica)) z) (sym changed)
           (seat-takes (instance_at w component replica) (s.execution.logs component) (s.execution.lives component replica) entry (net.seats component replica) order lt is_next seat));
@@ -146,7 +142,7 @@ pub stands_forgetting : (w : Wiring) (given : Data) (steps : List Step) (step : 
     → StandsFor w given (steps ++ step ∷ []) after
 stands_forgetting w given steps step net after s component replica at there stay changed = record {
   execution = with_lives component replica forget_all s.execution;
-  run = more_run w given steps step s.execution (with_lives component replica forget_all s.execution) s.run at;
+  run = legal_more w given steps step s.execution (with_lives component replica forget_all s.execution) s.run at;
   stands = one_seat w s.execution net after component replica forget_all s.stands stay
       (subst (λ z. SeatStandsFor (instance_at w component replica) (s.execution.logs component) (forget_all (s.execution.lives component replica)) z) (sym changed)
       (seat-forgets (instance_at w component replica) (s.execution.logs component) (s.execution.lives component replica) (net.seats component replica) (s.stands.seats component replica there)));
@@ -162,7 +158,7 @@ stands_ordering w given steps step net after s component port message at seats n
     let y = with_logged component port message x in
     record {
       execution = y;
-      run = more_run w given steps step x y s.run at;
+      run = legal_more w given steps step x y s.run at;
       stands = record {
         seats = λ c r there.
             let old = s.stands.seats c r there in

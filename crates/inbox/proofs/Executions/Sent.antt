@@ -1,4 +1,4 @@
--- What is heard was emitted, and what is logged.
+-- What instances have heard and what logs hold was emitted before, in lists that only grow.
 use Rattle.std.proofs.Common.{◌≡◌, refl, ap, sym, subst, ◌∙◌, ℕ, ◌<◌, ◌==◌, ◌&&◌, Bool, true, false, List, [], ◌∷◌, length, inl, inr, ◌⊎◌, Option, None, Some, slice_get}
 use Rattle.std.specs.Prelude.{Ok, if◌then◌else◌}
 use Rattle.std.proofs.lemmas.Bool.{eqb-true, and_parts}
@@ -14,8 +14,8 @@ use Rattle.inbox.specs.Instances.{Instance}
 use Rattle.inbox.specs.Lives.{Life, Lives, empty_life, all_lives, hear_batch, take_entry, forget_all}
 use Rattle.inbox.specs.Wiring.{Wiring, instance_at}
 use Rattle.inbox.specs.Executions.{Execution, first_execution, with_lives, emitted_list, feed_of, message_of, pair_with, pair_of, pairs_of, result_and_then, with_logged, execution_of}
-use Rattle.inbox.specs.Growth.{Continues, IsExtendedBy, TakesWithinLogs, feed_numbered, ComesFrom, HearsWhatIsSent, EntryComesFrom, LogsWhatIsSent}
-use Rattle.inbox.specs.Laws.{IsSent}
+use Rattle.inbox.specs.Growth.{Continues, IsExtendedBy, TakesWithinLogs, feed_numbered, ComesFrom, HearsWhatIsSent, EntryComesFrom, WasSentBefore}
+use Rattle.inbox.specs.Laws.{IsSent, AllWasSentBefore}
 use Rattle.inbox.specs.Events.{Part, Step}
 use Rattle.inbox.proofs.MessagesLemmas.{is_same_entry-is, is_same_entry-itself, Has-from_with_new}
 use Rattle.inbox.proofs.Executions.Results.{Ok_same, and_then_Ok}
@@ -101,7 +101,7 @@ pairs-come w given x i (part ∷ parts) pairs e pair h =
       | inr rest ↦ pairs-come w given x i parts b.0 b.1 pair rest
     ]
 
--- ---- over histories
+-- ---- what lives hear
 
 -- what lives hear
 abbrev pub LivesHear : (Pair → Type 0) → Lives → Type 0
@@ -154,6 +154,9 @@ one_instance_hears P component replica change x old new c r =
       | false ↦ λ e. old c r
     ] refl
 
+-- ---- what logs hold
+
+-- an entry of a log was there before, or is new
 log-cases : (component port : ℕ) (message : Message) (x : Execution) (c : ℕ) (entry : Entry) → Has entry ((with_logged component port message x).logs c)
     → Has entry (x.logs c) ⊎ ((c ≡ component) × (entry.0 ≡ port) × (message ≡ row entry.1))
 log-cases component port (seal key count) x c entry h = inl h
@@ -168,52 +171,52 @@ log-cases component port (row r) x c entry h =
       | false ↦ λ e at. inl at
     ] refl h
 
--- what was heard or logged before comes from where it came
-old_hears : (w : Wiring) (given : Data) (x y : Execution) → IsExtendedBy w given x y → HearsWhatIsSent w given x → (c r : ℕ) → LivesHear (λ pair. ComesFrom w given y (instance_at w c r) pair) (x.lives c r)
-old_hears w given x y grows old c r life batch pair h b p = comes-on w given x y (instance_at w c r) pair grows (old c r life batch pair h b p)
+-- ---- each kind of step
 
-old_logs : (w : Wiring) (given : Data) (x y : Execution) → IsExtendedBy w given x y → LogsWhatIsSent w given x → (c : ℕ) (entry : Entry) → Has entry (x.logs c) → EntryComesFrom w given y (instance_at w c 0) entry
-old_logs w given x y grows old c entry h = entry-on w given x y (instance_at w c 0) entry grows (old c entry h)
-
-hearing_holds : (w : Wiring) (given : Data) (x : Execution) (component replica : ℕ) (change : Lives → Lives) (y : Execution) → with_lives component replica change x ≡ y → IsExtendedBy w given x y → TakesWithinLogs y → IsSent w given x
-    → LivesHear (λ pair. ComesFrom w given y (instance_at w component replica) pair) (change (x.lives component replica)) → IsSent w given y
-hearing_holds w given x component replica change y e grows within old new = record {
-  takes = within;
-  hears = λ c r. subst (λ z. LivesHear (λ pair. ComesFrom w given y (instance_at w c r) pair) (z.lives c r)) e
-      (one_instance_hears (λ n m pair. ComesFrom w given y (instance_at w n m) pair) component replica change x (old_hears w given x y grows old.hears) new c r);
-  logs = λ c entry h. old_logs w given x y grows old.logs c entry (subst (λ z. Has entry (z.logs c)) (sym e) h);
+lives_before : (w : Wiring) (given : Data) (x y : Execution) (component replica : ℕ) (change : Lives → Lives) → with_lives component replica change x ≡ y → IsSent w given x
+    → LivesHear (λ pair. ComesFrom w given x (instance_at w component replica) pair) (change (x.lives component replica)) → WasSentBefore w given x y
+lives_before w given x y component replica change e old new = record {
+  heard = λ c r. subst (λ z. LivesHear (λ pair. ComesFrom w given x (instance_at w c r) pair) (z.lives c r)) e
+      (one_instance_hears (λ n m pair. ComesFrom w given x (instance_at w n m) pair) component replica change x old.hears new c r);
+  logged = λ c entry h. old.logs c entry (subst (λ z. Has entry (z.logs c)) (sym e) h);
 }
 
-step_holds : (w : Wiring) (given : Data) (x y : Execution) → IsSent w given x → Changes w given x y → IsExtendedBy w given x y → TakesWithinLogs y → IsSent w given y
-step_holds w given x y old (hears component replica parts pairs h p e) grows within =
-    hearing_holds w given x component replica (hear_batch pairs) y e grows within old
-    (hear-hears (λ pair. ComesFrom w given y (instance_at w component replica) pair) pairs (x.lives component replica) (old_hears w given x y grows old.hears component replica)
-    (λ pair at. comes-on w given x y (instance_at w component replica) pair grows (pairs-come w given x (instance_at w component replica) parts pairs p pair at)))
-step_holds w given x y old (logs component part pair s p e) grows within = record {
-  takes = within;
-  hears = λ c r life batch q h b at.
-      old_hears w given x y grows old.hears c r life batch q (subst (λ l. Has life (all_lives l)) (ap (λ z. z.lives c r) (sym e) ∙ with_logged-lives component part.port pair.1 x c r) h) b at;
-  logs = λ c entry h. elim (log-cases component part.port pair.1 x c entry (subst (λ z. Has entry (z.logs c)) (sym e) h)) [
-    | inl before ↦ old_logs w given x y grows old.logs c entry before
+pub step_before : (w : Wiring) (given : Data) (x y : Execution) → IsSent w given x → Changes w given x y → WasSentBefore w given x y
+step_before w given x y old (hears component replica parts pairs h p e) =
+    let P : Pair → Type 0 = λ pair. ComesFrom w given x (instance_at w component replica) pair in
+    lives_before w given x y component replica (hear_batch pairs) e old
+    (hear-hears P pairs (x.lives component replica) (old.hears component replica) (pairs-come w given x (instance_at w component replica) parts pairs p))
+step_before w given x y old (logs component part pair s p e) = record {
+  heard = λ c r life batch q h b at. old.hears c r life batch q (subst (λ l. Has life (all_lives l)) (ap (λ z. z.lives c r) (sym e) ∙ with_logged-lives component part.port pair.1 x c r) h) b at;
+  logged = λ c entry h. elim (log-cases component part.port pair.1 x c entry (subst (λ z. Has entry (z.logs c)) (sym e) h)) [
+    | inl before ↦ old.logs c entry before
     | inr new ↦
         let is = pair_of-is w given x (instance_at w component 0) part pair p in
         let f = feed_of-is (instance_at w component 0) part pair.0 is.feed in
-        let came = comes-on w given x y (instance_at w component 0) pair grows (pair-comes w given x (instance_at w component 0) part pair is) in
+        let came = pair-comes w given x (instance_at w component 0) part pair is in
         let feed = feed_numbered (instance_at w component 0) pair.0 in
-        subst (λ n. EntryComesFrom w given y (instance_at w n 0) entry) (sym new.0) (record {
+        subst (λ n. EntryComesFrom w given x (instance_at w n 0) entry) (sym new.0) (record {
           feed = feed;
           of_feed = Has-get_or (instance_at w component 0).feeds pair.0 no_feed f.within;
           port = f.port ∙ sym new.1;
-          sent = subst (λ m. Has m (emitted_list w given y feed.stream feed.sender)) new.2 came.sent;
+          sent = subst (λ m. Has m (emitted_list w given x feed.stream feed.sender)) new.2 came.sent;
         })
   ];
 }
-step_holds w given x y old (takes component replica t n e) grows within =
-    hearing_holds w given x component replica take_entry y e grows within old
-    (take-hears (λ pair. ComesFrom w given y (instance_at w component replica) pair) (x.lives component replica) (old_hears w given x y grows old.hears component replica))
-step_holds w given x y old (forgets component replica t e) grows within =
-    hearing_holds w given x component replica forget_all y e grows within old
-    (forget-hears (λ pair. ComesFrom w given y (instance_at w component replica) pair) (x.lives component replica) (old_hears w given x y grows old.hears component replica))
+step_before w given x y old (takes component replica t n e) =
+    lives_before w given x y component replica take_entry e old (take-hears (λ pair. ComesFrom w given x (instance_at w component replica) pair) (x.lives component replica) (old.hears component replica))
+step_before w given x y old (forgets component replica t e) =
+    lives_before w given x y component replica forget_all e old (forget-hears (λ pair. ComesFrom w given x (instance_at w component replica) pair) (x.lives component replica) (old.hears component replica))
+
+-- ---- histories
+
+-- what was emitted before is emitted after the step
+sent_on : (w : Wiring) (given : Data) (x y : Execution) → WasSentBefore w given x y → IsExtendedBy w given x y → TakesWithinLogs y → IsSent w given y
+sent_on w given x y before grows within = record {
+  takes = within;
+  hears = λ c r life batch pair h b p. comes-on w given x y (instance_at w c r) pair grows (before.heard c r life batch pair h b p);
+  logs = λ c entry h. entry-on w given x y (instance_at w c 0) entry grows (before.logged c entry h);
+}
 
 begun_hears : (w : Wiring) (given : Data) → HearsWhatIsSent w given first_execution
 begun_hears w given c r life batch pair (inl e) b p = absurd (subst (λ l. Has batch l.heard) (sym e) b)
@@ -226,5 +229,13 @@ begun_holds w given = record { takes = begun_takes; hears = begun_hears w given;
 pub history_holds : (w : Wiring) (given : Data) (steps : List Step) (x : Execution) → execution_of w given steps ≡ Ok x → IsSent w given x
 history_holds w given steps x legal =
     by_history w given (IsSent w given) (begun_holds w given)
-    (λ y z step old at. let change = step_changes w given step y z at in step_holds w given y z old change (step_grows w given y z old.takes change) (step_takes w given y z old.takes change))
+    (λ y z step old at. let change = step_changes w given step y z at in sent_on w given y z (step_before w given y z old change) (step_grows w given y z old.takes change) (step_takes w given y z old.takes change))
     steps x legal
+
+-- so what a step finds in lives and logs was emitted before it
+pub sent_before : AllWasSentBefore
+sent_before w given steps step x y legal at = step_before w given x y (history_holds w given steps x legal) (step_changes w given step x y at)
+
+-- all that was heard or logged stands in emitted lists by now
+pub sent_by_now : (w : Wiring) (given : Data) (x : Execution) → IsSent w given x → WasSentBefore w given x x
+sent_by_now w given x old = record { heard = old.hears; logged = old.logs }

@@ -1,8 +1,6 @@
 -- The contents of a replica of an Order component: those of the first entries of the log.
 use Rattle.std.proofs.Common.{◌≡◌, refl, ap, sym, subst, ◌∙◌, ℕ, zero, suc, ◌<◌, ◌≤◌, max, true, List, [], ◌∷◌, ◌++◌, length, map, take, arith, inl, inr, ◌⊎◌, Some}
-use Rattle.std.specs.Prelude.{if◌then◌else◌}
 use Rattle.std.specs.List.{fold, flat_map}
-use Rattle.std.specs.Option.{option_map_or}
 use Rattle.std.proofs.Math.Nat.{le-max_left, le-max_right}
 use Rattle.blz_value.specs.Members.{Has, IsWithin, HaveEqualMembers}
 use Rattle.blz_value.specs.Record.{Row}
@@ -13,21 +11,21 @@ use Rattle.bloom_ast.specs.declared.program.Program.{Program}
 use Rattle.bloom_ast.specs.Program.{port_columns}
 use Rattle.bloom_ast.specs.ProgramStep.{tables_after_step, empty_tables}
 use Rattle.bloom_ast.specs.Step.{Sets}
-use Rattle.topo_types.specs.Data.{Data}
-use Rattle.topo_types.specs.View.{is_order_mode, Stream}
+use Rattle.topo_types.specs.View.{is_order_mode}
 use Rattle.topo_types.specs.Messages.{rows_in}
 use Rattle.inbox.specs.Messages.{Entry}
 use Rattle.inbox.specs.Instances.{Instance}
-use Rattle.inbox.specs.Timesteps.{timestep_of, one_by_one, each_set_off}
-use Rattle.inbox.specs.Lives.{Life, Lives, all_lives, of_entry, life_timesteps, emitted_by}
+use Rattle.inbox.specs.Timesteps.{timestep_of, one_by_one}
+use Rattle.inbox.specs.Lives.{Life, Lives, all_lives, emitted_by}
 use Rattle.inbox.specs.Folds.{fold_rows}
-use Rattle.inbox.specs.Wiring.{Wiring, instance_at}
-use Rattle.inbox.specs.Executions.{Execution, list_from, emitted_list}
+use Rattle.inbox.specs.Wiring.{instance_at}
 use Rattle.inbox.specs.Growth.{Continues}
 use Rattle.inbox.specs.Folds.{rows_from}
 use Rattle.inbox.proofs.Lists.Rows.{rows_from-append, life_rows, rows_of_list}
-use Rattle.confluence.specs.OrderReplicas.{most_taken}
-use Rattle.confluence.specs.Laws.{SequencerLaw}
+use Rattle.inbox.proofs.Timesteps.OfLives.{life_timesteps-taking}
+use Rattle.inbox.proofs.Lists.Origins.{list-output}
+use Rattle.inbox.specs.OrderReplicas.{most_taken}
+use Rattle.inbox.specs.Laws.{SequencerLaw}
 
 -- ---- the most of some numbers
 
@@ -35,7 +33,7 @@ fold_max-ge : (xs : List ℕ) (a : ℕ) → a ≤ fold max a xs
 fold_max-ge [] a = omega arith
 fold_max-ge (x ∷ xs) a = let first = le-max_left a x in let rest = fold_max-ge xs (max a x) in omega (arith, first, rest)
 
-fold_max-member : (xs : List ℕ) (a q : ℕ) → Has q xs → q ≤ fold max a xs
+pub fold_max-member : (xs : List ℕ) (a q : ℕ) → Has q xs → q ≤ fold max a xs
 fold_max-member [] a q h = absurd h
 fold_max-member (x ∷ xs) a q (inl e) = let first = le-max_right a x in let rest = fold_max-ge xs (max a x) in omega (arith, e, first, rest)
 fold_max-member (x ∷ xs) a q (inr h) = fold_max-member xs (max a x) q h
@@ -80,17 +78,6 @@ more_entries program ports xs ys output c q h =
     ∙ rows_from-append program (empty_tables program) (one_by_one ports xs) (one_by_one ports c.more) output in
     subst (λ l. Has q l) (sym are) (Has-append_left q (entry_rows program ports xs output) (rows_from program tables (one_by_one ports c.more) output) h)
 
--- ---- the timesteps of a life that takes
-
-taken_timesteps : (i : Instance) (entries : List Entry) → flat_map (λ s. s.steps) (map (of_entry i) entries) ≡ one_by_one (length i.ports) entries
-taken_timesteps i [] = refl
-taken_timesteps i (entry ∷ entries) = ap (λ l. timestep_of (length i.ports) (entry ∷ []) ∷ l) (taken_timesteps i entries)
-
-order_timesteps : (i : Instance) (log : List Entry) (life : Life) → is_order_mode i.mode ≡ true → life_timesteps i log life ≡ one_by_one (length i.ports) (take life.taken log)
-order_timesteps i log life is =
-    ap (λ b. flat_map (λ s. s.steps) (if b then map (of_entry i) (take life.taken log) else each_set_off i life.heard)) is
-    ∙ taken_timesteps i (take life.taken log)
-
 -- ---- the law
 
 module _ (program : Program) (i : Instance) (is : is_order_mode i.mode ≡ true) (log : List Entry) (output : ℕ) where
@@ -99,7 +86,7 @@ module _ (program : Program) (i : Instance) (is : is_order_mode i.mode ≡ true)
 
   life_rows-is : (life : Life) → life_rows program i log output life ≡ rows_of life.taken
   unfolding rows_of
-  life_rows-is life = ap (λ steps. rows_from program (empty_tables program) steps output) (order_timesteps i log life is)
+  life_rows-is life = ap (λ steps. rows_from program (empty_tables program) steps output) (life_timesteps-taking i log life is)
 
   rows_of-more : (n m : ℕ) → n ≤ m → IsWithin (rows_of n) (rows_of m)
   unfolding rows_of
@@ -131,12 +118,7 @@ module _ (program : Program) (i : Instance) (is : is_order_mode i.mode ≡ true)
       same_set_of (rows_in (emitted_by i log lives output)) (rows_of (most_taken lives)) (λ q h. rest.0 q (list.0 q h), λ q h. list.1 q (rest.1 q h))
       ∙ ap (λ n. set_of (entry_rows program n (take (most_taken lives) log) output)) ports
 
-by_origin : (w : Wiring) (d : Data) (x : Execution) (line : Stream) (s c o i : ℕ) → line.origin ≡ Some (c, o) → list_from line.origin w d x line s i ≡ emitted_by (instance_at w c i) (x.logs c) (x.lives c i) o
-by_origin w d x line s c o i e = ap (λ origin. list_from origin w d x line s i) e
-
 pub sequencer_law : SequencerLaw
 sequencer_law w d x s c o i program is =
-    let list : emitted_list w d x s i ≡ emitted_by (instance_at w c i) (x.logs c) (x.lives c i) o =
-    ap (λ line. option_map_or (λ l. list_from l.origin w d x l s i) line []) is.numbered ∙ by_origin w d x is.line s c o i is.origin in
-    ap (λ l. set_of (rows_in l)) list
+    ap (λ l. set_of (rows_in l)) (list-output w d x s c o i is.line is.numbered is.origin)
     ∙ sequencer_set program (instance_at w c i) is.order (x.logs c) o is.body is.ports is.output_there (x.lives c i)

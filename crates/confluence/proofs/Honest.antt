@@ -4,8 +4,6 @@ pub mod HeardWhole
 pub mod FromFeeds
 pub mod Partitions
 pub mod KeysAtPorts
-pub mod CarriedKeys
-pub mod KeysOfRows
 pub mod Runs
 pub mod LivesHeard
 pub mod Rows

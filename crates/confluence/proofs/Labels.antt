@@ -1,6 +1,5 @@
 -- What a label says of the paths behind it.
 pub mod Cells
-pub mod ColumnSets
 pub mod Settling
 pub mod Paths
 pub mod SealLaw

@@ -31,6 +31,7 @@ use Rattle.inbox.proofs.Lists.Origins.{output_list}
 use Rattle.stream_deps.specs.Agreement.{port_roots, value_at}
 use Rattle.stream_deps.specs.Laws.{RowsLaw, KeyLaw, EntryKeyLaw}
 use Rattle.stream_deps.proofs.Joint.{has_attribute_is, value_is, key_values}
+use Rattle.stream_deps.proofs.InstancePorts.{key_here}
 use Rattle.fd_closure.proofs.Members.{member_small}
 use Rattle.path_annotate.specs.Attributes.{value_in}
 use Rattle.blz_value.proofs.Maps.{same_map}
@@ -79,18 +80,7 @@ key_law v c p key program r valid there has inside =
     value_is v valid c there program has p a r (has_attribute_is v valid c there program has p a (in-within a key (port_attrs v c p).bits (member_small a key member) member inside)))
     ∙ sym (key_values (port_roots v c p) r (members key))
 
-places_of : (v : View) (c j : ℕ) (key : Attrs) (p : ℕ) → mode_key (mode_of v c) ≡ Some key → p < length (component_at v c).ports → within key.bits (port_attrs v c p).bits ≡ true
-    → instances.key_places_at (instance_for v c j) p ≡ Some (key_places (port_roots v c p) key.bits)
-places_of v c j key p mode within_ports inside =
-    let ports = map (λ q. port_for v c q (mode_key (mode_of v c))) (port_numbers v c) in
-    let at : slice_get ports p ≡ Some (port_for v c p (mode_key (mode_of v c))) =
-    slice_get-get_or ports p (port_for v c p (mode_key (mode_of v c))) (subst (λ (n : ℕ). p < n) (sym (length-below _ (length (component_at v c).ports))) within_ports)
-    ∙ ap Some (get_or-below (λ q. port_for v c q (mode_key (mode_of v c))) (length (component_at v c).ports) p (port_for v c p (mode_key (mode_of v c))) within_ports) in
-    ap (option_and_then (λ (q : PortKey). q.places)) at
-    ∙ ap (λ (k : Option Attrs). (port_for v c p k).places) mode
-    ∙ ap (λ (b : Bool). if b then Some (key_places (port_roots v c p) key.bits) else None) inside
-
 pub entry_key_law : EntryKeyLaw
 entry_key_law v c j key entry there replica mode within_ports inside =
     ap (λ (i : Instance). instances.key_of_entry i entry) (instance-wired v c j there replica)
-    ∙ ap (option_map (λ places. cells places entry.1)) (places_of v c j key entry.0 mode within_ports inside)
+    ∙ key_here v c j key mode entry.0 entry.1 within_ports inside

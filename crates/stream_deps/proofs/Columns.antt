@@ -1,5 +1,5 @@
 -- Columns by their attributes: the first place of an attribute, distinct columns, and sets of attributes.
-use Rattle.std.proofs.Common.{◌≡◌, ◌≢◌, ◌<◌, ◌≤◌, ◌+◌, ℕ, zero, suc, Bool, true, false, cond, bit_or, Option, None, Some, IfSome, IsNone, List, [], ◌∷◌, length, map, get_or, slice_get, refl, ap, ◌∙◌, sym, subst, inl, inr, ◌⊎◌, arith}
+use Rattle.std.proofs.Common.{◌≡◌, ◌≢◌, ◌<◌, ◌≤◌, ◌+◌, ℕ, zero, suc, Bool, true, false, cond, bit_or, Option, None, Some, IfSome, IsNone, List, [], ◌∷◌, length, map, get_or, slice_get, refl, ap, ◌∙◌, sym, subst, inl, inr, ◌⊎◌, arith, ◌^◌}
 use Rattle.std.specs.Prelude.{unwrap_or}
 use Rattle.std.specs.List.{AllPairs, position_from, zip}
 use Rattle.std.specs.Str.{bytes_eq}
@@ -16,10 +16,11 @@ use Rattle.fd_closure.specs.Closure.{within}
 use Rattle.fd_closure.specs.Names.{place_of}
 use Rattle.fd_closure.proofs.Members.{within-meets}
 use Rattle.fd_closure.proofs.Places.{place_of-get, place_of-none}
-use Rattle.fd_closure.proofs.Within.{within-trans, within-refl, within-empty, within-or_l, within-or_r, or-within}
+use Rattle.fd_closure.proofs.Within.{within-trans, within-refl, within-empty, within-or_l, within-or_r, or-within, within-le}
 use Rattle.bloom_ast.specs.Fits.{repeats}
 use Rattle.bloom_ast.specs.Query.{Name}
 use Rattle.bloom_ast.specs.Reads.{with_all}
+use Rattle.bloom_ast.proofs.Unfolding.{bit_if-lt, with_all-lt}
 use Rattle.path_annotate.specs.Gates.{root_set, set_of_roots}
 use Rattle.path_annotate.specs.HeadRoots.{attribute_roots}
 use Rattle.path_annotate.specs.Roots.{Roots, root_at, are_same}
@@ -195,6 +196,14 @@ numbers_are_roots ns = ap (with_all 0) (go ns)
     go : (ns : List ℕ) → map bit_of ns ≡ map root_set (map Some ns)
     go [] = refl
     go (n ∷ ns) = ap (λ (l : List ℕ). bit_of n ∷ l) (go ns)
+
+root_set-lt : (root : Option ℕ) → root_set root < 2 ^ 64
+root_set-lt None = omega arith
+root_set-lt (Some a) = bit_if-lt true a
+
+-- what lies in a set of roots is small
+pub within-small : (a : ℕ) (roots : Roots) → within a (set_of_roots roots) ≡ true → a < 2 ^ 64
+within-small a roots inside = let le = within-le a (set_of_roots roots) inside in let lt = with_all-lt root_set root_set-lt 0 roots (omega arith) in omega (arith, le, lt)
 
 -- ---- columns that are their own roots
 

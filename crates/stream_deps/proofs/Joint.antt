@@ -37,30 +37,13 @@ use Rattle.stream_deps.specs.Sent.{IsHistory, IsSentTo}
 use Rattle.stream_deps.specs.Laws.{WholeLaw, ClosureLaw, JointLaw, KeyedLaw}
 use Rattle.stream_deps.proofs.Columns.{numbers_are_roots, in_columns, value_in_is, attribute_within}
 use Rattle.stream_deps.proofs.Tracing.{traced_law}
-use Rattle.stream_deps.proofs.Viewed.{stream_into, attrs_into, goes_in, port_is}
+use Rattle.stream_deps.proofs.Viewed.{port_is}
+use Rattle.stream_deps.proofs.Streams.{stream_into, attrs_into, goes_in, some_stream, has_some}
 use Rattle.fd_closure.proofs.Members.{member_small}
+use Rattle.fd_closure.proofs.MembersInOrder.{within_by_members, from_members}
 use Rattle.path_annotate.specs.Attributes.{has_attribute, value_in}
 use Rattle.blz_value.proofs.Maps.{same_map}
 use Rattle.fd_closure.specs.Bits.{members}
-
--- ---- sets by their members
-
-bit_small : (s k : ℕ) → s < 2 ^ 64 → IsBitSet s k → k < 64
-bit_small s k lt set = elim (cases_lt k 64) [
-  | inl small ↦ small
-  | inr above ↦
-      let own : within (2 ^ k) s ≡ true = within-bits (2 ^ k) s (λ j bit. elim (cases_eq j k) [
-        | inl same ↦ subst (λ (n : ℕ). IsBitSet s n) (sym same) set
-        | inr other ↦ absurd (let one = set_one (2 ^ k) j bit in let none = bit_at-pow_other k j other in omega (arith, one, none))
-      ]) in
-      let le : 2 ^ k ≤ s = within-le (2 ^ k) s own in
-      let high : 2 ^ 64 ≤ 2 ^ k = pow_mono above in
-      absurd (omega (arith, le, high, lt))
-]
-
--- a small set lies in one that has each of its members
-pub within_by_members : (s t : ℕ) → s < 2 ^ 64 → ((a : ℕ) → meets (bit_of a) s ≡ true → meets (bit_of a) t ≡ true) → within s t ≡ true
-within_by_members s t lt each = within-bits s t (λ k bit. let small = bit_small s k lt bit in in-bit k t small (each k (bit-in k s small bit)))
 
 -- ---- the usable dependencies
 
@@ -80,12 +63,11 @@ whole_case false b h e = cc
 
 pub whole_law : WholeLaw
 whole_law v c p fd valid has usable from =
-    let m = Has-from_any (goes_to v c p) (stream_numbers v) has in
-    let inside = from_below (length v.streams) m.0 m.1 in
-    let attrs = attrs_into v valid c p m.0 inside m.2 in
-    let both = usable_stream v c p m.0 fd usable inside m.2 in
+    let one = some_stream v c p has in
+    let attrs = attrs_into v valid c p one.0 one.1.stands one.1.goes in
+    let both = usable_stream v c p one.0 fd usable one.1.stands one.1.goes in
     subst (λ (s : ℕ). within fd.to.bits s ≡ true) (sym attrs)
-    (whole_case (within fd.from.bits (stream_attrs v m.0).bits) (within fd.to.bits (stream_attrs v m.0).bits) both.1 (subst (λ (s : ℕ). within fd.from.bits s ≡ true) attrs from))
+    (whole_case (within fd.from.bits (stream_attrs v one.0).bits) (within fd.to.bits (stream_attrs v one.0).bits) both.1 (subst (λ (s : ℕ). within fd.from.bits s ≡ true) attrs from))
 
 pub closure_law : ClosureLaw
 closure_law v c p gate valid has inside =
@@ -114,11 +96,14 @@ from_agree set left a right b e attribute h =
     let small = member_small attribute set h in
     map_at (value_at left a) (value_at right b) (members set) attribute values (Has-filter (λ n. meets (bit_of n) set) attribute (below 64) (in_below 64 attribute small) h)
 
+-- records with the same value in each attribute of a key have the same key
+pub same_keys : (set : ℕ) (left : Roots) (a : Row) (right : Roots) (b : Row) → HaveSameValues set left a right b → key_value left set a ≡ key_value right set b
+same_keys set left a right b same =
+    let values : map (value_at left a) (members set) ≡ map (value_at right b) (members set) = same_map (value_at left a) (value_at right b) (members set) (λ n h. same n (from_members set n h).1) in
+    key_values left a (members set) ∙ values ∙ sym (key_values right b (members set))
+
 pub to_agree : (set : ℕ) (left : Roots) (a : Row) (right : Roots) (b : Row) → HaveSameValues set left a right b → agree_on set left a right b ≡ true
-to_agree set left a right b same =
-    let values : map (value_at left a) (members set) ≡ map (value_at right b) (members set) = same_map (value_at left a) (value_at right b) (members set) (λ n h. same n (Has-from_filter (λ k. meets (bit_of k) set) n (below 64) h).1) in
-    let keys : key_value left set a ≡ key_value right set b = key_values left a (members set) ∙ values ∙ sym (key_values right b (members set)) in
-    subst (λ (k : Row). is_same_row (key_value left set a) k ≡ true) keys (is_same_row-itself (key_value left set a))
+to_agree set left a right b same = subst (λ (k : Row). is_same_row (key_value left set a) k ≡ true) (same_keys set left a right b same) (is_same_row-itself (key_value left set a))
 
 -- ---- joint dependencies
 
@@ -178,11 +163,11 @@ module _ (v : View) (valid : IsValid v) (c : ℕ) (there : c < length v.componen
   has_all p set inside a h = has_attribute_is p a (in-within a set (port_attrs v c p).bits (member_small a set h) h inside)
 
   all_within : (p set : ℕ) → set < 2 ^ 64 → ((a : ℕ) → meets (bit_of a) set ≡ true → has_attribute v.attributes (columns p) a ≡ true) → within set (port_attrs v c p).bits ≡ true
-  all_within p set lt each = within_by_members set (port_attrs v c p).bits lt (λ a h. is_has_attribute p a (each a h))
+  all_within p set lt each = within_by_members set (port_attrs v c p).bits lt (λ a h. is_has_attribute p a (each a (from_members set a h).1))
 
 -- a port to which a record was sent has a stream
 pub sent_has_stream : (v : View) (d : Data) (x : Execution) (c p : ℕ) (r : Row) → IsSentTo v d x c p r → has_stream v c p ≡ true
-sent_has_stream v d x c p r sent = any_from_Has (goes_to v c p) sent.stream (stream_numbers v) (in_below (length v.streams) sent.stream sent.within) sent.goes
+sent_has_stream v d x c p r sent = has_some v c p sent.stream (record { stands = sent.within; goes = sent.goes })
 
 pub keyed_law : KeyedLaw
 keyed_law v d x c program nows is_used key h holds there has sent keys = record {

@@ -17,22 +17,12 @@ use Rattle.topo_types.specs.Valid.{IsValid, IsCovered}
 use Rattle.topo_types.specs.View.{View, End, component_at, output_at, mode_of, mode_key, has_body, has_stream, own_attrs, note_at, port_attrs, port_numbers, program_of, ports_towards, streams_to, stream_numbers, same_end, ends_of, goes_to}
 use Rattle.topo_types.proofs.Spreading.{from_below, in_below}
 use Rattle.stream_deps.specs.Laws.{HaveKey, OutputKeyedLaw}
-use Rattle.stream_deps.proofs.CarriedKeys.{stream_key_law, gate_key_law}
+use Rattle.stream_deps.proofs.CarriedKeys.{stream_key_law, gate_key_law, may_carry-is}
 use Rattle.stream_deps.proofs.Joint.{keyed_law}
-use Rattle.stream_deps.proofs.Viewed.{runs, attrs_into}
+use Rattle.stream_deps.proofs.Viewed.{runs}
+use Rattle.stream_deps.proofs.Streams.{end_there, some_stream, into_port, attrs_into}
 use Rattle.fd_closure.proofs.Members.{member_small}
 use Rattle.fd_closure.specs.Bits.{members}
-
--- a port with a stream is one of the component's
-port_there : (v : View) → IsValid v → (c p : ℕ) → has_stream v c p ≡ true → p < length (component_at v c).ports
-port_there v valid c p has =
-    let m = Has-from_any (goes_to v c p) (stream_numbers v) has in
-    let inside = from_below (length v.streams) m.0 m.1 in
-    let end = Has-from_any (λ e. same_end (c, p) e) (ends_of v m.0) m.2 in
-    let there = (valid.numbered.ends m.0 end.0 inside end.1).1 in
-    let component : c ≡ end.0.0 = eqb-true c end.0.0 (and_parts (c == end.0.0) (p == end.0.1) end.2).0 in
-    let port : p ≡ end.0.1 = eqb-true p end.0.1 (and_parts (c == end.0.0) (p == end.0.1) end.2).1 in
-    subst (λ (n : ℕ). n < length (component_at v c).ports) (sym port) (subst (λ (n : ℕ). end.0.1 < length (component_at v n).ports) (sym component) there)
 
 used_is : (used derived : Option Note) → IsCovered used derived → is_some derived ≡ true → is_some used ≡ true
 used_is None None h e = cc
@@ -40,29 +30,16 @@ used_is (Some a) None h e = refl
 used_is None (Some b) h e = absurd h
 used_is (Some a) (Some b) h e = refl
 
-gate_of : (v : View) (key : ℕ) (output : End) → may_carry v key (Some output) ≡ true → within key (closure (output_at v output.0 output.1).gate.bits (usable_fds v output.0)) ≡ true
-gate_of v key output h =
-    let towards = ports_towards v output.0 output.1 in
-    let notes = allows_notes v (mode_of v output.0) output.0 output.1 in
-    let closed = within key (closure (output_at v output.0 output.1).gate.bits (usable_fds v output.0)) in
-    let one = (and_parts (has_body v output.0) _ h).1 in
-    let two = (and_parts (is_key key (mode_key (mode_of v output.0))) _ one).1 in
-    let three = (and_parts (nat_lt 0 (length towards)) _ two).1 in
-    let four = (and_parts (list_all (has_stream v output.0) towards) _ three).1 in
-    (and_parts closed (within key (own_attrs (output_at v output.0 output.1)) && notes) four).0
-
 -- a port with a derived note towards the output, and with a stream, has the key's columns
 pub keys_towards : (v : View) → IsValid v → (c o key : ℕ) (program : Program) → c < length v.components → o < length (component_at v c).outputs → program_of v c ≡ Some program
     → list_all (carries_key v key) (streams_towards v c o) ≡ true → (p : ℕ) → is_some (note_of v.attributes program p o) ≡ true → has_stream v c p ≡ true → within key (port_attrs v c p).bits ≡ true
 keys_towards v valid c o key program within_components within_outputs has carries p used streams =
-    let there = port_there v valid c p streams in
+    let there = (end_there v valid c p streams).1 in
     let noted : is_some (note_at v c p o) ≡ true = used_is (note_at v c p o) (note_of v.attributes program p o) ((runs v valid c within_components program has).notes p o there within_outputs) used in
     let towards : Has p (ports_towards v c o) = Has-filter (λ q. is_some (note_at v c q o)) p (port_numbers v c) (in_below (length (component_at v c).ports) p there) noted in
-    let m = Has-from_any (goes_to v c p) (stream_numbers v) streams in
-    let inside = from_below (length v.streams) m.0 m.1 in
-    let into : Has m.0 (streams_to v c p) = Has-filter (goes_to v c p) m.0 (stream_numbers v) m.1 m.2 in
-    let own = all_member (carries_key v key) (streams_towards v c o) m.0 carries (Has-flat_map (streams_to v c) p m.0 (ports_towards v c o) towards into) in
-    subst (λ (n : ℕ). within key n ≡ true) (sym (attrs_into v valid c p m.0 inside m.2)) (stream_key_law v key m.0 valid inside own)
+    let one = some_stream v c p streams in
+    let own = all_member (carries_key v key) (streams_towards v c o) one.0 carries (Has-flat_map (streams_to v c) p one.0 (ports_towards v c o) towards (into_port v c p one.0 one.1.stands one.1.goes)) in
+    subst (λ (n : ℕ). within key n ≡ true) (sym (attrs_into v valid c p one.0 one.1.stands one.1.goes)) (stream_key_law v key one.0 valid one.1.stands own)
 
 pub output_keyed_law : OutputKeyedLaw
 output_keyed_law v d x c o key program nows h holds within_components within_outputs has may carries sent =
@@ -71,5 +48,5 @@ output_keyed_law v d x c o key program nows h holds within_components within_out
     in-within a key (port_attrs v c p).bits (member_small a key in_key) in_key (keys_towards v h.valid c o key program within_components within_outputs has carries p used streams) in
     let gate : (output_at v c o).gate.bits ≡ gate_of_output v.attributes program o = (runs v h.valid c within_components program has).gates o within_outputs in (
       keyed_law v d x c program nows (λ port. is_some (note_of v.attributes program port o)) (members key) h holds within_components has sent have,
-      gate_key_law key (gate_of_output v.attributes program o) (usable_fds v c) (subst (λ (g : ℕ). within key (closure g (usable_fds v c)) ≡ true) gate (gate_of v key (c, o) may)),
+      gate_key_law key (gate_of_output v.attributes program o) (usable_fds v c) (subst (λ (g : ℕ). within key (closure g (usable_fds v c)) ≡ true) gate (may_carry-is v key c o may).closed),
     )

@@ -27,13 +27,14 @@ use Rattle.topo_types.specs.Regions.{is_in_cycle}
 use Rattle.topo_types.proofs.OneLevel.{upholds_law}
 use Rattle.inbox.specs.Wiring.{wiring_of}
 use Rattle.inbox.specs.Executions.{Execution, emitted_list}
-use Rattle.stream_deps.specs.Agreement.{port_roots, value_at, IsTraced, IsCopiedFrom}
+use Rattle.stream_deps.specs.Agreement.{port_roots, value_at, IsTraced, IsCopiedFrom, HaveSameValues}
 use Rattle.stream_deps.specs.Sent.{IsHistory}
 use Rattle.stream_deps.specs.Laws.{WidthLaw, TracedLaw}
 use Rattle.stream_deps.proofs.ByRank.{SentWith, OfSources, OfOutputs, by_rank}
 use Rattle.stream_deps.proofs.Copied.{copied_law}
-use Rattle.stream_deps.proofs.Viewed.{runs, output_is, port_count, stream_into, stream_is, attrs_into, goes_in, are_arrivals}
+use Rattle.stream_deps.proofs.Viewed.{runs, output_is, port_count, stream_is, are_arrivals}
 use Rattle.stream_deps.proofs.Wide.{output_wide}
+use Rattle.stream_deps.proofs.Streams.{stream_into, attrs_into, goes_in}
 use Rattle.bloom_ast.specs.Steps.{tables_after_steps, AreArrivals}
 use Rattle.fd_closure.proofs.Members.{member_small}
 
@@ -54,6 +55,18 @@ next_cases v fd s c o from e both holds =
       own = (and_parts (not (is_in_cycle v c)) own two).1;
       before = (and_parts (hands_on v fd (Some (c, o))) (list_all (upholds v fd) (streams_into v c)) some).1;
     }
+
+-- a record that has the values of a traced one is traced
+carry_on : (v : View) (d : Data) (fd : Fd) (columns others : Roots) (r q : Row) → IsTraced v d fd others q → HaveSameValues fd.from.bits columns r others q → HaveSameValues fd.to.bits columns r others q → IsTraced v d fd columns r
+carry_on v d fd columns others r q t from to = record {
+  source = t.source;
+  is_source = t.is_source;
+  has_all = t.has_all;
+  origin = t.origin;
+  there = t.there;
+  same_from = λ a h. from a h ∙ t.same_from a h;
+  same_to = λ a h. to a h ∙ t.same_to a h;
+}
 
 module _ (v : View) (d : Data) (valid : IsValid v) (fits : IsData v d) where
   -- what holds of each emitted record: its width, and where its values come from
@@ -130,15 +143,7 @@ module _ (v : View) (d : Data) (valid : IsValid v) (fits : IsData v d) where
         let has_all = and_from (within fd.from.bits attrs) (within fd.to.bits attrs) (within-trans fd.from.bits (own_attrs (output_at v c o)) attrs from_own own_within) (within-trans fd.to.bits (own_attrs (output_at v c o)) attrs to_own own_within) in
         let up_before = all_member (upholds v fd) (streams_into v c) sent.stream hands.before (goes_in v c copy.port sent.stream sent.within sent.goes) in
         let t = sent.holds.traced fd up_before has_all in
-        record {
-          source = t.source;
-          is_source = t.is_source;
-          has_all = t.has_all;
-          origin = t.origin;
-          there = t.there;
-          same_from = λ a h. same_in fd.from.bits from_own a h ∙ t.same_from a h;
-          same_to = λ a h. same_in fd.to.bits to_own a h ∙ t.same_to a h;
-        }
+        carry_on v d fd (stream_at v s).columns (stream_at v sent.stream).columns r copy.copied t (same_in fd.from.bits from_own) (same_in fd.to.bits to_own)
       where
         next_of : (fd : Fd) → has_both fd (stream_attrs v s).bits ≡ true → upholds_next v fd (upholds v fd) s (Some (c, o)) ≡ true → HandsOn v fd c o
         next_of fd both holds = next_cases v fd s c o (Some (c, o)) refl both (subst (λ (z : Option End). (not (has_both fd (stream_attrs v s).bits) || is_none z || (hands_on v fd (Some (c, o)) && list_all (upholds v fd) (streams_into v c))) ≡ true) from holds)

@@ -18,28 +18,11 @@ use Rattle.topo_types.specs.View.{View, Port, Output, no_port, no_output, compon
 use Rattle.topo_types.proofs.Spreading.{in_below}
 use Rattle.stream_deps.specs.Agreement.{port_roots}
 use Rattle.stream_deps.proofs.Columns.{get_or-map_default, numbers_are_roots}
+use Rattle.stream_deps.proofs.Streams.{stream_into}
 use Rattle.bloom_ast.specs.Steps.{AreArrivals}
 use Rattle.bloom_ast.proofs.StockWidths.{wide_by_rows}
 
 -- ---- streams into ports
-
--- a stream that goes to a port has its columns
-pub stream_into : (v : View) → IsValid v → (c p u : ℕ) → u < length v.streams → goes_to v c p u ≡ true → (stream_at v u).columns ≡ port_roots v c p
-stream_into v valid c p u within goes =
-    let m = Has-from_any (λ end. same_end (c, p) end) (ends_of v u) goes in
-    let component : c ≡ m.0.0 = eqb-true c m.0.0 (and_parts (c == m.0.0) (p == m.0.1) m.2).0 in
-    let port : p ≡ m.0.1 = eqb-true p m.0.1 (and_parts (c == m.0.0) (p == m.0.1) m.2).1 in
-    (valid.columns u within).of_port m.0 m.1 ∙ sym (ap (λ (n : ℕ). port_roots v n p) component ∙ ap (λ (n : ℕ). port_roots v m.0.0 n) port)
-
--- the attributes of a port are those of each stream into it
-pub attrs_into : (v : View) → IsValid v → (c p u : ℕ) → u < length v.streams → goes_to v c p u ≡ true → (port_attrs v c p).bits ≡ (stream_attrs v u).bits
-attrs_into v valid c p u within goes = numbers_are_roots (port_at v c p).columns ∙ sym (ap set_of_roots (stream_into v valid c p u within goes))
-
--- it goes into the component
-pub goes_in : (v : View) (c p u : ℕ) → u < length v.streams → goes_to v c p u ≡ true → Has u (streams_into v c)
-goes_in v c p u within goes =
-    let m = Has-from_any (λ end. same_end (c, p) end) (ends_of v u) goes in
-    Has-filter (goes_into v c) u (stream_numbers v) (in_below (length v.streams) u within) (any_from_Has (λ end. c == end.0) m.0 (ends_of v u) m.1 (and_parts (c == m.0.0) (p == m.0.1) m.2).0)
 
 -- ---- the columns of a program
 

@@ -34,16 +34,6 @@ use Rattle.confluence.proofs.Contents.Instances.{instance_is, ports_are, inside,
 use Rattle.confluence.proofs.Determined.Rows.{AreInside}
 
 -- a port with a stream is one of its component
-pub port_there : (v : View) (c p : ℕ) → IsValid v → has_stream v c p ≡ true → (c < length v.components) × (p < length (component_at v c).ports)
-port_there v c p valid h =
-    let s = Has-from_any (goes_to v c p) (stream_numbers v) h in
-    let e = Has-from_any (λ (end : End). same_end (c, p) end) (ends_of v s.0) s.2 in
-    let at = valid.numbered.ends s.0 e.0 (from_below (length v.streams) s.0 s.1) e.1 in
-    let same = both_true (c == e.0.0) (p == e.0.1) e.2 in
-    let ce : c ≡ e.0.0 = eqb-true c e.0.0 same.0 in
-    let pe : p ≡ e.0.1 = eqb-true p e.0.1 same.1 in
-    (subst (λ (n : ℕ). n < length v.components) (sym ce) at.0, subst (λ (n : ℕ). p < length (component_at v n).ports) (sym ce) (subst (λ (n : ℕ). n < length (component_at v e.0.0).ports) (sym pe) at.1))
-
 module _ (v : View) (d : Data) (x : Execution) (history : IsHistory v d x) (s c o j : ℕ) (within : s < length v.streams) (origin : origin_of v s ≡ Some (c, o)) (sender : j < replicas_of v c)
     (program : Program) (body : program_of v c ≡ Some program) (unordered : is_order v c ≡ false) where
   abbrev w : Wiring

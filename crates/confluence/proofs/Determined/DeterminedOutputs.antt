@@ -45,19 +45,21 @@ use Rattle.inbox.specs.Executions.{Execution, emitted_list, contents}
 use Rattle.inbox.specs.Completeness.{IsComplete}
 use Rattle.stream_deps.specs.Laws.{ArrivalsLaw, KeyedLaw, HaveKey}
 use Rattle.stream_deps.specs.Sent.{IsHistory}
+use Rattle.stream_deps.proofs.Streams.{end_there}
+use Rattle.stream_deps.proofs.Columns.{within-small, numbers_are_roots}
 use Rattle.confluence.specs.Complete.{contents_into}
 use Rattle.confluence.specs.LabelMeaning.{HasConfluentPaths, IsPath, IsGuarded}
 use Rattle.confluence.specs.Partitions.{IsFed, IsSealing, AreCarrying, IsAtOnce}
 use Rattle.confluence.specs.Laws.{RulesLaw, OutputsLaw}
 use Rattle.confluence.proofs.Contents.Heard.{at_place, in_into, from_into}
 use Rattle.confluence.proofs.Honest.HeardWhole.{Has-rows_in, Has-from_rows_in}
-use Rattle.confluence.proofs.Honest.KeysAtPorts.{within-small, numbers_are_roots, restricts}
+use Rattle.confluence.proofs.Honest.KeysAtPorts.{restricts}
 use Rattle.confluence.proofs.Honest.Partitions.{IsRestriction}
 use Rattle.confluence.proofs.Determined.Parts.{IsPart, by_parts}
 use Rattle.confluence.proofs.Determined.Rows.{AreInside, IsDetermined, from_once, once_inside, confluent_part, silent_part, IsOpen, apart_part}
 use Rattle.confluence.proofs.Contents.Instances.{inside, instance_is, determined_contents}
 use Rattle.confluence.proofs.Determined.Notes.{covers_o, covers_some, covers_read, w_some, not_o}
-use Rattle.confluence.proofs.Contents.Arriving.{port_there, runs, ports_same, output_column, note_covers, arrives_over, life_inside, inside_sent, long_all, long_life, all_inside}
+use Rattle.confluence.proofs.Contents.Arriving.{runs, ports_same, output_column, note_covers, arrives_over, life_inside, inside_sent, long_all, long_life, all_inside}
 use Rattle.path_annotate.specs.Given.{AreAllC, is_o, is_w}
 use Rattle.path_annotate.specs.Note.{own_gate}
 use Rattle.fd_closure.specs.Bits.{members}
@@ -211,7 +213,7 @@ module _ (v : View) (d : Data) (x : Execution) (history : IsHistory v d x) (s c 
 
       has_key : HaveKey v c (λ port. is_some (given port)) (members key.bits)
       has_key port attribute t over_it h =
-          key_in key.bits (port_attrs v c port).bits attribute (waits_at port (port_there v c port history.valid over_it).1 t over_it).columns h
+          key_in key.bits (port_attrs v c port).bits attribute (waits_at port (end_there v history.valid c port over_it).1 t over_it).columns h
 
       closed_at : (port : ℕ) → port < count → is_o (given port) ≡ true → has_stream v c port ≡ true → IsInClosure (members key.bits) gate (usable_fds v c)
       closed_at port lt o_there over_it =
@@ -233,7 +235,7 @@ module _ (v : View) (d : Data) (x : Execution) (history : IsHistory v d x) (s c 
       seen_is = instance_is v d x history.valid s c o j stands origin sender
 
       carrying : AreCarrying v c key given
-      carrying port writes over_it = elim (waits_at port (port_there v c port history.valid over_it).1 (w_some (given port) writes) over_it).carrying [
+      carrying port writes over_it = elim (waits_at port (end_there v history.valid c port over_it).1 (w_some (given port) writes) over_it).carrying [
         | inl carries ↦ carries
         | inr reads ↦ absurd (true≢false (sym writes ∙ reads))
       ]
@@ -243,7 +245,7 @@ module _ (v : View) (d : Data) (x : Execution) (history : IsHistory v d x) (s c 
         of now = of_class v.attributes program (members key.bits) (λ values. values) value now
 
         only : IsRestriction seen of value
-        only = restricts v c j key (ap mode_key guard.sealed) program (runs v d x history s c o j stands origin sender program body unordered) ((history.valid.components c at.0).runs program body).distinct small value
+        only = restricts v c j key (ap mode_key guard.sealed) history.valid at.0 program body small value
 
         same_steps : timesteps seen life.heard ≡ timesteps i life.heard
         same_steps = ap (λ (z : Instance). timesteps z life.heard) (sym seen_is)

@@ -29,6 +29,9 @@ use Rattle.inbox.proofs.Lists.Rows.{life_rows, rows_of_list}
 use Rattle.inbox.proofs.MessagesLemmas.{is_same_row-is}
 use Rattle.inbox.proofs.WiringLemmas.{instance-wired, stream-wired, instance-feeds, length-below, port_of-feed}
 use Rattle.stream_deps.specs.Sent.{IsHistory}
+use Rattle.stream_deps.proofs.CarriedKeys.{carries-from, key_of_source, may_carry-is, carried_output, carried_at, not_ordered, comes_lower, output_places, port_places}
+use Rattle.stream_deps.proofs.Streams.{into_port}
+use Rattle.stream_deps.proofs.InstancePorts.{carrying_is, places_only}
 use Rattle.confluence.specs.Honest.{IsHonest}
 use Rattle.confluence.specs.Laws.{HonestLaw}
 use Rattle.confluence.proofs.Honest.FromFeeds.{IsFedHonestly}
@@ -36,8 +39,6 @@ use Rattle.confluence.proofs.Honest.HeardWhole.{Has-rows_in, Has-from_rows_in}
 use Rattle.inbox.specs.Folds.{rows_from}
 use Rattle.inbox.proofs.Lists.Seals.{seals_of_list}
 use Rattle.inbox.proofs.Timesteps.OfLives.{life_timesteps-hearing}
-use Rattle.confluence.proofs.Honest.KeysAtPorts.{carrying_is, places_only}
-use Rattle.confluence.proofs.Honest.CarriedKeys.{carries-from, may_carry-is, carried_output, carried_at, port_places, into_port, not_ordered, comes_lower, output_places, key_of_source}
 use Rattle.confluence.proofs.Honest.Sources.{no_other_seal, no_row_again, honest_source}
 use Rattle.confluence.proofs.Honest.Rows.{same_rows}
 
@@ -84,7 +85,7 @@ module _ (v : View) (d : Data) (x : Execution) (history : IsHistory v d x) (hold
         let here : port < length (component_at v c).ports = subst (λ p. p < length (component_at v c).ports) same into.port in
         let goes : goes_to v c port f.stream ≡ true = subst (λ p. goes_to v c p f.stream ≡ true) same into.goes in
         let all = both_true (has_stream v c port) (list_all (carries_key v key.bits) (streams_to v c port)) (sym (carrying_is v c j key mode port here) ∙ carries) in
-        let does : carries_key v key.bits f.stream ≡ true = all_member (carries_key v key.bits) (streams_to v c port) f.stream all.1 (into_port v valid c port f.stream into.stream goes) in
+        let does : carries_key v key.bits f.stream ≡ true = all_member (carries_key v key.bits) (streams_to v c port) f.stream all.1 (into_port v c port f.stream into.stream goes) in
         let is : key_places (stream_at v f.stream).columns key.bits ≡ places = port_places v valid key.bits c port f.stream into.stream goes ∙ sym (places_only v c j key mode port places here has) in
         into_honest port f.stream into.stream goes f.sender places into.sender (carried_at v valid key.bits f.stream into.stream does ∙ ap Some is)
 
@@ -133,7 +134,7 @@ module _ (v : View) (d : Data) (x : Execution) (history : IsHistory v d x) (hold
               let in_list : Has r (rows_in list) = Has-rows_in r list (subst (λ l. Has (row r) l) (sym cut_at) (Has-append_right (row r) before (seal k count ∷ after) (inr h))) in
               let lived = Has-from_flat_map (life_rows program i (x.logs c) o) r all ((rows_of_list program i body.1 (x.logs c) (x.lives c j) o long).0 r in_list) in
               let there_too : Has r (rows_from program (empty_tables program) (timesteps i lived.0.heard) o) = subst (λ nows. Has r (rows_from program (empty_tables program) nows o)) (life_timesteps-hearing i (x.logs c) lived.0 hears) lived.2 in
-              let here = same_rows v d x history holds c o j there replica out program body.1 key mode may both.1 (fed_honestly c there key mode (λ port u u_lt goes. any_stream port u u_lt key mode goes) j)
+              let here = same_rows v d x history holds c o j there replica out program body.1 key mode both.0 both.1 (fed_honestly c there key mode (λ port u u_lt goes. any_stream port u u_lt key mode goes) j)
               sealed.heard lived.0.heard
               (record { life = sealed.life; lived = sealed.lived; first = sealed.first })
               (record { life = lived.0; lived = lived.1; first = record { more = []; with_more = append-nil lived.0.heard } })

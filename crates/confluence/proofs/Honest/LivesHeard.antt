@@ -24,9 +24,9 @@ use Rattle.inbox.proofs.WiringLemmas.{instance-wired}
 use Rattle.inbox.proofs.Timesteps.Widths.{timesteps-many}
 use Rattle.stream_deps.specs.Sent.{IsHistory, AreSent}
 use Rattle.stream_deps.proofs.Arrives.{heard_law, arrivals_law}
+use Rattle.stream_deps.proofs.InstancePorts.{ports_same}
 use Rattle.confluence.specs.Partitions.{IsLived}
 use Rattle.confluence.proofs.Honest.FromFeeds.{AllCome}
-use Rattle.confluence.proofs.Honest.KeysAtPorts.{ports_same}
 use Rattle.bloom_ast.specs.Steps.{AreArrivals}
 
 -- a mode with a key is Pass or Seal

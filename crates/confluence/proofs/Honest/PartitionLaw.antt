@@ -34,7 +34,7 @@ use Rattle.inbox.proofs.WiringLemmas.{instance-feeds, instance-ports, port_of-fe
 use Rattle.confluence.specs.Partitions.{IsFed, IsWaiting, IsAtOnce, AreCarrying, IsSealing, of_partition}
 use Rattle.confluence.specs.Laws.{RulesLaw, OutputsLaw}
 use Rattle.confluence.proofs.Honest.HonestLaw.{feeds_honest}
-use Rattle.confluence.proofs.Honest.KeysAtPorts.{carrying_is, ports_same, restricts}
+use Rattle.confluence.proofs.Honest.KeysAtPorts.{restricts}
 use Rattle.confluence.proofs.Honest.LivesHeard.{all_come, all_arrive}
 use Rattle.confluence.proofs.Honest.Partitions.{IsRestriction, none_there, nothing_of, one_timestep, carried}
 use Rattle.confluence.proofs.Honest.Runs.{no_rows_of_nothing}
@@ -42,6 +42,7 @@ use Rattle.bloom_ast.specs.Steps.{AreArrivals}
 use Rattle.path_annotate.specs.Annotation.{rule_use}
 use Rattle.path_annotate.specs.Given.{is_w}
 use Rattle.fd_closure.specs.Bits.{members}
+use Rattle.stream_deps.proofs.InstancePorts.{carrying_is, ports_same}
 
 module _ (v : View) (d : Data) (x : Execution) (c j : ℕ) (key : Attrs) (batches : List Batch) (program : Program) (body : program_of v c ≡ Some program) (value : Row) (s : IsSealing v d x c j key batches) where
   abbrev i : Instance
@@ -57,7 +58,7 @@ module _ (v : View) (d : Data) (x : Execution) (c j : ℕ) (key : Attrs) (batche
   of = of_class v.attributes program (members key.bits) (λ values. values) value
 
   only : IsRestriction i of value
-  only = restricts v c j key mode program runs ((s.history.valid.components c s.there).runs program body).distinct s.small value
+  only = restricts v c j key mode s.history.valid s.there program body s.small value
 
   many : length i.ports ≡ length (port_columns program)
   many = ports_same v c j key mode program runs

@@ -6,7 +6,8 @@ use Rattle.std.specs.Option.{option_map_or}
 use Rattle.fd_closure.specs.declared.attrs.Attrs.{Attrs}
 use Rattle.fd_closure.specs.Bits.{bit_of, meets}
 use Rattle.fd_closure.specs.Closure.{within, closure}
-use Rattle.fd_closure.proofs.Members.{in-within}
+use Rattle.fd_closure.proofs.Members.{in-within, meets_more}
+use Rattle.fd_closure.proofs.Within.{within-trans}
 use Rattle.blz_value.specs.Members.{Has}
 use Rattle.blz_value.specs.Record.{Row}
 use Rattle.blz_value.specs.Operators.{cells}
@@ -31,12 +32,12 @@ use Rattle.row_laws.proofs.Split.ClassesLemmas.{from_class, arrivals_of_class}
 use Rattle.row_laws.proofs.Ports.PortsLaw.{outputs_see}
 use Rattle.row_laws.proofs.Split.SplitLaw.{all_split}
 use Rattle.topo_types.specs.declared.mode.Mode.TheVariants.{Pass, Seal}
-use Rattle.topo_types.specs.Carried.{carries_key, port_carries, streams_towards, is_confluent, allows_notes}
-use Rattle.topo_types.specs.Data.{Data, Holds, key_places}
+use Rattle.topo_types.specs.Carried.{carries_key, port_carries, streams_towards, is_confluent, allows_notes, may_carry}
+use Rattle.topo_types.specs.Data.{Data, Holds, key_places, key_value}
 use Rattle.topo_types.specs.Dependencies.{usable_fds}
 use Rattle.topo_types.specs.Valid.{IsValid, Runs, IsCovered}
 use Rattle.topo_types.specs.ViewOf.{derived_note}
-use Rattle.topo_types.specs.View.{View, End, origin_of, stream_at, component_at, port_at, output_at, own_attrs, own_root, stream_attrs, note_at, program_of, mode_of, mode_key, replicas_of, has_stream, goes_to, streams_to, stream_numbers, ports_towards, port_numbers}
+use Rattle.topo_types.specs.View.{View, End, origin_of, stream_at, component_at, port_at, output_at, own_attrs, own_root, stream_attrs, note_at, program_of, mode_of, mode_key, replicas_of, has_stream, goes_to, streams_to, stream_numbers, ports_towards, port_numbers, port_attrs}
 use Rattle.topo_types.proofs.Spreading.{from_below, in_below, both_true}
 use Rattle.inbox.specs.Messages.{Batch, Entry, all_pairs}
 use Rattle.inbox.specs.Instances.{Instance, is_carrying, key_of_entry, entries_of}
@@ -47,15 +48,20 @@ use Rattle.inbox.proofs.Timesteps.AtOnce.{GoesAtOnce, at_once_timesteps-stand}
 use Rattle.inbox.proofs.WiringLemmas.{instance-ports}
 use Rattle.stream_deps.specs.Sent.{IsHistory}
 use Rattle.stream_deps.specs.Laws.{HaveKey}
-use Rattle.stream_deps.proofs.Joint.{keyed_law}
+use Rattle.stream_deps.specs.Agreement.{port_roots}
+use Rattle.stream_deps.proofs.Joint.{keyed_law, same_keys}
 use Rattle.stream_deps.proofs.Rows.{put_out_over, arrived_up, arrivals_up}
+use Rattle.stream_deps.proofs.CarriedKeys.{MayCarry, may_carry-is, carried_output, carried_source, towards_carries}
+use Rattle.stream_deps.proofs.Streams.{goes_is}
+use Rattle.stream_deps.proofs.InstancePorts.{carrying_is, ports_same, key_here}
+use Rattle.stream_deps.proofs.Columns.{within-small}
+use Rattle.stream_deps.proofs.KeyedOutputs.{output_keyed_law}
+use Rattle.stream_deps.proofs.Copied.{copied_law}
 use Rattle.confluence.proofs.Honest.LivesHeard.{by_mode, all_come, heard_standing, all_sent, all_arrive}
 use Rattle.confluence.specs.Partitions.{IsLived, IsFed}
 use Rattle.confluence.proofs.Honest.FromFeeds.{AllCome, IsFedHonestly, heard_fed, whole_heard}
 use Rattle.confluence.proofs.Honest.Partitions.{IsRestriction, at_once_port, at_once_from, at_once_in, from_chosen, stands_whole, carried, one_timestep}
-use Rattle.confluence.proofs.Honest.KeysAtPorts.{carrying_is, restricts, ports_same, within-small, Has-members, in_numbers, one_of}
-use Rattle.confluence.proofs.Honest.CarriedKeys.{MayCarry, may_carry-is, carried_source, carried_output, towards_carries, goes_is}
-use Rattle.confluence.proofs.Honest.KeysOfRows.{copied_key, own_at, has_at}
+use Rattle.confluence.proofs.Honest.KeysAtPorts.{restricts}
 use Rattle.confluence.proofs.Honest.Runs.{to_over, from_over}
 use Rattle.inbox.specs.Folds.{rows_from}
 use Rattle.bloom_ast.specs.Steps.{AreArrivals}
@@ -96,7 +102,7 @@ w_some (Some note) e = refl
 module _ (v : View) (d : Data) (x : Execution) (history : IsHistory v d x) (holds : Holds v d)
     (c o j : ℕ) (there : c < length v.components) (replica : j < replicas_of v c) (out : o < length (component_at v c).outputs)
     (program : Program) (body : program_of v c ≡ Some program) (key : Attrs) (mode : mode_key (mode_of v c) ≡ Some key)
-    (may : MayCarry v key.bits c o) (behind : list_all (carries_key v key.bits) (streams_towards v c o) ≡ true)
+    (allowed : may_carry v key.bits (Some (c, o)) ≡ true) (behind : list_all (carries_key v key.bits) (streams_towards v c o) ≡ true)
     (honest : (port : ℕ) → is_carrying (instance_for v c j) port ≡ true → IsFedHonestly (wiring_of v) d x (instance_for v c j) port) where
   valid : IsValid v
   valid = history.valid
@@ -104,8 +110,8 @@ module _ (v : View) (d : Data) (x : Execution) (history : IsHistory v d x) (hold
   runs : Runs v c program
   runs = (valid.components c there).runs program body
 
-  own : HasOwnColumns program
-  own = ((valid.components c there).runs program body).distinct
+  may : MayCarry v key.bits c o
+  may = may_carry-is v key.bits c o allowed
 
   abbrev i : Instance
   i = instance_for v c j
@@ -132,7 +138,7 @@ module _ (v : View) (d : Data) (x : Execution) (history : IsHistory v d x) (hold
   small = within-small key.bits (map own_root (zip (output_at v c o).columns (output_at v c o).roots)) may.own
 
   only : (k : Row) → IsRestriction i (of k) k
-  only = restricts v c j key mode program runs own small
+  only = restricts v c j key mode valid there program body small
 
   many : length i.ports ≡ length (port_columns program)
   many = ports_same v c j key mode program runs
@@ -153,44 +159,6 @@ module _ (v : View) (d : Data) (x : Execution) (history : IsHistory v d x) (hold
 
   used_carrying : (port : ℕ) → port < length i.ports → is_some (given port) ≡ true → is_carrying i port ≡ true
   used_carrying port lt t = carrying_is v c j key mode port (port_there port lt) ∙ used_carries port (port_there port lt) t
-
-  -- a port that has a stream is there
-  stream_port : (port : ℕ) → has_stream v c port ≡ true → port < length (component_at v c).ports
-  stream_port port h =
-      let m = Has-from_any (goes_to v c port) (stream_numbers v) h in
-      (valid.numbered.ends m.0 (c, port) (from_below (length v.streams) m.0 m.1) (goes_is v valid c port m.0 m.2)).1
-
-  -- a stream that carries the key has its columns
-  stream_columns : (s : ℕ) → s < length v.streams → carries_key v key.bits s ≡ true → (a : ℕ) → Has a attributes → Has (Some a) (stream_at v s).columns
-  stream_columns s lt does a h = by_origin (origin_of v s) refl
-    where
-      by_origin : (origin : Option End) → origin_of v s ≡ origin → Has (Some a) (stream_at v s).columns
-      by_origin None e =
-          let k = carried_source v valid key.bits s lt e does in
-          let m = Has-members key.bits a h in
-          let inside : within key.bits (stream_attrs v s).bits ≡ true = subst (λ (n : ℕ). within n (stream_attrs v s).bits ≡ true) k.2 ((valid.columns s lt).of_key k.0 k.1) in
-          in_roots (stream_at v s).columns a (in-within a key.bits (stream_attrs v s).bits m.0 m.1 inside)
-      by_origin (Some output) e =
-          let both = carried_output v valid key.bits s output lt e does in
-          let other = may_carry-is v key.bits output.0 output.1 both.0 in
-          let m = Has-members key.bits a h in
-          let at = own_at (output_at v output.0 output.1) a (in-within a key.bits (own_attrs (output_at v output.0 output.1)) m.0 m.1 other.own) in
-          subst (λ roots. Has (Some a) roots) (sym ((valid.columns s lt).of_output output e)) (has_at (output_at v output.0 output.1).columns at.place a at.column)
-
-  have_key : HaveKey v c (λ port. is_some (given port)) attributes
-  have_key port a t has h =
-      let lt = stream_port port has in
-      let both = both_true (has_stream v c port) (list_all (carries_key v key.bits) (streams_to v c port)) (used_carries port lt t) in
-      let m = Has-from_any (goes_to v c port) (stream_numbers v) has in
-      let s_lt = from_below (length v.streams) m.0 m.1 in
-      let does = all_member (carries_key v key.bits) (streams_to v c port) m.0 both.1 (Has-filter (goes_to v c port) m.0 (stream_numbers v) m.1 m.2) in
-      let columns = (valid.columns m.0 s_lt).of_port (c, port) (goes_is v valid c port m.0 m.2) in
-      in_numbers (port_at v c port).columns a (Has-members key.bits a h).0 (one_of (port_at v c port).columns a (subst (λ roots. Has (Some a) roots) columns (stream_columns m.0 s_lt does a h)))
-
-  closed : IsInClosure attributes (gate_of_output names program o) (usable_fds v c)
-  closed a h =
-      let m = Has-members key.bits a h in
-      ap (λ (g : ℕ). meets (bit_of a) (closure g (usable_fds v c))) (sym (runs.gates o out)) ∙ in-within a key.bits (closure (output_at v c o).gate.bits (usable_fds v c)) m.0 m.1 may.closed
 
   -- in mode Pass all notes are C
   all_c : mode_of v c ≡ Pass key → AreAllC program given
@@ -218,8 +186,9 @@ module _ (v : View) (d : Data) (x : Execution) (history : IsHistory v d x) (hold
     arrive : AreArrivals program (timesteps i batches)
     arrive = all_arrive v d x history c j there replica batches lived key mode program body
 
-    keyed : AreKeyed names program (timesteps i batches) (λ port. is_some (given port)) (usable_fds v c) attributes
-    keyed = keyed_law v d x c program (timesteps i batches) (λ port. is_some (given port)) attributes history holds there body (all_sent v d x history c j there replica batches lived key mode) have_key
+    -- what arrives is keyed, and the key lies in the closure of the output's gate
+    keyed_closed : AreKeyed names program (timesteps i batches) (λ port. is_some (given port)) (usable_fds v c) attributes × IsInClosure attributes (gate_of_output names program o) (usable_fds v c)
+    keyed_closed = output_keyed_law v d x c o key.bits program (timesteps i batches) history holds there out body allowed behind (all_sent v d x history c j there replica batches lived key mode)
 
     -- a row over the records of a class has that key, and some record of the class stands in a timestep
     pub record HasKey (k r : Row) : Type 0 where
@@ -234,26 +203,28 @@ module _ (v : View) (d : Data) (x : Execution) (history : IsHistory v d x) (hold
         let nows : List Sets = map (of k) (timesteps i batches) in
         let p = put_out_over program (output_rows program o) nows r h in
         let all : AreArrivals program nows = arrivals_of_class names program attributes (λ values. values) k (timesteps i batches) arrive in
-        let g = outputs_origins names program runs.proper p.earlier p.now o r (arrivals_up program (output_rows program o) nows p.earlier p.later p.now p.are all) p.there in
-        let among : Has g.now nows = arrived_up program (output_rows program o) nows p.earlier p.later p.now p.are g.now g.came in
-        let f = from_chosen program i many (of k) k (only k) (timesteps i batches) g.port g.copied (record { now = g.now; among = among; there = g.arrived }) in
-        let m = Has-from_map (of k) g.now (timesteps i batches) among in
-        let a = from_class names program attributes (λ values. values) k m.0 g.port g.copied (subst (λ now. Has g.copied (set_at now g.port)) (sym m.2) g.arrived) in
-        let distinct : repeats (columns_at program g.port) ≡ false = own (columns_at program g.port) (Has-get_or (port_columns program) g.port [] a.within) in
+        let copy = copied_law v c o program p.earlier p.now r valid there body out (arrivals_up program (output_rows program o) nows p.earlier p.later p.now p.are all) p.there in
+        let among : Has copy.now nows = arrived_up program (output_rows program o) nows p.earlier p.later p.now p.are copy.now copy.came in
+        let f = from_chosen program i many (of k) k (only k) (timesteps i batches) copy.port copy.copied (record { now = copy.now; among = among; there = copy.arrived }) in
+        let m = Has-from_map (of k) copy.now (timesteps i batches) among in
+        let a = from_class names program attributes (λ values. values) k m.0 copy.port copy.copied (subst (λ now. Has copy.copied (set_at now copy.port)) (sym m.2) copy.arrived) in
+        let inside : within key.bits (port_attrs v c copy.port).bits ≡ true = within-trans key.bits (own_attrs (output_at v c o)) (port_attrs v c copy.port).bits may.own copy.has_all in
+        let same = same_keys key.bits (output_at v c o).columns r (port_roots v c copy.port) copy.copied (λ n h. copy.same n (meets_more (bit_of n) key.bits (own_attrs (output_at v c o)) h may.own)) in
+        let at_port : Some (key_value (port_roots v c copy.port) key.bits copy.copied) ≡ Some k = sym (key_here v c j key mode copy.port copy.copied (port_there copy.port (port_in copy.port a.within)) inside) ∙ f.2 in
         record {
-          is = copied_key v c program runs own o out key.bits may.own (columns_at program g.port) distinct r g.copied g.is ∙ a.is;
-          port = g.port;
-          copied = g.copied;
+          is = same ∙ (let e : key_value (port_roots v c copy.port) key.bits copy.copied ≡ k = cc in e);
+          port = copy.port;
+          copied = copy.copied;
           of_key = f.2;
           stands = f.1;
         }
 
     -- by the split law
     split_to : (r : Row) → Has r (over (timesteps i batches)) → (k : Row) × Has r (over (map (of k) (timesteps i batches)))
-    split_to r h = ((all_split names program runs.proper o).runs (timesteps i batches) (usable_fds v c) attributes (λ values. values) arrive keyed closed r).0 h
+    split_to r h = ((all_split names program runs.proper o).runs (timesteps i batches) (usable_fds v c) attributes (λ values. values) arrive keyed_closed.0 keyed_closed.1 r).0 h
 
     split_from : (k r : Row) → Has r (over (map (of k) (timesteps i batches))) → Has r (over (timesteps i batches))
-    split_from k r h = ((all_split names program runs.proper o).runs (timesteps i batches) (usable_fds v c) attributes (λ values. values) arrive keyed closed r).1 (k, h)
+    split_from k r h = ((all_split names program runs.proper o).runs (timesteps i batches) (usable_fds v c) attributes (λ values. values) arrive keyed_closed.0 keyed_closed.1 r).1 (k, h)
 
     own_key : (k r : Row) → cells (key_places (output_at v c o).columns key.bits) r ≡ k → Has r (over (timesteps i batches)) → Has r (over (map (of k) (timesteps i batches)))
     own_key k r is h = let s = split_to r h in subst (λ z. Has r (over (map (of z) (timesteps i batches)))) (sym (class_key s.0 r s.1).is ∙ is) s.1

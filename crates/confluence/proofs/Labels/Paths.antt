@@ -12,13 +12,13 @@ use Rattle.label_rules.specs.declared.label.Label.{Label}
 use Rattle.label_rules.specs.declared.label.Label.TheVariants.{Run}
 use Rattle.label_walk.specs.Labels.{AreLabels, IsLabel, IsRegionLabel, IsOutsideLabel}
 use Rattle.label_walk.specs.Paths.{label_at, path_label, port_paths, output_paths}
+use Rattle.stream_deps.proofs.Streams.{leads, has_some, end_there}
 use Rattle.confluence.specs.LabelMeaning.{IsOutside, IsPath}
-use Rattle.confluence.proofs.Labels.ColumnSets.{leads, port_there}
 
 -- the path label of a path is in the list
 pub has_path : (v : View) → IsValid v → (labels : List Label) (output : End) (p : ℕ) (note : Note) (s : ℕ) → IsPath v output p note s → Has (path_label v labels output.0 p note s) (output_paths v labels output.0 output.1)
 has_path v valid labels output p note s is =
-    let there = port_there v valid output.0 p s (leads v output.0 p s is.leads) in
+    let there = (end_there v valid output.0 p (has_some v output.0 p s (leads v output.0 p s is.leads))).1 in
     let one : Has (path_label v labels output.0 p note s) (port_paths v labels output.0 p (note_at v output.0 p output.1)) =
     subst (λ (n : Option Note). Has (path_label v labels output.0 p note s) (port_paths v labels output.0 p n)) (sym is.noted) (Has-map (path_label v labels output.0 p note) s (streams_to v output.0 p) is.leads) in
     Has-flat_map (λ (q : ℕ). port_paths v labels output.0 q (note_at v output.0 q output.1)) p (path_label v labels output.0 p note s) (port_numbers v output.0) (in_below (length (component_at v output.0).ports) p there) one

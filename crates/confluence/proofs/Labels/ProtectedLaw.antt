@@ -26,10 +26,12 @@ use Rattle.label_walk.specs.Paths.{label_at, path_label, output_paths}
 use Rattle.confluence.specs.LabelMeaning.{IsPath, IsGuarded, WaitsFor, is_ordered_read}
 use Rattle.confluence.specs.Laws.{ProtectedMeansGuarded}
 use Rattle.confluence.proofs.Labels.Cells.{IsCovered, covered_tells}
-use Rattle.confluence.proofs.Labels.ColumnSets.{Leads, leads, some_stream, same_columns, stays_in}
 use Rattle.confluence.proofs.Labels.Paths.{has_path}
-use Rattle.confluence.proofs.Labels.SealLaw.{seal_carries, carries_it, carried_columns}
+use Rattle.confluence.proofs.Labels.SealLaw.{seal_carries}
 use Rattle.blz_value.proofs.Membership.{all_member, all_from}
+use Rattle.stream_deps.proofs.Streams.{Leads, leads, some_stream, has_some, into_port, attrs_into}
+use Rattle.stream_deps.proofs.CarriedKeys.{stream_key_law, carries-from}
+use Rattle.stream_deps.proofs.Joint.{closure_law}
 
 -- a compatible key lies in the closure
 compatible_within : (gate key : ℕ) (fds : List Fd) → compatible gate key fds ≡ true → within key (closure gate fds) ≡ true
@@ -49,7 +51,7 @@ module _ (v : View) (labels : List Label) (output : End) (valid : IsValid v) (ar
 
   -- a stream that is Seal of the key carries it
   seal_here : (s : ℕ) → s < length v.streams → label_at labels s ≡ Seal key → carries_key v key.bits s ≡ true
-  seal_here s lt e = carries_it v s key (seal_carries v valid labels s key are lt e)
+  seal_here s lt e = (carries-from v s key (seal_carries v valid labels s key are lt e)).1
 
   -- the port has the columns of the key
   has_columns : (p : ℕ) (note : Note) (s : ℕ) → IsPath v output p note s → within key.bits (port_attrs v c p).bits ≡ true
@@ -57,7 +59,7 @@ module _ (v : View) (labels : List Label) (output : End) (valid : IsValid v) (ar
       let l = leads v c p s path.leads in
       let told = path_covered p note s path in
       elim told.sealed [
-        | inr seal ↦ subst (λ (n : ℕ). within key.bits n ≡ true) (same_columns v valid c p s l) (carried_columns v valid key.bits s l.stands (seal_here s l.stands seal))
+        | inr seal ↦ subst (λ (n : ℕ). within key.bits n ≡ true) (sym (attrs_into v valid c p s l.stands l.goes)) (stream_key_law v key.bits s valid l.stands (seal_here s l.stands seal))
         | inl read ↦ elim (cases_Bool (within key.bits (port_attrs v c p).bits)) [
           | inl there ↦ there
           | inr lacks ↦ read_columns note told read lacks
@@ -75,12 +77,12 @@ module _ (v : View) (labels : List Label) (output : End) (valid : IsValid v) (ar
       read_columns (OR gate) told read lacks =
           let fits : compatible (if within key.bits (port_attrs v c p).bits then gate else no_attrs).bits key.bits (usable_fds v c) ≡ true = told.gated gate refl in
           let empty : compatible 0 key.bits (usable_fds v c) ≡ true = subst (λ (b : Bool). compatible (if b then gate else no_attrs).bits key.bits (usable_fds v c) ≡ true) lacks fits in
-          within-trans key.bits (closure 0 (usable_fds v c)) (port_attrs v c p).bits (compatible_within 0 key.bits (usable_fds v c) empty) (stays_in v valid c p s 0 l (within-empty (port_attrs v c p).bits))
+          within-trans key.bits (closure 0 (usable_fds v c)) (port_attrs v c p).bits (compatible_within 0 key.bits (usable_fds v c) empty) (closure_law v c p 0 valid (has_some v c p s l) (within-empty (port_attrs v c p).bits))
 
   waits : (p : ℕ) (note : Note) → has_stream v c p ≡ true → note_at v c p output.1 ≡ Some note → WaitsFor v c p note key
   waits p note has noted =
       let one = some_stream v c p has in
-      let path : IsPath v output p note one.0 = record { noted = noted; leads = one.1 } in
+      let path : IsPath v output p note one.0 = record { noted = noted; leads = into_port v c p one.0 one.1.stands one.1.goes } in
       let columns = has_columns p note one.0 path in
       let told = path_covered p note one.0 path in
       record {

@@ -24,7 +24,7 @@ use Rattle.label_rules.specs.PathTable.{pass_path}
 use Rattle.label_rules.specs.Reconciliation.{settled}
 use Rattle.label_walk.specs.Labels.{AreLabels, IsLabel, IsRegionLabel, IsOutsideLabel, source_label, as_carried}
 use Rattle.label_walk.specs.Paths.{label_at, region_note, region_inputs, region_paths, is_replicated_set}
-use Rattle.confluence.proofs.Labels.ColumnSets.{own_within}
+use Rattle.stream_deps.proofs.CarriedKeys.{stream_key_law, carries-from}
 use Rattle.confluence.proofs.Labels.Cells.{free_never_seal}
 use Rattle.confluence.proofs.Labels.Settling.{comes_of_path}
 use Rattle.confluence.specs.Laws.{SealMeansCarries}
@@ -43,48 +43,9 @@ own_key : (key : Attrs) (other : Option Attrs) → other ≡ Some key → is_key
 own_key key None e = absurd cc
 own_key key (Some own) e = let z : own ≡ key = cc in eq-eqb own.bits key.bits (ap (λ (k : Attrs). k.bits) z)
 
--- what a stream carries, it carries
-pub carries_it : (v : View) (s : ℕ) (key : Attrs) → carries v s ≡ Some key → carries_key v key.bits s ≡ true
-unfolding carries
-carries_it v s key e = by (key_before v s (origin_of v s)) e
-  where
-    by : (o : Option Attrs) → option_and_then (λ (k : Attrs). if carries_key v k.bits s then Some k else None) o ≡ Some key → carries_key v key.bits s ≡ true
-    by None e = absurd cc
-    by (Some k) e = go (carries_key v k.bits s) refl e
-      where
-        go : (b : Bool) → carries_key v k.bits s ≡ b → (if b then Some k else None) ≡ Some key → carries_key v key.bits s ≡ true
-        go true q e = let z : k ≡ key = cc in subst (λ (x : Attrs). carries_key v x.bits s ≡ true) z q
-        go false q e = absurd cc
-
 module _ (v : View) (valid : IsValid v) where
   few : length v.streams < 65
   few = omega (arith, valid.numbered.few_streams)
-
-  -- a carried key lies in the columns
-  pub carried_columns : (key s : ℕ) → s < length v.streams → carries_key v key s ≡ true → within key (stream_attrs v s).bits ≡ true
-  carried_columns key s lt e = by (origin_of v s) refl (sym (carries_law v few key s lt) ∙ e)
-    where
-      declared : (k : Option Attrs) → (stream_at v s).key ≡ k → is_key key k ≡ true → within key (stream_attrs v s).bits ≡ true
-      declared None q h = absurd (true≢false (sym h))
-      declared (Some own) q h = subst (λ (n : ℕ). within n (stream_attrs v s).bits ≡ true) (eqb-true own.bits key h) ((valid.columns s lt).of_key own q)
-
-      of_output : (output : End) → origin_of v s ≡ Some output → may_carry v key (Some output) ≡ true → within key (stream_attrs v s).bits ≡ true
-      of_output output q h =
-          let a = both_true (has_body v output.0) _ h in
-          let b = both_true (is_key key (mode_key (mode_of v output.0))) _ a.1 in
-          let c = both_true (nat_lt 0 (length (ports_towards v output.0 output.1))) _ b.1 in
-          let d = both_true (list_all (has_stream v output.0) (ports_towards v output.0 output.1)) _ c.1 in
-          let f = both_true (within key (closure (output_at v output.0 output.1).gate.bits (usable_fds v output.0))) _ d.1 in
-          let g = both_true (within key (own_attrs (output_at v output.0 output.1))) _ f.1 in
-          within-trans key (own_attrs (output_at v output.0 output.1)) (stream_attrs v s).bits g.0
-          (subst (λ (n : ℕ). within (own_attrs (output_at v output.0 output.1)) n ≡ true) (ap set_of_roots (sym ((valid.columns s lt).of_output output q))) (own_within (output_at v output.0 output.1)))
-
-      by : (o : Option End) → origin_of v s ≡ o → carries_next v key (carries_key v key) s o ≡ true → within key (stream_attrs v s).bits ≡ true
-      by None q h = declared (stream_at v s).key refl h
-      by (Some output) q h = elim (or_cases (is_key key (stream_at v s).key) (may_carry v key (Some output) && list_all (carries_key v key) (streams_towards v output.0 output.1)) h) [
-        | inl own ↦ declared (stream_at v s).key refl own
-        | inr more ↦ of_output output q (both_true (may_carry v key (Some output)) (list_all (carries_key v key) (streams_towards v output.0 output.1)) more).0
-      ]
 
   -- a source
   source_carries : (s : ℕ) (key : Attrs) → s < length v.streams → origin_of v s ≡ None → source_label v s ≡ Seal key → carries v s ≡ Some key
@@ -135,4 +96,4 @@ module _ (v : View) (valid : IsValid v) where
 pub seal_law : SealMeansCarries
 seal_law v labels s key valid are lt e =
     let carried = seal_carries v valid labels s key are lt e in
-    (carried, carried_columns v valid key.bits s lt (carries_it v s key carried))
+    (carried, stream_key_law v key.bits s valid lt (carries-from v s key carried).1)

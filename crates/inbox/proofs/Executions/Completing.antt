@@ -9,6 +9,7 @@ use Rattle.std.proofs.lemmas.List.FromFn.{get_or-enumerate_from, length-enumerat
 use Rattle.blz_value.specs.Members.{Has}
 use Rattle.blz_value.specs.Record.{Row}
 use Rattle.blz_value.proofs.Membership.{Has-get_or, Has-filter}
+use Rattle.fd_closure.proofs.MembersInOrder.{in_range}
 use Rattle.topo_types.specs.Data.{Data}
 use Rattle.topo_types.specs.Feeds.{Feed, no_feed}
 use Rattle.topo_types.specs.View.{is_order_mode}
@@ -40,13 +41,6 @@ none_left p x xs e h = elim (p x) as (λ b. p x ≡ b → b ≡ false) [
 not_not : (b : Bool) → not b ≡ false → b ≡ true
 not_not true e = refl
 not_not false e = cc
-
-pub Has-range : (from count n : ℕ) → from ≤ n → n < from + count → Has n (range_with_len from count)
-Has-range from zero n le lt = absurd (omega arith)
-Has-range from (suc count) n le lt = elim (cases_lt from n) [
-  | inl later ↦ inr (Has-range (from + 1) count n (omega arith) (omega arith))
-  | inr same ↦ let e : from ≡ n = omega (arith, same) in inl e
-]
 
 Has-enumerate : {X : Type 0} (xs : List X) (n : ℕ) (d : X) → n < length xs → Has (n, get_or xs n d) (enumerate_from 0 xs)
 Has-enumerate {X} xs n d within =
@@ -81,7 +75,7 @@ module _ (w : Wiring) (given : Data) (x : Execution) (complete : IsComplete w gi
       let e = nothing_at component replica there in
       let rest : sum_by (left_of w given x component) (range_with_len 0 (length (instances_at w component))) ≡ 0 = omega (arith, e) in
       sum_none (left_of w given x component) replica (range_with_len 0 (length (instances_at w component))) rest
-      (Has-range 0 (length (instances_at w component)) replica (omega arith) (let lt : replica < length (instances_at w component) = ltb-true replica (length (instances_at w component)) there in omega (arith, lt)))
+      (in_range 0 (length (instances_at w component)) replica (omega arith) (let lt : replica < length (instances_at w component) = ltb-true replica (length (instances_at w component)) there in omega (arith, lt)))
 
   -- an instance that isn't Order heard all messages of all its feeds in its last life
   pub all_delivered : (component replica feed : ℕ) (message : Message) → is_there w component replica ≡ true → is_order_mode (instance_at w component replica).mode ≡ false

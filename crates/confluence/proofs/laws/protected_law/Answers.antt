@@ -1,4 +1,4 @@
-use Rattle.confluence.proofs.Labels.ColumnSets.{closure_stays}
+use Rattle.stream_deps.proofs.Joint.{closure_law}
 use Rattle.confluence.proofs.Labels.ProtectedLaw.{protected_guarded}
 use Rattle.confluence.proofs.laws.protected_law.Goals as goal
 
@@ -6,4 +6,4 @@ pub returns-clause-guarded : goal.returns-clause-guarded
 returns-clause-guarded c = protected_guarded
 
 pub returns-clause-columns : goal.returns-clause-columns
-returns-clause-columns c = closure_stays
+returns-clause-columns c = closure_law

@@ -1,0 +1,2 @@
+-- What the private parts of a pool keep.
+pub mod Numbers

@@ -1,10 +1,12 @@
-//! Worked rows of values, records, sets, attributes and the ends in memory, over public calls.
+//! Worked rows of values, records, sets, pools, attributes and the ends in memory, over public calls.
 #![tactic(auto)]
 
 #[cfg(test)]
 mod attributes;
 #[cfg(test)]
 mod ends;
+#[cfg(test)]
+mod pools;
 #[cfg(test)]
 mod records;
 #[cfg(test)]

@@ -1,32 +1,28 @@
 -- Rows of lists and keys of records, as the laws on rows have them.
-use Rattle.std.proofs.Common.{◌≡◌, ◌<◌, ℕ, Bool, true, Option, None, Some, List, length, map, slice_get, ap, refl, ◌∙◌, sym, subst}
-use Rattle.std.specs.Prelude.{◌↔◌, if◌then◌else◌}
-use Rattle.std.specs.Option.{option_map, option_and_then, unwrap_or}
-use Rattle.std.proofs.lemmas.Option.{slice_get-get_or}
+use Rattle.std.proofs.Common.{◌≡◌, ◌<◌, ℕ, Option, Some, List, length, ap, refl, ◌∙◌, sym, subst}
+use Rattle.std.specs.Prelude.{◌↔◌}
+use Rattle.std.specs.Option.{unwrap_or}
 use Rattle.blz_value.specs.Members.{Has}
-use Rattle.blz_value.specs.Operators.{cells}
 use Rattle.blz_value.specs.Record.{Row}
 use Rattle.blz_value.proofs.Membership.{Has-flat_map, Has-from_flat_map, Has-from_filter}
 use Rattle.blz_value.proofs.SetLaws.{Has-set_of, Has-from_set_of}
-use Rattle.fd_closure.specs.declared.attrs.Attrs.{Attrs}
 use Rattle.fd_closure.specs.Bits.{bit_of, meets}
 use Rattle.fd_closure.specs.Closure.{within}
 use Rattle.fd_closure.proofs.Members.{in-within}
 use Rattle.bloom_ast.specs.declared.program.Program.{Program}
 use Rattle.row_laws.specs.Classes.{columns_at}
 use Rattle.row_laws.specs.Runs.{output_over}
-use Rattle.topo_types.specs.Data.{key_places}
 use Rattle.topo_types.specs.Messages.{Message, row, seal, row_in, rows_in}
 use Rattle.topo_types.specs.Sets.{below}
-use Rattle.topo_types.specs.View.{View, component_at, mode_of, mode_key, port_attrs, port_numbers}
+use Rattle.topo_types.specs.View.{component_at, port_attrs}
 use Rattle.inbox.specs.Messages.{Entry}
 use Rattle.inbox.specs.Instances.{PortKey, Instance}
 use Rattle.inbox.specs.Instances as instances
 use Rattle.inbox.specs.Lives.{Life, Lives, all_lives, life_timesteps, emitted_by}
-use Rattle.inbox.specs.Wiring.{instance_at, instance_for, port_for, wiring_of}
+use Rattle.inbox.specs.Wiring.{instance_at, instance_for, wiring_of}
 use Rattle.inbox.proofs.Lists.Rows.{life_rows, rows_of_list}
 use Rattle.inbox.proofs.Timesteps.Whole.{Has-filter_map, Has-from_filter_map}
-use Rattle.inbox.proofs.WiringLemmas.{get_or-below, instance-wired, length-below}
+use Rattle.inbox.proofs.WiringLemmas.{instance-wired, length-below}
 use Rattle.inbox.proofs.Lists.Origins.{output_list}
 use Rattle.stream_deps.specs.Agreement.{port_roots, value_at}
 use Rattle.stream_deps.specs.Laws.{RowsLaw, KeyLaw, EntryKeyLaw}

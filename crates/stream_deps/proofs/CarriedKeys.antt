@@ -1,11 +1,11 @@
 -- Streams that carry a key, and ports that do: one level, the columns of the key, and the regions from which they come.
-use Rattle.std.proofs.Common.{if◌then◌else◌, ◌≡◌, refl, ap, sym, subst, ◌∙◌, ℕ, zero, suc, ◌+◌, ◌<◌, ◌==◌, ◌&&◌, nat_lt, Bool, true, false, cond, List, [], ◌∷◌, length, map, get_or, inl, inr, Option, None, Some, arith, ◌≤◌, ◌||◌}
-use Rattle.std.specs.List.{list_all, position_from, zip}
-use Rattle.std.specs.Option.{option_map, option_map_or, option_and_then, unwrap_or}
-use Rattle.std.proofs.lemmas.Bool.{eqb-true, eq-eqb, or_cases, true≢false, and_from, cases_Bool, and_parts}
+use Rattle.std.proofs.Common.{if◌then◌else◌, ◌≡◌, refl, ap, sym, subst, ◌∙◌, ℕ, ◌<◌, ◌&&◌, nat_lt, true, false, List, length, map, inl, inr, Option, None, Some, arith}
+use Rattle.std.specs.List.{list_all, zip}
+use Rattle.std.specs.Option.{option_map, option_and_then, unwrap_or}
+use Rattle.std.proofs.lemmas.Bool.{eqb-true, or_cases, true≢false, and_from}
 use Rattle.std.proofs.lemmas.Option.{slice_get-get_or}
 use Rattle.blz_value.specs.Members.{Has}
-use Rattle.blz_value.proofs.Membership.{Has-filter, Has-flat_map, Has-from_any, all_member, all_from, Has-get_or, Has-from_filter}
+use Rattle.blz_value.proofs.Membership.{Has-flat_map, all_member, all_from, Has-get_or, Has-from_filter}
 use Rattle.fd_closure.specs.declared.attrs.Attrs.{Attrs}
 use Rattle.fd_closure.specs.Closure.{within, closure}
 use Rattle.fd_closure.specs.Bits.{bit_of, meets}
@@ -22,9 +22,9 @@ use Rattle.topo_types.specs.Dependencies.{usable_fds}
 use Rattle.topo_types.specs.Laws.{carries_next}
 use Rattle.topo_types.specs.Regions.{region_of, is_in_cycle}
 use Rattle.topo_types.specs.Valid.{IsValid}
-use Rattle.topo_types.specs.View.{View, Stream, End, no_stream, origin_of, ends_of, stream_at, port_at, output_at, own_attrs, component_at, mode_of, mode_key, is_order, is_order_mode, has_body, has_stream, same_end, goes_to, streams_to, ports_towards, stream_numbers, stream_of, Output, own_root, stream_attrs}
+use Rattle.topo_types.specs.View.{View, End, origin_of, stream_at, port_at, output_at, own_attrs, component_at, mode_of, mode_key, is_order, is_order_mode, has_body, has_stream, goes_to, streams_to, ports_towards, stream_of, Output, own_root, stream_attrs}
 use Rattle.topo_types.specs.Sets.{below}
-use Rattle.topo_types.proofs.Spreading.{in_below, both_true, from_below}
+use Rattle.topo_types.proofs.Spreading.{both_true}
 use Rattle.topo_types.proofs.OneLevel.{carries_law}
 use Rattle.topo_types.proofs.Lower.{feeds_edge, lower_outside}
 use Rattle.inbox.specs.Emission.{output_key}

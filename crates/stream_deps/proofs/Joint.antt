@@ -1,10 +1,7 @@
 -- Dependencies at a component: whole at its ports, and joint in all that arrives.
 use Rattle.std.proofs.Common.{◌≡◌, ◌<◌, ◌≤◌, ◌^◌, ℕ, Bool, true, false, not, ◌&&◌, ◌||◌, List, [], ◌∷◌, length, map, get_or, refl, ap, ◌∙◌, sym, subst, inl, inr, arith, Option, None, Some}
-use Rattle.std.specs.Int.{IsBitSet}
 use Rattle.std.specs.List.{list_all}
-use Rattle.std.proofs.Math.Pow.{pow_mono}
-use Rattle.std.proofs.lemmas.Bool.{cases_eq, cases_lt, eq-eqb, eqb-true, and_parts, and_from}
-use Rattle.std.proofs.lemmas.Nat.Bits.{bit_at-pow_other}
+use Rattle.std.proofs.lemmas.Bool.{eq-eqb, eqb-true, and_parts, and_from}
 use Rattle.blz_value.specs.declared.value.Value.{Value}
 use Rattle.blz_value.specs.Members.{Has}
 use Rattle.blz_value.specs.Record.{Row}
@@ -14,8 +11,7 @@ use Rattle.fd_closure.specs.declared.attrs.Fd.{Fd}
 use Rattle.fd_closure.specs.Bits.{bit_of, meets}
 use Rattle.fd_closure.specs.Closure.{within}
 use Rattle.fd_closure.proofs.Least.{closure-least}
-use Rattle.fd_closure.proofs.Members.{in-within, in-bit, bit-in}
-use Rattle.fd_closure.proofs.Within.{set_one, within-bits, within-le}
+use Rattle.fd_closure.proofs.Members.{in-within}
 use Rattle.bloom_ast.specs.declared.program.Program.{Program}
 use Rattle.bloom_ast.specs.Query.{Name}
 use Rattle.path_annotate.specs.Gates.{set_of_roots}
@@ -28,8 +24,8 @@ use Rattle.topo_types.specs.Dependencies.{upholds, has_to_with_from, is_usable, 
 use Rattle.topo_types.specs.Messages.{is_same_row}
 use Rattle.topo_types.specs.Sets.{below}
 use Rattle.topo_types.specs.Valid.{IsValid}
-use Rattle.topo_types.specs.View.{View, port_at, stream_at, port_attrs, stream_attrs, has_stream, streams_into, stream_numbers, goes_to, program_of}
-use Rattle.topo_types.proofs.Spreading.{from_below, in_below}
+use Rattle.topo_types.specs.View.{View, port_at, stream_at, port_attrs, stream_attrs, has_stream, streams_into, goes_to, program_of}
+use Rattle.topo_types.proofs.Spreading.{in_below}
 use Rattle.inbox.specs.Executions.{Execution}
 use Rattle.inbox.proofs.MessagesLemmas.{is_same_row-is, is_same_row-itself}
 use Rattle.stream_deps.specs.Agreement.{port_roots, value_at, HaveSameValues, IsTraced}

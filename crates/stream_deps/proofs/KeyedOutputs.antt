@@ -1,21 +1,20 @@
 -- The timesteps of a component are keyed for each output that carries a key.
-use Rattle.std.proofs.Common.{◌≡◌, ◌<◌, ℕ, true, ◌==◌, ◌&&◌, nat_lt, is_some, Option, None, Some, length, refl, sym, subst}
+use Rattle.std.proofs.Common.{◌≡◌, ◌<◌, ℕ, true, is_some, Option, None, Some, length, refl, sym, subst}
 use Rattle.std.specs.List.{list_all}
-use Rattle.std.proofs.lemmas.Bool.{eqb-true, and_parts}
 use Rattle.blz_value.specs.Members.{Has}
-use Rattle.blz_value.proofs.Membership.{Has-filter, Has-from_filter, Has-from_any, Has-flat_map, all_member}
+use Rattle.blz_value.proofs.Membership.{Has-filter, Has-from_filter, Has-flat_map, all_member}
 use Rattle.fd_closure.specs.Bits.{bit_of, meets}
 use Rattle.fd_closure.specs.Closure.{within, closure}
 use Rattle.fd_closure.proofs.Members.{in-within}
 use Rattle.bloom_ast.specs.declared.program.Program.{Program}
 use Rattle.path_annotate.specs.declared.note.Note.{Note}
 use Rattle.path_annotate.specs.Annotation.{note_of, gate_of_output}
-use Rattle.topo_types.specs.Carried.{is_key, may_carry, streams_towards, carries_key, allows_notes}
+use Rattle.topo_types.specs.Carried.{streams_towards, carries_key}
 use Rattle.topo_types.specs.Dependencies.{usable_fds}
 use Rattle.topo_types.specs.Sets.{below}
 use Rattle.topo_types.specs.Valid.{IsValid, IsCovered}
-use Rattle.topo_types.specs.View.{View, End, component_at, output_at, mode_of, mode_key, has_body, has_stream, own_attrs, note_at, port_attrs, port_numbers, program_of, ports_towards, streams_to, stream_numbers, same_end, ends_of, goes_to}
-use Rattle.topo_types.proofs.Spreading.{from_below, in_below}
+use Rattle.topo_types.specs.View.{View, component_at, output_at, has_stream, note_at, port_attrs, port_numbers, program_of, ports_towards, streams_to}
+use Rattle.topo_types.proofs.Spreading.{in_below}
 use Rattle.stream_deps.specs.Laws.{HaveKey, OutputKeyedLaw}
 use Rattle.stream_deps.proofs.CarriedKeys.{stream_key_law, gate_key_law, may_carry-is}
 use Rattle.stream_deps.proofs.Joint.{keyed_law}

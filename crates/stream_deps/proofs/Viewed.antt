@@ -1,23 +1,20 @@
 -- The columns of streams, ports and outputs in a view are those of programs.
-use Rattle.std.proofs.Common.{◌≡◌, ◌<◌, ℕ, suc, arith, true, ◌==◌, Some, List, [], ◌∷◌, length, map, get_or, ap, ◌∙◌, sym}
-use Rattle.std.proofs.lemmas.Bool.{eqb-true, and_parts}
+use Rattle.std.proofs.Common.{◌≡◌, ◌<◌, ℕ, suc, arith, true, Some, List, [], ◌∷◌, length, map, get_or, ap, ◌∙◌, sym}
 use Rattle.std.proofs.lemmas.List.{length-map}
 use Rattle.blz_value.specs.Members.{Has}
 use Rattle.blz_value.specs.Record.{Row}
-use Rattle.blz_value.proofs.Membership.{Has-get_or, Has-filter, Has-from_any, any_from_Has}
+use Rattle.blz_value.proofs.Membership.{Has-get_or}
 use Rattle.bloom_ast.specs.declared.program.Program.{Program}
 use Rattle.bloom_ast.specs.Program.{port_columns, output_columns}
 use Rattle.bloom_ast.specs.Query.{Name}
 use Rattle.bloom_ast.specs.Step.{Sets, set_at}
 use Rattle.bloom_ast.specs.Widths.{AreWide, AreSetsOf}
-use Rattle.path_annotate.specs.Gates.{set_of_roots}
 use Rattle.path_annotate.specs.HeadRoots.{attribute_roots}
 use Rattle.path_annotate.specs.Roots.{Roots}
 use Rattle.topo_types.specs.Valid.{IsValid, Runs}
-use Rattle.topo_types.specs.View.{View, Port, Output, no_port, no_output, component_at, stream_at, port_at, output_at, program_of, ends_of, port_attrs, stream_attrs, same_end, goes_to, goes_into, streams_into, stream_numbers}
-use Rattle.topo_types.proofs.Spreading.{in_below}
+use Rattle.topo_types.specs.View.{View, Port, Output, no_port, no_output, component_at, stream_at, output_at, program_of, goes_to}
 use Rattle.stream_deps.specs.Agreement.{port_roots}
-use Rattle.stream_deps.proofs.Columns.{get_or-map_default, numbers_are_roots}
+use Rattle.stream_deps.proofs.Columns.{get_or-map_default}
 use Rattle.stream_deps.proofs.Streams.{stream_into}
 use Rattle.bloom_ast.specs.Steps.{AreArrivals}
 use Rattle.bloom_ast.proofs.StockWidths.{wide_by_rows}

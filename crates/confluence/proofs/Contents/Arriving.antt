@@ -1,11 +1,11 @@
 -- What arrives at an instance of a component with a body, in timesteps and in all.
-use Rattle.std.proofs.Common.{◌≡◌, ◌<◌, ◌==◌, ℕ, true, false, Option, Some, List, [], ◌∷◌, length, ap, ◌∙◌, sym, subst, inl, inr}
-use Rattle.std.proofs.lemmas.Bool.{cases_lt, eqb-true}
+use Rattle.std.proofs.Common.{◌≡◌, ◌<◌, ℕ, true, false, Option, Some, List, [], ◌∷◌, length, ap, ◌∙◌, sym, subst, inl, inr}
+use Rattle.std.proofs.lemmas.Bool.{cases_lt}
 use Rattle.std.proofs.lemmas.List.{get_or_past, length-map}
 use Rattle.std.proofs.lemmas.List.FromFn.{length-map-range_with_len}
 use Rattle.blz_value.specs.Members.{Has}
 use Rattle.blz_value.specs.Record.{Row}
-use Rattle.blz_value.proofs.Membership.{Has-from_any, any_from_Has}
+use Rattle.blz_value.proofs.Membership.{any_from_Has}
 use Rattle.blz_value.proofs.SetLaws.{Has-from_set_of}
 use Rattle.bloom_ast.specs.declared.program.Program.{Program}
 use Rattle.bloom_ast.specs.Program.{port_columns, output_columns}
@@ -15,9 +15,9 @@ use Rattle.path_annotate.specs.declared.note.Note.{Note}
 use Rattle.topo_types.specs.Data.{Data}
 use Rattle.topo_types.specs.Feeds.{Feed}
 use Rattle.topo_types.specs.Messages.{row, rows_in}
-use Rattle.topo_types.specs.Valid.{IsValid, Runs, IsCovered}
-use Rattle.topo_types.specs.View.{View, End, origin_of, program_of, is_order, replicas_of, component_at, note_at, has_stream, goes_to, ends_of, same_end, stream_numbers}
-use Rattle.topo_types.proofs.Spreading.{from_below, in_below, both_true}
+use Rattle.topo_types.specs.Valid.{Runs, IsCovered}
+use Rattle.topo_types.specs.View.{View, origin_of, program_of, is_order, replicas_of, component_at, note_at, has_stream, goes_to, stream_numbers}
+use Rattle.topo_types.proofs.Spreading.{in_below}
 use Rattle.inbox.specs.Instances.{Instance}
 use Rattle.inbox.specs.Timesteps.{timesteps}
 use Rattle.inbox.specs.Lives.{Life, all_lives}

@@ -4,16 +4,15 @@ use Rattle.std.specs.Prelude.{is_some, IfSome}
 use Rattle.std.specs.List.{list_all, zip}
 use Rattle.std.specs.Option.{option_map_or}
 use Rattle.fd_closure.specs.declared.attrs.Attrs.{Attrs}
-use Rattle.fd_closure.specs.Bits.{bit_of, meets}
-use Rattle.fd_closure.specs.Closure.{within, closure}
-use Rattle.fd_closure.proofs.Members.{in-within, meets_more}
+use Rattle.fd_closure.specs.Bits.{bit_of}
+use Rattle.fd_closure.specs.Closure.{within}
+use Rattle.fd_closure.proofs.Members.{meets_more}
 use Rattle.fd_closure.proofs.Within.{within-trans}
 use Rattle.blz_value.specs.Members.{Has}
 use Rattle.blz_value.specs.Record.{Row}
 use Rattle.blz_value.specs.Operators.{cells}
-use Rattle.blz_value.proofs.Membership.{Has-append_left, Has-append_right, Has-append_cases, Has-from_map, Has-filter, Has-from_any, Has-get_or, all_member}
+use Rattle.blz_value.proofs.Membership.{Has-append_left, Has-append_right, Has-append_cases, Has-from_map, Has-filter, all_member}
 use Rattle.bloom_ast.specs.declared.program.Program.{Program}
-use Rattle.bloom_ast.specs.Fits.{repeats}
 use Rattle.bloom_ast.specs.Program.{port_columns}
 use Rattle.bloom_ast.specs.ProgramStep.{empty_tables}
 use Rattle.bloom_ast.specs.Query.{Name}
@@ -21,12 +20,10 @@ use Rattle.bloom_ast.specs.Step.{Sets, set_at}
 use Rattle.path_annotate.specs.declared.note.Note.{Note}
 use Rattle.path_annotate.specs.Annotation.{note_of, gate_of_output}
 use Rattle.path_annotate.specs.Note.{covers_write, covers_gate, is_write, own_gate}
-use Rattle.path_annotate.proofs.AllOrigins.{outputs_origins}
-use Rattle.row_laws.specs.Classes.{AreKeyed, IsInClosure, columns_at, of_class}
+use Rattle.row_laws.specs.Classes.{AreKeyed, IsInClosure, of_class}
 use Rattle.row_laws.specs.Confluence.{AreAmong}
 use Rattle.row_laws.specs.Ports.{AreSameAt}
 use Rattle.row_laws.specs.Runs.{output_rows, output_over, at_once}
-use Rattle.path_annotate.proofs.AttributesLemmas.{in_roots}
 use Rattle.row_laws.proofs.Confluent.ConfluentLaw.{all_confluent}
 use Rattle.row_laws.proofs.Split.ClassesLemmas.{from_class, arrivals_of_class}
 use Rattle.row_laws.proofs.Ports.PortsLaw.{outputs_see}
@@ -37,8 +34,8 @@ use Rattle.topo_types.specs.Data.{Data, Holds, key_places, key_value}
 use Rattle.topo_types.specs.Dependencies.{usable_fds}
 use Rattle.topo_types.specs.Valid.{IsValid, Runs, IsCovered}
 use Rattle.topo_types.specs.ViewOf.{derived_note}
-use Rattle.topo_types.specs.View.{View, End, origin_of, stream_at, component_at, port_at, output_at, own_attrs, own_root, stream_attrs, note_at, program_of, mode_of, mode_key, replicas_of, has_stream, goes_to, streams_to, stream_numbers, ports_towards, port_numbers, port_attrs}
-use Rattle.topo_types.proofs.Spreading.{from_below, in_below, both_true}
+use Rattle.topo_types.specs.View.{View, component_at, output_at, own_attrs, own_root, note_at, program_of, mode_of, mode_key, replicas_of, ports_towards, port_numbers, port_attrs}
+use Rattle.topo_types.proofs.Spreading.{in_below, both_true}
 use Rattle.inbox.specs.Messages.{Batch, Entry, all_pairs}
 use Rattle.inbox.specs.Instances.{Instance, is_carrying, key_of_entry, entries_of}
 use Rattle.inbox.specs.Timesteps.{is_whole, timesteps, Stands}
@@ -47,12 +44,10 @@ use Rattle.inbox.specs.Executions.{Execution}
 use Rattle.inbox.proofs.Timesteps.AtOnce.{GoesAtOnce, at_once_timesteps-stand}
 use Rattle.inbox.proofs.WiringLemmas.{instance-ports}
 use Rattle.stream_deps.specs.Sent.{IsHistory}
-use Rattle.stream_deps.specs.Laws.{HaveKey}
 use Rattle.stream_deps.specs.Agreement.{port_roots}
-use Rattle.stream_deps.proofs.Joint.{keyed_law, same_keys}
+use Rattle.stream_deps.proofs.Joint.{same_keys}
 use Rattle.stream_deps.proofs.Rows.{put_out_over, arrived_up, arrivals_up}
-use Rattle.stream_deps.proofs.CarriedKeys.{MayCarry, may_carry-is, carried_output, carried_source, towards_carries}
-use Rattle.stream_deps.proofs.Streams.{goes_is}
+use Rattle.stream_deps.proofs.CarriedKeys.{MayCarry, may_carry-is, towards_carries}
 use Rattle.stream_deps.proofs.InstancePorts.{carrying_is, ports_same, key_here}
 use Rattle.stream_deps.proofs.Columns.{within-small}
 use Rattle.stream_deps.proofs.KeyedOutputs.{output_keyed_law}
@@ -66,7 +61,6 @@ use Rattle.confluence.proofs.Honest.Runs.{to_over, from_over}
 use Rattle.inbox.specs.Folds.{rows_from}
 use Rattle.bloom_ast.specs.Steps.{AreArrivals}
 use Rattle.path_annotate.specs.Given.{AreAllC, is_w}
-use Rattle.bloom_ast.specs.Proper.{HasOwnColumns}
 use Rattle.fd_closure.specs.Bits.{members}
 
 -- ---- notes that are used

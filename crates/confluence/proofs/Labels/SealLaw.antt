@@ -1,23 +1,17 @@
 -- A stream that is Seal of a key carries that key.
-use Rattle.std.proofs.Common.{◌≡◌, ◌<◌, inl, inr, ℕ, Bool, true, false, ◌&&◌, nat_eq, nat_lt, if◌then◌else◌, Option, None, Some, List, [], length, refl, arith, ap, sym, subst, ◌∙◌}
+use Rattle.std.proofs.Common.{◌≡◌, ◌<◌, inl, inr, ℕ, Bool, true, false, nat_eq, if◌then◌else◌, Option, None, Some, List, [], length, refl, arith, ap, sym, subst, ◌∙◌}
 use Rattle.std.specs.Bool.{MatchBool}
-use Rattle.std.specs.List.{list_all}
-use Rattle.std.specs.Option.{option_and_then, option_map_or}
-use Rattle.std.proofs.lemmas.Bool.{or_cases, true≢false, eqb-true, eq-eqb}
+use Rattle.std.specs.Option.{option_map_or}
+use Rattle.std.proofs.lemmas.Bool.{true≢false, eqb-true, eq-eqb}
 use Rattle.blz_value.proofs.Membership.{Has-from_map}
 use Rattle.fd_closure.specs.declared.attrs.Attrs.{Attrs}
-use Rattle.fd_closure.specs.Closure.{within, closure}
-use Rattle.fd_closure.proofs.Within.{within-trans}
-use Rattle.path_annotate.specs.Gates.{set_of_roots}
 use Rattle.topo_types.specs.declared.mode.Mode.TheVariants as mode
-use Rattle.topo_types.specs.Carried.{is_key, may_carry, streams_towards, carries_key, key_before, carries}
-use Rattle.topo_types.specs.Dependencies.{usable_fds}
+use Rattle.topo_types.specs.Carried.{is_key, carries_key, carries}
 use Rattle.topo_types.specs.Laws.{carries_next}
 use Rattle.topo_types.specs.Regions.{region_set, is_in_cycle}
 use Rattle.topo_types.specs.Valid.{IsValid}
-use Rattle.topo_types.specs.View.{View, End, stream_at, origin_of, mode_of, mode_key, is_order, has_body, has_stream, output_at, own_attrs, no_attrs, ports_towards, stream_attrs}
+use Rattle.topo_types.specs.View.{View, End, stream_at, origin_of, is_order, no_attrs}
 use Rattle.topo_types.proofs.OneLevel.{carries_law}
-use Rattle.topo_types.proofs.Spreading.{both_true}
 use Rattle.label_rules.specs.declared.label.Label.{Label}
 use Rattle.label_rules.specs.declared.label.Label.TheVariants.{Seal, Async, Run, Inst, Diverge}
 use Rattle.label_rules.specs.PathTable.{pass_path}

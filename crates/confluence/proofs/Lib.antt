@@ -3,3 +3,4 @@ pub mod Honest
 pub mod Contents
 pub mod Determined
 pub mod Regions
+pub mod Worked

@@ -16,6 +16,7 @@ use Rattle.inbox.specs.Instances.{Instance, port_of_feed, entry_of}
 use Rattle.inbox.specs.Growth.{feed_numbered}
 use Rattle.inbox.proofs.Timesteps.Whole.{Has-from_filter_map}
 use Rattle.inbox.proofs.Timesteps.Held.{ComesAtPorts}
+use Rattle.inbox.proofs.Timesteps.Entries.{heard_entry}
 use Rattle.inbox.specs.Wiring.{nobody, instances_at, instance_at, is_there, port_for, instance_for, wiring_of}
 
 pub get_or-below : {X : Type 0} (f : ℕ → X) (count n : ℕ) (d : X) → n < count → get_or (map f (below count)) n d ≡ f n
@@ -92,20 +93,13 @@ instance-ports v c j = length-below (λ p. port_for v c p (mode_key (mode_of v c
 pub port_of-feed : (i : Instance) (n : ℕ) → n < length i.feeds → port_of_feed i n ≡ (feed_numbered i n).port
 port_of-feed i n within = ap (λ o. option_map_or (λ f. f.port) o (length i.ports)) (slice_get-get_or i.feeds n no_feed within)
 
-entry_at : (v : View) (c j : ℕ) (from : ℕ) (message : Message) (entry : Entry) → from < length (instance_for v c j).feeds → option_map (λ r. (port_of_feed (instance_for v c j) from, r)) (row_in message) ≡ Some entry → entry.0 < length (instance_for v c j).ports
-entry_at v c j from (seal k n) entry within e = cc
-entry_at v c j from (row r) entry within e =
-    let i = instance_for v c j in
-    let is : (port_of_feed i from, r) ≡ entry = ap (λ o. unwrap_or o (port_of_feed i from, r)) e in
-    let into = instance-feeds v c j (feed_numbered i from) (Has-get_or i.feeds from no_feed within) in
-    let port : port_of_feed i from ≡ (feed_numbered i from).port = port_of-feed i from within in
-    let first : port_of_feed i from ≡ entry.0 = ap (λ p. p.0) is in
-    let ports = instance-ports v c j in
-    subst (λ n. n < length i.ports) first (subst (λ n. n < length i.ports) (sym port) (subst (λ n. (feed_numbered i from).port < n) (sym ports) into.port))
-
 -- so what is held can be told by partitions alone
 pub comes_at_ports : (v : View) (c j : ℕ) (batches : List Batch) → ((batch : Batch) (pair : Pair) → Has batch batches → Has pair batch → pair.0 < length (instance_for v c j).feeds) → ComesAtPorts (instance_for v c j) batches
 comes_at_ports v c j batches of_feeds entry h =
-    let m = Has-from_filter_map (entry_of (instance_for v c j)) entry (all_pairs batches) h in
-    let b = Has-from_flat_map (λ batch. batch) m.0 batches m.1 in
-    entry_at v c j m.0.0 m.0.1 entry (of_feeds b.0 m.0 b.1 b.2) m.2
+    let i = instance_for v c j in
+    let e = heard_entry i (all_pairs batches) entry h in
+    let b = Has-from_flat_map (λ batch. batch) (e.feed, row entry.1) batches e.there in
+    let within = of_feeds b.0 (e.feed, row entry.1) b.1 b.2 in
+    let into = instance-feeds v c j (feed_numbered i e.feed) (Has-get_or i.feeds e.feed no_feed within) in
+    let port : (feed_numbered i e.feed).port ≡ entry.0 = sym (port_of-feed i e.feed within) ∙ e.port in
+    subst (λ n. n < length i.ports) port (subst (λ n. (feed_numbered i e.feed).port < n) (sym (instance-ports v c j)) into.port)

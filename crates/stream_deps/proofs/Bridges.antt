@@ -24,6 +24,7 @@ use Rattle.inbox.proofs.Lists.Rows.{life_rows, rows_of_list}
 use Rattle.inbox.proofs.Timesteps.Whole.{Has-filter_map, Has-from_filter_map}
 use Rattle.inbox.proofs.WiringLemmas.{instance-wired, length-below}
 use Rattle.inbox.proofs.Lists.Origins.{output_list}
+use Rattle.inbox.proofs.Timesteps.Entries.{Has-from_rows_in}
 use Rattle.stream_deps.specs.Agreement.{port_roots, value_at}
 use Rattle.stream_deps.specs.Laws.{RowsLaw, KeyLaw, EntryKeyLaw}
 use Rattle.stream_deps.proofs.Joint.{has_attribute_is, value_is, key_values}
@@ -34,13 +35,6 @@ use Rattle.blz_value.proofs.Maps.{same_map}
 use Rattle.fd_closure.specs.Bits.{members}
 
 -- ---- rows of a list
-
-row_of : (message : Message) (r : Row) → row_in message ≡ Some r → message ≡ row r
-row_of (row a) r e = ap row (ap (λ (o : Option Row). unwrap_or o a) e)
-row_of (seal k n) r e = cc
-
-rows_out : (r : Row) (messages : List Message) → Has r (rows_in messages) → Has (row r) messages
-rows_out r messages h = let m = Has-from_filter_map row_in r messages h in subst (λ (z : Message). Has z messages) (row_of m.0 r m.2) m.1
 
 -- a record that stands in the list of an output, and the lives in which it is a row
 abbrev IsRowOfLives : Program → Instance → (log : List Entry) → Lives → (output : ℕ) → Row → Type 0
@@ -54,7 +48,7 @@ rows_of_instance program i has log lives output r within =
       λ h.
           let m = Has-from_flat_map (life_rows program i log output) r (all_lives lives) (same.0 r (Has-filter_map row_in (row r) r list h refl)) in
           (m.0, m.1, Has-set_of r _ m.2),
-      λ h. rows_out r list (same.1 r (Has-flat_map (life_rows program i log output) h.0 r (all_lives lives) h.1 (Has-from_set_of r _ h.2))),
+      λ h. Has-from_rows_in r list (same.1 r (Has-flat_map (life_rows program i log output) h.0 r (all_lives lives) h.1 (Has-from_set_of r _ h.2))),
     )
 
 pub rows_law : RowsLaw

@@ -1,5 +1,5 @@
 -- What instances hear, what logs hold and what stands in timesteps was sent by streams.
-use Rattle.std.proofs.Common.{◌≡◌, ap, sym, subst, ℕ, ◌<◌, ◌≤◌, length, inl, inr, Some, arith}
+use Rattle.std.proofs.Common.{◌≡◌, ap, sym, subst, ℕ, ◌<◌, ◌≤◌, length, inl, inr, Some, arith, ◌∙◌}
 use Rattle.std.specs.Option.{option_map, unwrap_or}
 use Rattle.blz_value.specs.Members.{Has}
 use Rattle.blz_value.specs.Record.{Row}
@@ -19,6 +19,7 @@ use Rattle.inbox.specs.Executions.{Execution, emitted_list}
 use Rattle.inbox.proofs.Timesteps.Whole.{Has-from_filter_map}
 use Rattle.inbox.proofs.WiringLemmas.{IsFeedInto, instance-wired, instance-feeds, port_of-feed}
 use Rattle.inbox.proofs.Timesteps.OfLives.{timestep_entry}
+use Rattle.inbox.proofs.Timesteps.Entries.{heard_entry}
 use Rattle.stream_deps.specs.Sent.{IsSentTo}
 
 module _ (v : View) (d : Data) (x : Execution) where
@@ -28,24 +29,17 @@ module _ (v : View) (d : Data) (x : Execution) where
       let into : IsFeedInto v c feed = instance-feeds v c j feed stands in
       record { stream = feed.stream; sender = feed.sender; within = into.stream; goes = into.goes; sends = into.sender; sent = sent }
 
-  message_sent : (c j from : ℕ) (message : Message) (entry : Entry) → ComesFrom (wiring_of v) d x (instance_for v c j) (from, message) → option_map (λ r. (port_of_feed (instance_for v c j) from, r)) (row_in message) ≡ Some entry → IsSentTo v d x c entry.0 entry.1
-  message_sent c j from (seal k n) entry came e = cc
-  message_sent c j from (row r) entry came e =
-      let i = instance_for v c j in
-      let is : (port_of_feed i from, r) ≡ entry = ap (λ o. unwrap_or o (port_of_feed i from, r)) e in
-      let feed = feed_numbered i from in
-      let sent : IsSentTo v d x c feed.port r = feed_sends c j feed r (Has-get_or i.feeds from no_feed came.of_feed) came.sent in
-      let port : IsSentTo v d x c (port_of_feed i from) r = subst (λ n. IsSentTo v d x c n r) (sym (port_of-feed i from came.of_feed)) sent in
-      subst (λ (z : Entry). IsSentTo v d x c z.0 z.1) is port
-
   module _ (valid : IsValid v) (y : Execution) (before : WasSentBefore (wiring_of v) d x y) where
     pub heard_sent : (c j : ℕ) (life : Life) (entry : Entry) → c < length v.components → j < replicas_of v c
         → Has life (all_lives (y.lives c j)) → Has entry (entries_of (instance_for v c j) (all_pairs life.heard)) → IsSentTo v d x c entry.0 entry.1
     heard_sent c j life entry within there lived h =
-        let m = Has-from_filter_map (entry_of (instance_for v c j)) entry (all_pairs life.heard) h in
-        let b = Has-from_flat_map (λ (batch : Batch). batch) m.0 life.heard m.1 in
-        let came = subst (λ (i : Instance). ComesFrom (wiring_of v) d x i m.0) (instance-wired v c j within there) (before.heard c j life b.0 m.0 lived b.1 b.2) in
-        message_sent c j m.0.0 m.0.1 entry came m.2
+        let i = instance_for v c j in
+        let e = heard_entry i (all_pairs life.heard) entry h in
+        let b = Has-from_flat_map (λ (batch : Batch). batch) (e.feed, row entry.1) life.heard e.there in
+        let came = subst (λ (z : Instance). ComesFrom (wiring_of v) d x z (e.feed, row entry.1)) (instance-wired v c j within there) (before.heard c j life b.0 (e.feed, row entry.1) lived b.1 b.2) in
+        let feed = feed_numbered i e.feed in
+        let sent : IsSentTo v d x c feed.port entry.1 = feed_sends c j feed entry.1 (Has-get_or i.feeds e.feed no_feed came.of_feed) came.sent in
+        subst (λ n. IsSentTo v d x c n entry.1) (sym (port_of-feed i e.feed came.of_feed) ∙ e.port) sent
 
     pub logged_sent : (c : ℕ) (entry : Entry) → c < length v.components → Has entry (y.logs c) → IsSentTo v d x c entry.0 entry.1
     logged_sent c entry within h =

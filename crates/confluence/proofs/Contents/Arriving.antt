@@ -1,5 +1,5 @@
 -- What arrives at an instance of a component with a body, in timesteps and in all.
-use Rattle.std.proofs.Common.{◌≡◌, ◌<◌, ℕ, true, false, Option, Some, List, [], ◌∷◌, length, ap, ◌∙◌, sym, subst, inl, inr}
+use Rattle.std.proofs.Common.{◌≡◌, ◌<◌, ℕ, true, false, Option, Some, List, [], ◌∷◌, length, ap, ◌∙◌, sym, subst, inl, inr, refl}
 use Rattle.std.proofs.lemmas.Bool.{cases_lt}
 use Rattle.std.proofs.lemmas.List.{get_or_past, length-map}
 use Rattle.std.proofs.lemmas.List.FromFn.{length-map-range_with_len}
@@ -25,15 +25,18 @@ use Rattle.inbox.specs.Wiring.{Wiring, wiring_of, instance_at}
 use Rattle.inbox.specs.Executions.{Execution, emitted_list}
 use Rattle.inbox.proofs.WiringLemmas.{IsFeedInto, instance-feeds}
 use Rattle.inbox.proofs.Timesteps.Widths.{timesteps-many}
+use Rattle.inbox.proofs.Timesteps.OfLives.{batches_heard}
+use Rattle.inbox.proofs.Timesteps.Entries.{Has-from_rows_in}
 use Rattle.stream_deps.specs.Sent.{IsHistory, IsSentTo, AreSent}
+use Rattle.stream_deps.proofs.Arrives.{feeds_law}
+use Rattle.stream_deps.proofs.Joint.{sent_has_stream}
+use Rattle.stream_deps.proofs.Viewed.{port_count}
 use Rattle.confluence.specs.Complete.{contents_at, contents_into}
-use Rattle.confluence.proofs.Honest.HeardWhole.{Has-from_rows_in}
 use Rattle.confluence.proofs.Determined.Parts.{IsPart, covered_on}
-use Rattle.confluence.proofs.Contents.Heard.{from_into, stands_heard, heard_into}
+use Rattle.confluence.proofs.Contents.Heard.{from_into, heard_into}
 use Rattle.confluence.proofs.Contents.Instances.{instance_is, ports_are, inside, not_order}
 use Rattle.confluence.proofs.Determined.Rows.{AreInside}
 
--- a port with a stream is one of its component
 module _ (v : View) (d : Data) (x : Execution) (history : IsHistory v d x) (s c o j : ℕ) (within : s < length v.streams) (origin : origin_of v s ≡ Some (c, o)) (sender : j < replicas_of v c)
     (program : Program) (body : program_of v c ≡ Some program) (unordered : is_order v c ≡ false) where
   abbrev w : Wiring
@@ -52,7 +55,7 @@ module _ (v : View) (d : Data) (x : Execution) (history : IsHistory v d x) (s c 
   runs = (history.valid.components c at.0).runs program body
 
   pub ports_same : length (port_columns program) ≡ length (component_at v c).ports
-  ports_same = sym (length-map (port_columns program) _) ∙ sym (ap length runs.ports) ∙ length-map (component_at v c).ports _
+  ports_same = sym (port_count v history.valid c at.0 program body)
 
   pub outputs_same : length (output_columns program) ≡ length (component_at v c).outputs
   outputs_same = sym (length-map (output_columns program) _) ∙ sym (ap length runs.outputs) ∙ length-map (component_at v c).outputs _
@@ -68,31 +71,14 @@ module _ (v : View) (d : Data) (x : Execution) (history : IsHistory v d x) (s c 
   note_covers rows given gate part port lt = covered_on (note_at v c port o) (note_of v.attributes program port o) (given port) (runs.notes port o lt at.1) (part.covered port)
 
   -- what arrives was sent by a stream into the port
-  record Arrives (port : ℕ) (r : Row) : Type 0 where
-    feed : Feed
-    into : IsFeedInto v c feed
-    port_is : feed.port ≡ port
-    sent : Has (row r) (emitted_list w d x feed.stream feed.sender)
-
-  arrives : (port : ℕ) (r : Row) → Has r (set_at all port) → Arrives port r
-  arrives port r h =
-      let f = (from_into w d x c j port r h).1 in
-      record {
-        feed = f.feed;
-        into = instance-feeds v c j f.feed (subst (λ (z : Instance). Has f.feed z.feeds) (instance_is v d x history.valid s c o j within origin sender) f.of_feed);
-        port_is = f.port_is;
-        sent = Has-from_rows_in r (emitted_list w d x f.feed.stream f.feed.sender) (Has-from_set_of r (rows_in (emitted_list w d x f.feed.stream f.feed.sender)) f.sent);
-      }
-
-  pub arrives_over : (port : ℕ) (r : Row) → Has r (set_at all port) → has_stream v c port ≡ true
-  arrives_over port r h =
-      let a = arrives port r h in
-      any_from_Has (goes_to v c port) a.feed.stream (stream_numbers v) (in_below (length v.streams) a.feed.stream a.into.stream) (subst (λ (p : ℕ). goes_to v c p a.feed.stream ≡ true) a.port_is a.into.goes)
-
   pub arrives_sent : (port : ℕ) (r : Row) → Has r (set_at all port) → IsSentTo v d x c port r
   arrives_sent port r h =
-      let a = arrives port r h in
-      record { stream = a.feed.stream; sender = a.feed.sender; within = a.into.stream; goes = subst (λ (p : ℕ). goes_to v c p a.feed.stream ≡ true) a.port_is a.into.goes; sends = a.into.sender; sent = a.sent }
+      let f = (from_into w d x c j port r h).1 in
+      let list = emitted_list w d x f.feed.stream f.feed.sender in
+      subst (λ (p : ℕ). IsSentTo v d x c p r) f.port_is (feeds_law v d x c j f.feed r at.0 sender f.of_feed (Has-from_rows_in r list (Has-from_set_of r (rows_in list) f.sent)))
+
+  pub arrives_over : (port : ℕ) (r : Row) → Has r (set_at all port) → has_stream v c port ≡ true
+  arrives_over port r h = sent_has_stream v d x c port r (arrives_sent port r h)
 
   -- what arrives in the timesteps of a life is among all that arrives
   pub life_inside : (life : Life) → Has life (all_lives (x.lives c j)) → AreInside (timesteps i life.heard) all
@@ -100,7 +86,7 @@ module _ (v : View) (d : Data) (x : Execution) (history : IsHistory v d x) (s c 
     | inl lt ↦
         let below : port < length i.ports = subst (λ (n : ℕ). port < n) (timesteps-many i life.heard now came) lt in
         heard_into w d x c j history.steps history.legal life of_life (port, r) below
-        (stands_heard i life.heard (port, r) (not_order v d x history.valid s c o j within origin sender program body unordered) (record { now = now; among = came; there = h }))
+        (batches_heard i i.mode life.heard (port, r) refl (not_order v d x history.valid s c o j within origin sender program body unordered) (record { now = now; among = came; there = h }))
     | inr past ↦ absurd (subst (λ (l : List Row). Has r l) (get_or_past now port [] past) h)
   ]
 

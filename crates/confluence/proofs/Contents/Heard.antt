@@ -33,47 +33,14 @@ use Rattle.inbox.proofs.Executions.Sent.{history_holds}
 use Rattle.inbox.proofs.Timesteps.UnderSeal.{seal_timesteps-go}
 use Rattle.inbox.proofs.Timesteps.Whole.{Has-filter_map, Has-from_filter_map}
 use Rattle.inbox.proofs.WiringLemmas.{port_of-feed}
+use Rattle.inbox.proofs.Timesteps.Entries.{Has-rows_in, Has-from_rows_in, heard_entry, entry_heard}
 use Rattle.confluence.specs.Complete.{contents_at, contents_into}
-use Rattle.confluence.proofs.Honest.HeardWhole.{Has-rows_in, Has-from_rows_in}
 
 -- a member stands at a place
 pub at_place : {X : Type 0} (q : X) (xs : List X) (d : X) → Has q xs → (n : ℕ) × (n < length xs) × (get_or xs n d ≡ q)
 at_place q [] d h = absurd h
 at_place q (x ∷ xs) d (inl e) = (0, omega arith, e)
 at_place q (x ∷ xs) d (inr h) = let m = at_place q xs d h in (suc m.0, (let lt = m.1 in omega (arith, lt)), m.2)
-
--- what was heard as an entry was heard as a record from a feed
-pub record IsHeard (i : Instance) (heard : List Pair) (entry : Entry) : Type 0 where
-  pub feed : ℕ
-  pub there : Has (feed, row entry.1) heard
-  pub port : port_of_feed i feed ≡ entry.0
-
-entry_from : (i : Instance) (heard : List Pair) (feed : ℕ) (message : Message) (entry : Entry) → Has (feed, message) heard → option_map (λ r. (port_of_feed i feed, r)) (row_in message) ≡ Some entry → IsHeard i heard entry
-entry_from i heard feed (row r) entry h e =
-    let is : (port_of_feed i feed, r) ≡ entry = ap (λ o. unwrap_or o (port_of_feed i feed, r)) e in
-    record { feed = feed; there = subst (λ (z : Entry). Has (feed, row z.1) heard) is h; port = ap (λ (z : Entry). z.0) is }
-entry_from i heard feed (seal k n) entry h e = cc
-
-pub heard_entry : (i : Instance) (heard : List Pair) (entry : Entry) → Has entry (entries_of i heard) → IsHeard i heard entry
-heard_entry i heard entry h =
-    let m = Has-from_filter_map (entry_of i) entry heard h in
-    entry_from i heard m.0.0 m.0.1 entry m.1 m.2
-
-pub entry_heard : (i : Instance) (heard : List Pair) (feed : ℕ) (r : Row) → Has (feed, row r) heard → Has (port_of_feed i feed, r) (entries_of i heard)
-entry_heard i heard feed r h =
-    let pair : Pair = (feed, row r) in
-    let entry : Entry = (port_of_feed i feed, r) in
-    Has-filter_map (entry_of i) pair entry heard h refl
-
--- what stands in a timestep was heard
-mode_heard : (mode : Mode) (i : Instance) (batches : List Batch) (entry : Entry) → i.mode ≡ mode → is_order_mode mode ≡ false → Stands (timesteps i batches) entry → Has entry (entries_of i (all_pairs batches))
-mode_heard Free i batches entry e not_order stands = at_once_timesteps-heard i (rw e tt) batches entry stands
-mode_heard (Pass key) i batches entry e not_order stands = at_once_timesteps-heard i (rw e tt) batches entry stands
-mode_heard (Seal key) i batches entry e not_order stands = (seal_timesteps-go i key e batches entry stands).there
-mode_heard Order i batches entry e not_order stands = cc
-
-pub stands_heard : (i : Instance) (batches : List Batch) (entry : Entry) → is_order_mode i.mode ≡ false → Stands (timesteps i batches) entry → Has entry (entries_of i (all_pairs batches))
-stands_heard i batches entry not_order stands = mode_heard i.mode i batches entry refl not_order stands
 
 -- ---- what arrives at an instance in all
 

@@ -16,7 +16,7 @@ use Rattle.topo_types.specs.Valid.{IsValid}
 use Rattle.topo_types.specs.View.{View, origin_of, program_of, is_order, is_order_mode, replicas_of, component_at}
 use Rattle.inbox.specs.Instances.{Instance}
 use Rattle.inbox.specs.Timesteps.{timesteps}
-use Rattle.inbox.specs.Lives.{Life, all_lives, emitted_by}
+use Rattle.inbox.specs.Lives.{Life, all_lives, emitted_by, life_timesteps}
 use Rattle.inbox.specs.Wiring.{Wiring, wiring_of, instance_at, instance_for, is_there}
 use Rattle.inbox.specs.Executions.{Execution, emitted_list, contents}
 use Rattle.inbox.specs.Completeness.{IsComplete}
@@ -25,10 +25,12 @@ use Rattle.inbox.proofs.Lists.Rows.{life_rows, rows_of_list}
 use Rattle.inbox.proofs.WiringLemmas.{instance-wired, there-wired, length-below, instance-ports}
 use Rattle.inbox.proofs.Timesteps.OfLives.{life_timesteps-hearing}
 use Rattle.inbox.proofs.Lists.Origins.{output_list}
+use Rattle.inbox.proofs.Timesteps.Entries.{Has-rows_in, Has-from_rows_in}
 use Rattle.confluence.specs.Complete.{contents_into}
 use Rattle.confluence.proofs.Contents.Heard.{last_heard}
 use Rattle.confluence.proofs.Determined.Rows.{AreAllIn, IsDetermined}
 use Rattle.bloom_ast.specs.Proper.{IsProper}
+use Rattle.stream_deps.proofs.Bridges.{rows_law}
 
 -- ---- one stream
 
@@ -51,9 +53,6 @@ module _ (v : View) (d : Data) (x : Execution) (valid : IsValid v) (s c o j : �
   pub ports_are : length i.ports ≡ length (component_at v c).ports
   ports_are = ap (λ (z : Instance). length z.ports) instance_is ∙ instance-ports v c j
 
-  pub list_is : emitted_list w d x s j ≡ emitted_by i (x.logs c) (x.lives c j) o
-  list_is = output_list v d x s c o j within origin
-
   pub output_there : o < length i.outputs
   output_there =
       let long : length i.outputs ≡ length (component_at v c).outputs = ap (λ (z : Instance). length z.outputs) instance_is ∙ length-below _ (length (component_at v c).outputs) in
@@ -66,23 +65,21 @@ module _ (v : View) (d : Data) (x : Execution) (valid : IsValid v) (s c o j : �
     pub not_order : is_order_mode i.mode ≡ false
     not_order = ap (λ (z : Instance). is_order_mode z.mode) instance_is ∙ unordered
 
-    life_is : (life : Life) → life_rows program i (x.logs c) o life ≡ over_steps program (output_rows program o) (empty_tables program) (timesteps i life.heard)
-    life_is life = ap (λ nows. rows_from program (empty_tables program) nows o) (life_timesteps-hearing i (x.logs c) life not_order)
+    life_is : (life : Life) → life_timesteps i (x.logs c) life ≡ timesteps i life.heard
+    life_is life = life_timesteps-hearing i (x.logs c) life not_order
 
     -- the life in which a record was emitted
     pub from_contents : (r : Row) → Has r (contents w d x s j) → (life : Life) × Has life (all_lives (x.lives c j)) × Has r (output_over program o (timesteps i life.heard))
     from_contents r h =
-        let lives = x.lives c j in
-        let here = subst (λ (l : List Message). Has r (rows_in l)) list_is (Has-from_set_of r (rows_in (emitted_list w d x s j)) h) in
-        let m = Has-from_flat_map (life_rows program i (x.logs c) o) r (all_lives lives) ((rows_of_list program i runs_it (x.logs c) lives o output_there).0 r here) in
-        (m.0, m.1, Has-set_of r (over_steps program (output_rows program o) (empty_tables program) (timesteps i m.0.heard)) (subst (λ (l : List Row). Has r l) (life_is m.0) m.2))
+        let list = emitted_list w d x s j in
+        let m = (rows_law v d x s c o j program r valid within origin body sender).0 (Has-from_rows_in r list (Has-from_set_of r (rows_in list) h)) in
+        (m.0, m.1, subst (λ nows. Has r (output_over program o nows)) (life_is m.0) m.2)
 
     pub in_contents : (r : Row) (life : Life) → Has life (all_lives (x.lives c j)) → Has r (output_over program o (timesteps i life.heard)) → Has r (contents w d x s j)
     in_contents r life of_life h =
-        let lives = x.lives c j in
-        let here = subst (λ (l : List Row). Has r l) (sym (life_is life)) (Has-from_set_of r (over_steps program (output_rows program o) (empty_tables program) (timesteps i life.heard)) h) in
-        let there = (rows_of_list program i runs_it (x.logs c) lives o output_there).1 r (Has-flat_map (life_rows program i (x.logs c) o) life r (all_lives lives) of_life here) in
-        Has-set_of r (rows_in (emitted_list w d x s j)) (subst (λ (l : List Message). Has r (rows_in l)) (sym list_is) there)
+        let list = emitted_list w d x s j in
+        let row_there = (rows_law v d x s c o j program r valid within origin body sender).1 (life, of_life, subst (λ nows. Has r (output_over program o nows)) (sym (life_is life)) h) in
+        Has-set_of r (rows_in list) (Has-rows_in r list row_there)
 
     last_of_lives : Has (x.lives c j).last (all_lives (x.lives c j))
     last_of_lives = Has-append_right (x.lives c j).last (x.lives c j).earlier ((x.lives c j).last ∷ []) (inl refl)

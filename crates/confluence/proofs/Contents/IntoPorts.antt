@@ -11,14 +11,15 @@ use Rattle.inbox.specs.Instances.{Instance}
 use Rattle.inbox.specs.Wiring.{wiring_of, instance_at}
 use Rattle.inbox.specs.Executions.{Execution, contents}
 use Rattle.inbox.proofs.WiringLemmas.{instance-wired, instance-ports}
+use Rattle.stream_deps.proofs.Streams.{goes_is}
 use Rattle.confluence.specs.Complete.{contents_into}
 use Rattle.confluence.proofs.Contents.Heard.{in_into}
-use Rattle.confluence.proofs.Contents.Pairing.{port_feed, end_at}
+use Rattle.confluence.proofs.Contents.Pairing.{port_feed}
 
 pub in_port : (v : View) (d : Data) (y : Execution) → IsValid v → (c j p s : ℕ) (r : Row) → is_order v c ≡ false → j < replicas_of v c → s < length v.streams → goes_to v c p s ≡ true
     → ((i : ℕ) → i < stream_replicas v s → Has r (contents (wiring_of v) d y s i)) → Has r (set_at (contents_into (wiring_of v) d y c j) p)
 in_port v d y valid c j p s r unordered there lt goes each =
-    let at = valid.numbered.ends s (c, p) lt (end_at v c p s goes) in
+    let at = valid.numbered.ends s (c, p) lt (goes_is v c p s goes) in
     let f = port_feed v c j p s valid unordered lt goes there in
     let feed : Feed = record { port = p; stream = s; sender = f.sender } in
     let is = instance-wired v c j at.0 there in

@@ -14,6 +14,7 @@ use Rattle.fd_closure.proofs.Least.{closure-least}
 use Rattle.fd_closure.proofs.Members.{in-within}
 use Rattle.fd_closure.proofs.Reached.{least-monotone}
 use Rattle.fd_closure.proofs.Within.{within-trans}
+use Rattle.fd_closure.proofs.MembersInOrder.{members_within}
 use Rattle.bloom_ast.specs.declared.program.Program.{Program}
 use Rattle.bloom_ast.specs.Program.{port_columns}
 use Rattle.bloom_ast.specs.ProgramStep.{answer_of}
@@ -41,6 +42,7 @@ use Rattle.inbox.specs.Growth.{feed_numbered}
 use Rattle.inbox.specs.Wiring.{Wiring, wiring_of, instance_at, instance_for}
 use Rattle.inbox.proofs.Lists.Growing.{continues_itself}
 use Rattle.inbox.proofs.WiringLemmas.{instance-ports, port_of-feed}
+use Rattle.inbox.proofs.Timesteps.Entries.{Has-rows_in, Has-from_rows_in}
 use Rattle.inbox.specs.Executions.{Execution, emitted_list, contents}
 use Rattle.inbox.specs.Completeness.{IsComplete}
 use Rattle.stream_deps.specs.Laws.{ArrivalsLaw, KeyedLaw, HaveKey}
@@ -52,7 +54,6 @@ use Rattle.confluence.specs.LabelMeaning.{HasConfluentPaths, IsPath, IsGuarded}
 use Rattle.confluence.specs.Partitions.{IsFed, IsSealing, AreCarrying, IsAtOnce}
 use Rattle.confluence.specs.Laws.{RulesLaw, OutputsLaw}
 use Rattle.confluence.proofs.Contents.Heard.{at_place, in_into, from_into}
-use Rattle.confluence.proofs.Honest.HeardWhole.{Has-rows_in, Has-from_rows_in}
 use Rattle.confluence.proofs.Honest.KeysAtPorts.{restricts}
 use Rattle.confluence.proofs.Honest.Partitions.{IsRestriction}
 use Rattle.confluence.proofs.Determined.Parts.{IsPart, by_parts}
@@ -64,16 +65,10 @@ use Rattle.path_annotate.specs.Given.{AreAllC, is_o, is_w}
 use Rattle.path_annotate.specs.Note.{own_gate}
 use Rattle.fd_closure.specs.Bits.{members}
 
--- an attribute of a key is one of a set in which the key lies
-pub key_in : (key set attribute : ℕ) → within key set ≡ true → Has attribute (members key) → meets (bit_of attribute) set ≡ true
-key_in key set attribute lies h =
-    let m = Has-from_filter (λ n. meets (bit_of n) key) attribute (below 64) h in
-    in-within attribute key set (from_below 64 attribute m.0) m.1 lies
-
 -- a key in the closure of a gate is in that of a larger one
 key_closed : (key gate own : ℕ) (fds : List Fd) → within gate own ≡ true → within key (closure gate fds) ≡ true → IsInClosure (members key) own fds
 key_closed key gate own fds smaller lies attribute h =
-    key_in key (closure own fds) attribute (within-trans key (closure gate fds) (closure own fds) lies (least-monotone gate own fds (closure gate fds) (closure own fds) smaller (closure-least gate fds) (closure-least own fds))) h
+    members_within key (closure own fds) (within-trans key (closure gate fds) (closure own fds) lies (least-monotone gate own fds (closure gate fds) (closure own fds) smaller (closure-least gate fds) (closure-least own fds))) attribute h
 
 -- a port has the columns of a key, and it carries the key or what it is given isn't W
 record Waits (v : View) (c port : ℕ) (key : Attrs) (given : Option Note) : Type 0 where
@@ -213,7 +208,7 @@ module _ (v : View) (d : Data) (x : Execution) (history : IsHistory v d x) (s c 
 
       has_key : HaveKey v c (λ port. is_some (given port)) (members key.bits)
       has_key port attribute t over_it h =
-          key_in key.bits (port_attrs v c port).bits attribute (waits_at port (end_there v history.valid c port over_it).1 t over_it).columns h
+          members_within key.bits (port_attrs v c port).bits (waits_at port (end_there v history.valid c port over_it).1 t over_it).columns attribute h
 
       closed_at : (port : ℕ) → port < count → is_o (given port) ≡ true → has_stream v c port ≡ true → IsInClosure (members key.bits) gate (usable_fds v c)
       closed_at port lt o_there over_it =

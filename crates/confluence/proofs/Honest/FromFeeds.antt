@@ -17,6 +17,7 @@ use Rattle.inbox.specs.Executions.{Execution, emitted_list}
 use Rattle.inbox.specs.Growth.{feed_numbered, ComesFrom}
 use Rattle.inbox.proofs.MessagesLemmas.{is_same_row-itself}
 use Rattle.inbox.proofs.Timesteps.Whole.{Has-from_filter_map}
+use Rattle.inbox.proofs.Timesteps.Entries.{heard_entry}
 use Rattle.confluence.specs.Honest.{IsHonest}
 use Rattle.confluence.specs.Partitions.{IsFed}
 use Rattle.confluence.proofs.Honest.HeardWhole.{heard_whole}
@@ -31,22 +32,12 @@ module _ (w : Wiring) (given : Data) (x : Execution) (i : Instance) where
   IsFedHonestly port = (feed : ℕ) (places : List ℕ) → feed < length i.feeds → port_of_feed i feed ≡ port → key_places_at i port ≡ Some places
       → IsHonest places (emitted_list w given x (feed_numbered i feed).stream (feed_numbered i feed).sender)
 
-  fed_by : (from : ℕ) (message : Message) (entry : Entry) → ComesFrom w given x i (from, message) → option_map (λ r. (port_of_feed i from, r)) (row_in message) ≡ Some entry → IsFed w given x i entry.0 entry.1
-  fed_by from (seal k n) entry c e = cc
-  fed_by from (row r) entry c e =
-      let is : (port_of_feed i from, r) ≡ entry = ap (λ o. unwrap_or o (port_of_feed i from, r)) e in
-      record {
-        feed = from;
-        within = c.of_feed;
-        at = ap (λ p. p.0) is;
-        sent = subst (λ z. Has (row z) (emitted_list w given x (feed_numbered i from).stream (feed_numbered i from).sender)) (ap (λ p. p.1) is) c.sent;
-      }
-
   -- what was heard at a port a feed of the port has emitted
   pub heard_fed : (heard : List Pair) → AllCome heard → (entry : Entry) → Has entry (entries_of i heard) → IsFed w given x i entry.0 entry.1
   heard_fed heard come entry h =
-      let m = Has-from_filter_map (entry_of i) entry heard h in
-      fed_by m.0.0 m.0.1 entry (come m.0 m.1) m.2
+      let e = heard_entry i heard entry h in
+      let c = come (e.feed, row entry.1) e.there in
+      record { feed = e.feed; within = c.of_feed; at = e.port; sent = c.sent }
 
   by_places : (r key : Row) (o : Option (List ℕ)) → option_map (λ places. cells places r) o ≡ Some key → (places : List ℕ) × (o ≡ Some places) × (cells places r ≡ key)
   by_places r key None e = cc

@@ -22,6 +22,8 @@ use Rattle.inbox.specs.Growth.{feed_numbered, ComesFrom}
 use Rattle.inbox.proofs.MessagesLemmas.{is_same_row-itself}
 use Rattle.inbox.proofs.Timesteps.Whole.{Has-filter_map, Has-from_filter_map, whole-seal}
 use Rattle.inbox.proofs.Timesteps.UnderSeal.{of_key-is}
+use Rattle.inbox.proofs.Timesteps.Entries.{entry_heard, heard_entry, Has-rows_in, Has-from_rows_in}
+use Rattle.inbox.proofs.Timesteps.Touching.{none_of}
 use Rattle.confluence.specs.Honest.{IsHonest}
 use Rattle.confluence.proofs.Honest.SmallSets.{within-back}
 
@@ -36,21 +38,6 @@ stands_at q [] h = absurd h
 stands_at q (x ∷ xs) (inl e) = record { before = []; after = xs; are = ap (λ z. z ∷ xs) e }
 stands_at q (x ∷ xs) (inr h) = let s = stands_at q xs h in record { before = x ∷ s.before; after = s.after; are = ap (λ l. x ∷ l) s.are }
 
-none_pass : {X : Type 0} (p : X → Bool) (xs : List X) → ((x : X) → Has x xs → p x ≡ false) → filter p xs ≡ []
-none_pass p [] none = refl
-none_pass p (x ∷ xs) none = ap (λ b. cond b (x ∷ filter p xs) (filter p xs)) (none x (inl refl)) ∙ none_pass p xs (λ y h. none y (inr h))
-
--- a record among messages, and back
-pub Has-rows_in : (r : Row) (messages : List Message) → Has (row r) messages → Has r (rows_in messages)
-Has-rows_in r messages h = Has-filter_map row_in (row r) r messages h refl
-
-row_same : (message : Message) (r : Row) → row_in message ≡ Some r → message ≡ row r
-row_same (row a) r e = ap row (ap (λ o. unwrap_or o a) e)
-row_same (seal k n) r e = cc
-
-pub Has-from_rows_in : (r : Row) (messages : List Message) → Has r (rows_in messages) → Has (row r) messages
-Has-from_rows_in r messages h = let m = Has-from_filter_map row_in r messages h in subst (λ z. Has z messages) (row_same m.0 r m.2) m.1
-
 -- in an honest list with a seal of a partition stand as many records of it as the seal counts
 pub partition_count : (places : List ℕ) (list : List Message) (key : Row) (count : ℕ) → IsHonest places list → Has (seal key count) list
     → length (filter (λ r. is_same_row (cells places r) key) (rows_in list)) ≡ count
@@ -58,7 +45,7 @@ partition_count places list key count honest h =
     let s = stands_at (seal key count) list h in
     let t = honest s.before s.after key count s.are in
     let test : Row → Bool = λ r. is_same_row (cells places r) key in
-    let none : filter test (rows_in s.after) ≡ [] = none_pass test (rows_in s.after) (λ r m. t.no_row r (Has-from_rows_in r s.after m)) in
+    let none : filter test (rows_in s.after) ≡ [] = none_of test (rows_in s.after) (λ r m. t.no_row r (Has-from_rows_in r s.after m)) in
     ap (λ l. length (filter test (rows_in l))) s.are
     ∙ ap (λ l. length (filter test l)) (filter_map-append row_in s.before (seal key count ∷ s.after))
     ∙ ap length (filter-append test (rows_in s.before) (rows_in s.after))
@@ -78,26 +65,12 @@ pub record FromFeed (i : Instance) (heard : List Pair) (feed : ℕ) (entry : Ent
   pub pair_heard : Has (feed, row entry.1) heard
   pub port : entry.0 ≡ port_of_feed i feed
 
-entry_parts : (i : Instance) (heard : List Pair) (feed : ℕ) (from : ℕ) (message : Message) (entry : Entry) → from ≡ feed → Has (from, message) heard → option_map (λ r. (port_of_feed i from, r)) (row_in message) ≡ Some entry → FromFeed i heard feed entry
-entry_parts i heard feed from (seal k n) entry same h e = cc
-entry_parts i heard feed from (row r) entry same h e =
-    let is : (port_of_feed i from, r) ≡ entry = ap (λ o. unwrap_or o (port_of_feed i from, r)) e in
-    record {
-      pair_heard = subst (λ f. Has (f, row entry.1) heard) same (subst (λ z. Has (from, row z) heard) (ap (λ p. p.1) is) h);
-      port = sym (ap (λ p. p.0) is) ∙ ap (port_of_feed i) same;
-    }
-
 pub from_feed-entry : (i : Instance) (heard : List Pair) (feed : ℕ) (entry : Entry) → Has entry (entries_of i (from_feed feed heard)) → FromFeed i heard feed entry
 from_feed-entry i heard feed entry h =
-    let m = Has-from_filter_map (entry_of i) entry (from_feed feed heard) h in
-    let kept = Has-from_filter (λ pair. pair.0 == feed) m.0 heard m.1 in
-    entry_parts i heard feed m.0.0 m.0.1 entry (eqb-true m.0.0 feed kept.1) kept.0 m.2
-
-pub entry-heard : (i : Instance) (heard : List Pair) (feed : ℕ) (r : Row) → Has (feed, row r) heard → Has (port_of_feed i feed, r) (entries_of i heard)
-entry-heard i heard feed r h =
-    let pair : Pair = (feed, row r) in
-    let entry : Entry = (port_of_feed i feed, r) in
-    Has-filter_map (entry_of i) pair entry heard h refl
+    let e = heard_entry i (from_feed feed heard) entry h in
+    let kept = Has-from_filter (λ pair. pair.0 == feed) (e.feed, row entry.1) heard e.there in
+    let same : e.feed ≡ feed = eqb-true e.feed feed kept.1 in
+    record { pair_heard = subst (λ f. Has (f, row entry.1) heard) same kept.0; port = sym e.port ∙ ap (port_of_feed i) same }
 
 -- ---- heard whole
 
@@ -133,4 +106,4 @@ heard_whole w given x i heard key feed places comes whole carrying has_key hones
     let m = Has-from_map (λ e. e.1) r there (Has-from_set_of r some back) in
     let kept = Has-from_filter (is_of_key i key) m.0 (entries_of i (from_feed feed heard)) m.1 in
     let f = from_feed-entry i heard feed m.0 kept.0 in
-    entry-heard i heard feed r (subst (λ z. Has (feed, row z) heard) m.2 f.pair_heard)
+    entry_heard i heard feed r (subst (λ z. Has (feed, row z) heard) m.2 f.pair_heard)

@@ -35,10 +35,10 @@ use Rattle.stream_deps.proofs.InstancePorts.{carrying_is, places_only}
 use Rattle.confluence.specs.Honest.{IsHonest}
 use Rattle.confluence.specs.Laws.{HonestLaw}
 use Rattle.confluence.proofs.Honest.FromFeeds.{IsFedHonestly}
-use Rattle.confluence.proofs.Honest.HeardWhole.{Has-rows_in, Has-from_rows_in}
 use Rattle.inbox.specs.Folds.{rows_from}
 use Rattle.inbox.proofs.Lists.Seals.{seals_of_list}
 use Rattle.inbox.proofs.Timesteps.OfLives.{life_timesteps-hearing}
+use Rattle.inbox.proofs.Timesteps.Entries.{Has-rows_in, Has-from_rows_in}
 use Rattle.confluence.proofs.Honest.Sources.{no_other_seal, no_row_again, honest_source}
 use Rattle.confluence.proofs.Honest.Rows.{same_rows}
 

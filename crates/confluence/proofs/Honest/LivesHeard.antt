@@ -1,5 +1,5 @@
 -- What an instance in mode Pass or Seal hears with the first batches of a life, and what stands in their timesteps: records that streams have sent to its ports.
-use Rattle.std.proofs.Common.{◌≡◌, ap, sym, subst, ◌∙◌, ℕ, ◌<◌, ◌⊎◌, List, ◌++◌, length, inl, inr, Some}
+use Rattle.std.proofs.Common.{◌≡◌, ap, sym, subst, ◌∙◌, ℕ, ◌<◌, ◌⊎◌, List, ◌++◌, length, inl, inr, Some, refl}
 use Rattle.std.proofs.lemmas.Grind.{flat_map-append}
 use Rattle.fd_closure.specs.declared.attrs.Attrs.{Attrs}
 use Rattle.blz_value.specs.Members.{Has}
@@ -22,9 +22,11 @@ use Rattle.inbox.proofs.Timesteps.UnderSeal.{seal_timesteps-go}
 use Rattle.inbox.proofs.Timesteps.Whole.{entries_of-append}
 use Rattle.inbox.proofs.WiringLemmas.{instance-wired}
 use Rattle.inbox.proofs.Timesteps.Widths.{timesteps-many}
+use Rattle.inbox.proofs.Timesteps.OfLives.{batches_heard}
 use Rattle.stream_deps.specs.Sent.{IsHistory, AreSent}
 use Rattle.stream_deps.proofs.Arrives.{heard_law, arrivals_law}
 use Rattle.stream_deps.proofs.InstancePorts.{ports_same}
+use Rattle.stream_deps.proofs.CarriedKeys.{not_ordered}
 use Rattle.confluence.specs.Partitions.{IsLived}
 use Rattle.confluence.proofs.Honest.FromFeeds.{AllCome}
 use Rattle.bloom_ast.specs.Steps.{AreArrivals}
@@ -59,10 +61,7 @@ module _ (v : View) (d : Data) (x : Execution) (history : IsHistory v d x) (c j 
   module _ (key : Attrs) (mode : mode_key (mode_of v c) ≡ Some key) where
     -- a record that stands in a timestep was heard
     pub heard_standing : (entry : Entry) → Stands (timesteps i batches) entry → Has entry (entries_of i (all_pairs batches))
-    heard_standing entry s = elim (by_mode (mode_of v c) key mode) [
-      | inl pass ↦ at_once_timesteps-heard i (subst (λ m. GoesAtOnce m) (sym pass) tt) batches entry s
-      | inr is_seal ↦ (seal_timesteps-go i key is_seal batches entry s).there
-    ]
+    heard_standing entry s = batches_heard i (mode_of v c) batches entry refl (not_ordered v history.valid c key mode) s
 
     -- and a stream has sent it to its port
     pub all_sent : AreSent v d x c (timesteps i batches)

@@ -43,6 +43,7 @@ use Rattle.path_annotate.specs.Annotation.{rule_use}
 use Rattle.path_annotate.specs.Given.{is_w}
 use Rattle.fd_closure.specs.Bits.{members}
 use Rattle.stream_deps.proofs.InstancePorts.{carrying_is, ports_same}
+use Rattle.stream_deps.proofs.Streams.{has_some}
 
 module _ (v : View) (d : Data) (x : Execution) (c j : ℕ) (key : Attrs) (batches : List Batch) (program : Program) (body : program_of v c ≡ Some program) (value : Row) (s : IsSealing v d x c j key batches) where
   abbrev i : Instance
@@ -69,7 +70,7 @@ module _ (v : View) (d : Data) (x : Execution) (c j : ℕ) (key : Attrs) (batche
       let feed = feed_numbered i f.feed in
       let into = instance-feeds v c j feed (Has-get_or i.feeds f.feed no_feed f.within) in
       let same : feed.port ≡ port = sym (port_of-feed i f.feed f.within) ∙ f.at in
-      any_from_Has (goes_to v c port) feed.stream (stream_numbers v) (in_below (length v.streams) feed.stream into.stream) (subst (λ p. goes_to v c p feed.stream ≡ true) same into.goes)
+      has_some v c port feed.stream (record { stands = into.stream; goes = subst (λ p. goes_to v c p feed.stream ≡ true) same into.goes })
 
   arrive : AreArrivals program (of_partition v program key value (timesteps i batches))
   arrive = arrivals_of_class v.attributes program (members key.bits) (λ values. values) value (timesteps i batches) (all_arrive v d x s.history c j s.there s.replica batches s.lived key mode program body)

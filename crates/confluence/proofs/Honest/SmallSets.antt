@@ -9,19 +9,11 @@ use Rattle.blz_value.specs.Sets.{set_of, IsRowSet}
 use Rattle.blz_value.proofs.Membership.{Has-append_right, Has-append_cases}
 use Rattle.blz_value.proofs.SetLaws.{sorted_set_of, Has-from_set_of}
 use Rattle.blz_value.proofs.RowSets.{same_set_of, set_of-sorted, length-insert_key-new, length-set_of-append_left}
+use Rattle.blz_value.proofs.OperatorsLemmas.{length-within}
 use Rattle.topo_types.specs.Messages.{is_same_row}
 use Rattle.inbox.proofs.MessagesLemmas.{is_same_row-is, is_same_row-itself, same-from_any, any-from_same}
 
--- a set within another has no more members
-pub length-within : (xs ys : List Row) → IsRowSet xs → IsRowSet ys → IsWithin xs ys → length xs ≤ length ys
-length-within xs ys s t inside =
-    let all : set_of (xs ++ ys) ≡ set_of ys = same_set_of (xs ++ ys) ys (λ q h. elim (Has-append_cases q xs ys h) [ inl a ↦ inside q a | inr b ↦ b ], λ q h. Has-append_right q xs ys h) in
-    let le = length-set_of-append_left xs ys in
-    let a : length (set_of xs) ≡ length xs = ap length (set_of-sorted xs s) in
-    let b : length (set_of (xs ++ ys)) ≡ length ys = ap length (all ∙ set_of-sorted ys t) in
-    omega (arith, le, a, b)
-
--- and where the other has no more, it is within the first
+-- a set that has no more members than one within it lies in that one
 pub within-back : (xs ys : List Row) → IsRowSet xs → IsRowSet ys → IsWithin xs ys → length ys ≤ length xs → IsWithin ys xs
 within-back xs ys s t inside few q h =
     elim (list_any (is_same_row q) xs) as (λ b. list_any (is_same_row q) xs ≡ b → Has q xs) [
@@ -30,6 +22,6 @@ within-back xs ys s t inside few q h =
           let lacks : ¬ Has q xs = λ m. let found = any-from_same is_same_row is_same_row-is is_same_row-itself q xs m in let no : true ≡ false = sym found ∙ e in cc in
           let longer : length (insert_key record_cmp (set_of xs) q) ≡ length xs + 1 = ap (λ l. length (insert_key record_cmp l q)) (set_of-sorted xs s) ∙ length-insert_key-new record_cmp record_cmp_exact q xs lacks in
           let within : IsWithin (set_of (q ∷ xs)) ys = λ z m. elim (Has-from_set_of z (q ∷ xs) m) [ inl same ↦ subst (λ y. Has y ys) same h | inr old ↦ inside z old ] in
-          let le = length-within (set_of (q ∷ xs)) ys (sorted_set_of (q ∷ xs)) t within in
+          let le = length-within (set_of (q ∷ xs)) ys (sorted_set_of (q ∷ xs)) within in
           absurd (omega (arith, le, longer, few))
     ] refl

@@ -37,18 +37,18 @@ use Rattle.inbox.specs.Completeness.{IsComplete}
 use Rattle.inbox.proofs.Timesteps.Whole.{Has-filter_map}
 use Rattle.inbox.proofs.WiringLemmas.{port_of-feed, instance-wired, instance-feeds}
 use Rattle.inbox.proofs.Timesteps.Widths.{timesteps-many}
+use Rattle.inbox.proofs.Timesteps.Entries.{heard_entry, Has-rows_in, Has-from_rows_in}
+use Rattle.inbox.proofs.Timesteps.OfLives.{batches_heard}
 use Rattle.stream_deps.specs.Sent.{IsHistory}
+use Rattle.stream_deps.proofs.Streams.{goes_is}
 use Rattle.confluence.specs.Complete.{contents_into}
 use Rattle.topo_types.specs.Laws.{OrderIsAcyclic}
-use Rattle.confluence.proofs.Honest.HeardWhole.{Has-rows_in, Has-from_rows_in}
 use Rattle.confluence.proofs.Determined.Parts.{by_parts}
 use Rattle.confluence.proofs.Determined.Rows.{AreInside, confluent_part}
-use Rattle.confluence.proofs.Contents.Heard.{stands_heard, heard_entry}
 use Rattle.confluence.proofs.Contents.Instances.{inside, not_order, from_contents}
 use Rattle.confluence.proofs.Contents.Arriving.{runs, output_column, life_inside, arrives_sent}
 use Rattle.confluence.proofs.Determined.DeterminedOutputs.{contents_by_parts, c_part, nothing_part, no_rows}
 use Rattle.confluence.proofs.Regions.Members.{same_cycle}
-use Rattle.confluence.proofs.Contents.Pairing.{end_at}
 use Rattle.confluence.proofs.Contents.IntoPorts.{in_port}
 use Rattle.confluence.proofs.Contents.NoBody.{no_body_no_rows}
 use Rattle.confluence.proofs.Regions.ByEmission.{Hears, HeardFine, OutsideFine, EmittedFine, outside_cases, all_fine}
@@ -79,7 +79,7 @@ in_inputs v set s m p lt outside member goes =
     let end : End = (m, p) in
     let pair_with : End → ℕ × End = λ e. (s, e) in
     let input : ℕ × End = (s, end) in
-    let here : Has end (ends_in v set s) = Has-filter (λ (e : End). is_in e.0 set) end (ends_of v s) (end_at v m p s goes) member in
+    let here : Has end (ends_in v set s) = Has-filter (λ (e : End). is_in e.0 set) end (ends_of v s) (goes_is v m p s goes) member in
     let streams : List ℕ = filter (is_from_outside v set) (stream_numbers v) in
     Has-flat_map (λ u. map (λ e. (u, e)) (ends_in v set u)) s input streams (Has-filter (is_from_outside v set) s (stream_numbers v) (in_below (length v.streams) s lt) outside) (Has-map pair_with end (ends_in v set s) here)
 
@@ -121,7 +121,7 @@ module _ (v : View) (d : Data) (valid : IsValid v) (order_acyclic : OrderIsAcycl
         let inst : Instance = instance_at w m i in
         let at = inside v d x valid s m o i stands origin lt_i in
         let below_it : port < length inst.ports = subst (λ (n : ℕ). port < n) (timesteps-many inst life.heard now came) lt in
-        let e = heard_entry inst (all_pairs life.heard) (port, r) (stands_heard inst life.heard (port, r) (not_order v d x valid s m o i stands origin lt_i program body unordered) (record { now = now; among = came; there = h })) in
+        let e = heard_entry inst (all_pairs life.heard) (port, r) (batches_heard inst inst.mode life.heard (port, r) refl (not_order v d x valid s m o i stands origin lt_i program body unordered) (record { now = now; among = came; there = h })) in
         let b = Has-from_flat_map (λ batch. batch) (e.feed, row r) life.heard e.there in
         let number_lt = feed_there inst e.feed port e.port below_it in
         let into = instance-feeds v m i (feed_numbered inst e.feed) (subst (λ (z : Instance). Has (feed_numbered inst e.feed) z.feeds) (instance-wired v m i at.0 lt_i) (Has-get_or inst.feeds e.feed no_feed number_lt)) in

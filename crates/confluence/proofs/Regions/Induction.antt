@@ -27,16 +27,16 @@ use Rattle.label_walk.specs.Paths.{label_at, is_from_outside, region_inputs, is_
 use Rattle.inbox.specs.Wiring.{Wiring, wiring_of}
 use Rattle.inbox.specs.Executions.{Execution, emitted_list, contents}
 use Rattle.inbox.proofs.Lists.Origins.{source_list}
+use Rattle.inbox.proofs.Timesteps.Entries.{Has-rows_in}
 use Rattle.stream_deps.specs.Sent.{IsHistory}
+use Rattle.stream_deps.proofs.Streams.{goes_is}
 use Rattle.confluence.specs.Complete.{IsCompleted, contents_into}
 use Rattle.confluence.specs.LabelMeaning.{IsOutside, IsProtected, IsGuarded, IsInCycle, HasGoodPaths, HasGoodInputs, HasConfluentPaths}
 use Rattle.confluence.specs.Laws.{StrongRestartLaw, OpenRegionLaw, DeterminedOutputs}
 use Rattle.confluence.proofs.Regions.Premises.{Premises}
 use Rattle.confluence.specs.Sound.{IsSteady, HaveEqualContents, HasOneStepContents, is_replicated_node, IsOpenSound}
-use Rattle.confluence.proofs.Honest.HeardWhole.{Has-rows_in}
 use Rattle.confluence.proofs.Determined.DeterminedOutputs.{determined_output}
 use Rattle.confluence.proofs.Regions.Members.{in_own, same_region, same_number, earlier}
-use Rattle.confluence.proofs.Contents.Pairing.{end_at}
 use Rattle.confluence.proofs.Contents.OrderReplicas.{no_contents, order_equal}
 use Rattle.confluence.proofs.Regions.Acyclic.{PathsEqual, answers_equal, equal_back}
 use Rattle.confluence.proofs.Regions.Cyclic.{in_inputs, member_unordered, confluent_contents, contents_common, empty_contents, empty_answer}
@@ -109,7 +109,7 @@ module _ (premises : Premises) (v : View) (labels : List Label) (d : Data) (vali
         lt_j = subst (λ (from : Option End). j < senders_of v from) origin lt_j'
 
         is_before : (port stream : ℕ) → stream < length v.streams → goes_to v c port stream ≡ true → IsBefore stream c
-        is_before port stream lt goes from of_from order = elim (earlier v valid stream from (c, port) lt of_from (end_at v c port stream goes) unordered) [
+        is_before port stream lt goes from of_from order = elim (earlier v valid stream from (c, port) lt of_from (goes_is v c port stream goes) unordered) [
           | inl lower ↦ lower
           | inr cycle ↦ absurd (true≢false (sym cycle.1 ∙ acyclic))
         ]
@@ -172,7 +172,7 @@ module _ (premises : Premises) (v : View) (labels : List Label) (d : Data) (vali
 
         is_before : (u m p : ℕ) → u < length v.streams → is_from_outside v (region_set v c) u ≡ true → is_in m (region_set v c) ≡ true → goes_to v m p u ≡ true → IsBefore u c
         is_before u m p lt out member goes from of_from order =
-            let end = end_at v m p u goes in
+            let end = goes_is v m p u goes in
             let lt_m = (valid.numbered.ends u (m, p) lt end).0 in
             let unordered_m = member_unordered v d valid premises.order_acyclic c lt_c cyclic m lt_m member in
             elim (earlier v valid u from (m, p) lt of_from end unordered_m) [

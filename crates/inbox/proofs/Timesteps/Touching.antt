@@ -23,7 +23,8 @@ is_message_of i key feed (seal k count) = is_same_row k key
 abbrev pub is_touching : Instance → (key : Row) → Pair → Bool
 is_touching i key pair = is_message_of i key pair.0 pair.1
 
-none_of : {X : Type 0} (p : X → Bool) (xs : List X) → ((x : X) → Has x xs → p x ≡ false) → filter p xs ≡ []
+-- where none passes, nothing is chosen
+pub none_of : {X : Type 0} (p : X → Bool) (xs : List X) → ((x : X) → Has x xs → p x ≡ false) → filter p xs ≡ []
 none_of p [] none = refl
 none_of p (x ∷ xs) none = ap (λ b. cond b (x ∷ filter p xs) (filter p xs)) (none x (inl refl)) ∙ none_of p xs (λ y h. none y (inr h))
 

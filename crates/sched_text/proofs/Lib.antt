@@ -1,0 +1,9 @@
+pub mod SplitLemmas
+pub mod LinesLemmas
+pub mod FieldsLemmas
+pub mod BytesLemmas
+pub mod PartsLemmas
+pub mod ReadingLemmas
+pub mod PlainFields
+pub mod PrintedEvents
+pub mod PrintedLines

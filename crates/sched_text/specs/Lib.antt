@@ -1,0 +1,6 @@
+pub mod Lines
+pub mod Fields
+pub mod Kinds
+pub mod Reading
+pub mod Text
+pub mod Code

@@ -2,6 +2,7 @@
 #![tactic(auto)]
 
 mod fault;
+mod graph;
 mod kept;
 mod laws;
 mod mode;
@@ -21,4 +22,4 @@ pub use topology::{
     Body, ColumnType, ComponentEntry, Declared, FdEntry, ModeName, NoteName, Side, SourceEntry,
     Spot, Stock, StreamEntry, Topology,
 };
-pub use valid::Valid;
+pub use valid::{Valid, carries, upholds, usable};

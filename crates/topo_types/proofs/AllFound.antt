@@ -1,8 +1,7 @@
 -- What is found of a view is what its definitions say, step by step as the code finds it.
-use Rattle.std.proofs.Common.{◌≡◌, ℕ, Bool, Option, List, map, refl, ap, ◌∙◌}
+use Rattle.std.proofs.Common.{◌≡◌, ℕ, Bool, Option, List, map, ap, ◌∙◌}
 use Rattle.std.specs.List.{enumerate_from}
 use Rattle.fd_closure.specs.declared.attrs.Attrs.{Attrs}
-use Rattle.fd_closure.specs.declared.attrs.Fd.{Fd}
 use Rattle.topo_types.specs.declared.graph.lines.Line.{Line}
 use Rattle.topo_types.specs.declared.graph.paths.Path.{Path}
 use Rattle.topo_types.specs.Carried.{carries}
@@ -12,8 +11,8 @@ use Rattle.topo_types.specs.Code.Paths.{paths_by, carried_by}
 use Rattle.topo_types.specs.Dependencies.{upholders}
 use Rattle.topo_types.specs.Regions.{is_in_cycle}
 use Rattle.topo_types.specs.View.{View, component_numbers, stream_numbers}
-use Rattle.topo_types.proofs.LinesFound.{cycles, lines, upholders-same, usable-same}
-use Rattle.topo_types.proofs.PathsFound.{usable, paths, carried-same}
+use Rattle.topo_types.proofs.LinesFound.{lines, upholders-same, usable-same}
+use Rattle.topo_types.proofs.PathsFound.{carried-same}
 use Rattle.topo_types.proofs.Tables.{map_same}
 
 module _ (v : View) (given : HasEnds v) where

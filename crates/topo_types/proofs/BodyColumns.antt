@@ -1,5 +1,5 @@
 -- Columns that are chosen by their numbers.
-use Rattle.std.proofs.Common.{◌≡◌, ◌<◌, ◌+◌, ℕ, zero, suc, not, nat_eq, Bool, true, false, ◌⊎◌, inl, inr, List, [], ◌∷◌, map, filter, length, get_or, refl, arith, ap, sym, subst, ◌∙◌}
+use Rattle.std.proofs.Common.{◌≡◌, ◌<◌, ◌+◌, ℕ, zero, suc, not, nat_eq, Bool, true, false, inl, inr, List, [], ◌∷◌, map, filter, length, get_or, refl, arith, ap, subst}
 use Rattle.std.specs.List.{enumerate_from, list_any, range_with_len, remove}
 use Rattle.std.proofs.lemmas.Bool.{cases_Bool}
 use Rattle.std.proofs.lemmas.Bool.Decides.{nat_tests}

@@ -1,8 +1,6 @@
 -- Where the kinds TooMany and Unknown name nothing, streams go between components that are there.
-use Rattle.std.proofs.Common.{◌≡◌, ◌≤◌, ◌<◌, ◌+◌, ◌⊎◌, inl, inr, not, ℕ, zero, suc, nat_lt, nat_eq, Bool, true, false, is_none, Option, None, Some, List, length, map, get_or, refl, arith, ap, sym, subst, ◌∙◌}
-use Rattle.std.specs.Option.{option_and_then}
-use Rattle.std.proofs.lemmas.Bool.{cases_Bool, true≢false}
-use Rattle.std.proofs.lemmas.Bool.Decides.{nat_tests}
+use Rattle.std.proofs.Common.{◌≡◌, ◌≤◌, ◌<◌, ◌+◌, not, ℕ, zero, suc, false, is_none, None, Some, List, length, map, get_or, refl, arith, subst}
+use Rattle.std.proofs.lemmas.Bool.{true≢false}
 use Rattle.blz_value.specs.FirstPlace.{first_place}
 use Rattle.blz_value.specs.Members.{Has}
 use Rattle.blz_value.proofs.FirstPlace.{none_bad}
@@ -19,9 +17,9 @@ use Rattle.topo_types.specs.Validity.{written, bad_source, bad_component, bad_st
 use Rattle.topo_types.specs.Validity.TooMany.{has_wide}
 use Rattle.topo_types.specs.Validity.Twice.{names_within}
 use Rattle.topo_types.specs.Validity.Unknown.{misses_port}
-use Rattle.topo_types.specs.Sites.{Site, no_site, port_of, output_of, port_end, output_end}
-use Rattle.topo_types.specs.View.{View, Stream, End, origin_of, ends_of}
-use Rattle.topo_types.specs.ViewOf.{view_of, component_view, source_view, stream_view}
+use Rattle.topo_types.specs.Sites.{no_site, port_of, output_of, port_end, output_end}
+use Rattle.topo_types.specs.View.{End, origin_of, ends_of}
+use Rattle.topo_types.specs.ViewOf.{view_of, component_view}
 use Rattle.topo_types.proofs.NoFault.{no_places, above, at_most, no_source, no_written}
 use Rattle.topo_types.proofs.Numbering.{any-none}
 use Rattle.topo_types.proofs.ViewParts.{sites, attributes, seen, length_streams, each_stream, located}

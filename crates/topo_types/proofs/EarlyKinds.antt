@@ -1,12 +1,11 @@
 -- Where the kinds TooMany, Twice and Unknown name nothing, the components are as the making of a view asks.
-use Rattle.std.proofs.Common.{◌≡◌, ◌≤◌, ◌<◌, ◌+◌, ◌⊎◌, inl, inr, not, ℕ, ℤ, pos, negsuc, nat_lt, nat_le, nat_eq, Bool, true, false, Option, None, Some, List, length, take, get_or, refl, arith, ap, sym, subst, ◌∙◌}
+use Rattle.std.proofs.Common.{◌≡◌, ◌≤◌, ◌<◌, ◌+◌, inl, inr, not, ℕ, ℤ, pos, negsuc, nat_eq, true, false, Option, None, Some, List, length, take, get_or, refl, arith, ap, sym, subst, ◌∙◌}
 use Rattle.std.specs.List.{All}
 use Rattle.std.proofs.lemmas.Bool.Decides.{nat_tests}
 use Rattle.std.proofs.lemmas.List.{get_or_default}
 use Rattle.blz_value.specs.FirstPlace.{first_place}
 use Rattle.blz_value.proofs.FirstPlace.{none_bad}
 use Rattle.bloom_ast.specs.declared.program.Program.{Program}
-use Rattle.bloom_ast.specs.declared.program.Program.TheVariants as program
 use Rattle.bloom_ast.specs.Form.{Accepted}
 use Rattle.bloom_ast.specs.Program.{IsStock}
 use Rattle.bloom_ast.proofs.Firsts.{bad_number}

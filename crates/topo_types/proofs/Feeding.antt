@@ -1,29 +1,25 @@
 -- Regions by feeders are the regions.
-use Rattle.std.proofs.Common.{◌≡◌, ◌≤◌, ◌<◌, ◌+◌, ◌⊎◌, inl, inr, ℕ, zero, suc, not, ◌&&◌, nat_lt, nat_eq, Bool, true, false, if◌then◌else◌, is_some, Option, None, Some, List, [], ◌∷◌, map, length, get_or, refl, arith, rules, ap, sym, subst, ◌∙◌, bit_or}
-use Rattle.std.specs.List.{list_any, find, range_with_len}
+use Rattle.std.proofs.Common.{◌≡◌, ◌<◌, ◌⊎◌, inl, inr, ℕ, not, ◌&&◌, nat_eq, Bool, true, false, is_some, Option, None, Some, List, [], ◌∷◌, map, length, refl, arith, rules, ap, sym, subst, ◌∙◌, bit_or}
 use Rattle.std.specs.Option.{option_map_or}
-use Rattle.std.proofs.lemmas.Bool.{cases_Bool, true≢false, or_cases}
+use Rattle.std.proofs.lemmas.Bool.{cases_Bool, true≢false}
 use Rattle.std.proofs.lemmas.Bool.Decides.{nat_tests}
 use Rattle.fd_closure.specs.declared.attrs.Fd.{Fd}
-use Rattle.fd_closure.specs.Bits.{bit_of, meets}
-use Rattle.fd_closure.specs.Closure.{within, closure, IsClosed, IsLeastClosed}
-use Rattle.fd_closure.proofs.Within.{within-trans, within-empty, within-or_l, within-or_r, or-within}
-use Rattle.fd_closure.proofs.Members.{meets-within, within-meets, in-within, in-or}
+use Rattle.fd_closure.specs.Bits.{bit_of}
+use Rattle.fd_closure.specs.Closure.{within, closure, IsClosed}
+use Rattle.fd_closure.proofs.Within.{within-empty, or-within}
+use Rattle.fd_closure.proofs.Members.{meets-within, within-meets, in-within}
 use Rattle.fd_closure.proofs.Least.{closure-least}
 use Rattle.fd_closure.proofs.Reached.{least-one, closed-map}
 use Rattle.blz_value.specs.Members.{Has}
 use Rattle.blz_value.proofs.Membership.{Has-map, Has-from_map, Has-filter, Has-from_filter, Has-flat_map, Has-from_flat_map, Has-from_any, any_from_Has}
-use Rattle.bloom_ast.specs.Reads.{arrow_from, with_all, bit_if}
+use Rattle.bloom_ast.specs.Reads.{with_all, bit_if}
 use Rattle.bloom_ast.proofs.Chosen.{in_chosen, from_chosen}
-use Rattle.topo_types.specs.Code.Feeders.{counts_into, sender_of, feeders, feeder_arrow, feeder_arrows, is_blocked_by}
+use Rattle.topo_types.specs.Code.Feeders.{counts_into, sender_of, feeders, feeder_arrow, feeder_arrows}
 use Rattle.topo_types.specs.Code.Found.{HasEnds}
-use Rattle.topo_types.specs.Graph.{Edge, arrow, arrows, is_in, up, is_blocked}
+use Rattle.topo_types.specs.Graph.{Edge, arrow, arrows, is_in}
 use Rattle.topo_types.specs.Regions.{edges, edges_of, counting_ends}
-use Rattle.topo_types.specs.Sets.{below}
 use Rattle.topo_types.specs.View.{View, End, origin_of, ends_of, is_order, goes_into, stream_numbers, component_numbers}
-use Rattle.topo_types.proofs.Numbering.{any-none}
-use Rattle.topo_types.proofs.RegionOrder.{where_same}
-use Rattle.topo_types.proofs.Spreading.{from_below, in_below, same_truth, both_true, and_true}
+use Rattle.topo_types.proofs.Spreading.{from_below, in_below, both_true, and_true}
 
 pub not_true : (b : Bool) → not b ≡ true → b ≡ false
 not_true true e = absurd (true≢false (sym e))

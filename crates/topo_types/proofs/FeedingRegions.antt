@@ -1,8 +1,8 @@
 -- The regions that are found by feeders are the regions of the view.
-use Rattle.std.proofs.Common.{◌≡◌, ◌≤◌, ◌<◌, ◌⊎◌, inl, inr, ℕ, zero, suc, not, ◌&&◌, ◌||◌, nat_lt, nat_eq, Bool, true, false, if◌then◌else◌, Option, None, Some, List, [], ◌∷◌, map, length, get_or, refl, arith, ap, sym, subst, ◌∙◌, bit_or}
+use Rattle.std.proofs.Common.{◌≡◌, ◌<◌, inl, inr, ℕ, zero, suc, not, ◌&&◌, ◌||◌, nat_lt, nat_eq, Bool, true, false, if◌then◌else◌, Option, None, Some, List, [], ◌∷◌, map, length, get_or, refl, arith, ap, sym, subst, ◌∙◌, bit_or}
 use Rattle.std.specs.List.{list_any, find}
-use Rattle.std.proofs.lemmas.Bool.{cases_Bool, true≢false, or_cases}
-use Rattle.fd_closure.specs.Bits.{bit_of, meets, members}
+use Rattle.std.proofs.lemmas.Bool.{cases_Bool, true≢false}
+use Rattle.fd_closure.specs.Bits.{bit_of, members}
 use Rattle.fd_closure.specs.Closure.{within}
 use Rattle.fd_closure.proofs.Members.{in-within, in-or}
 use Rattle.blz_value.specs.Members.{Has}
@@ -13,7 +13,7 @@ use Rattle.topo_types.specs.Graph.{Edge, arrows, is_in, up, together, region, is
 use Rattle.topo_types.specs.Regions.{edges}
 use Rattle.topo_types.specs.Sets.{below}
 use Rattle.topo_types.specs.View.{View}
-use Rattle.topo_types.proofs.Feeding.{not_true, false_not, same_number, own_number, edge-feeds, feeder-edge, feeders-within, bounds_of, closure-same}
+use Rattle.topo_types.proofs.Feeding.{not_true, same_number, own_number, edge-feeds, feeder-edge, feeders-within, bounds_of, closure-same}
 use Rattle.topo_types.proofs.Numbering.{any-none, find-some}
 use Rattle.topo_types.proofs.RegionOrder.{where_same}
 use Rattle.topo_types.proofs.Tables.{at_below}

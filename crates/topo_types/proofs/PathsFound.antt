@@ -1,21 +1,20 @@
 -- What is found of paths is what carried seals say.
-use Rattle.std.proofs.Common.{◌≡◌, ◌<◌, ◌≤◌, inl, inr, ℕ, nat_lt, Bool, true, false, ◌&&◌, if◌then◌else◌, Option, None, Some, List, [], ◌∷◌, map, filter, length, refl, arith, ap, sym, ◌∙◌}
-use Rattle.std.specs.List.{enumerate_from, list_all, range_with_len, zip}
+use Rattle.std.proofs.Common.{◌≡◌, ◌<◌, inl, inr, ℕ, nat_lt, Bool, ◌&&◌, if◌then◌else◌, Option, None, Some, List, [], ◌∷◌, map, filter, length, refl, arith, ap, ◌∙◌}
+use Rattle.std.specs.List.{enumerate_from, list_all, zip}
 use Rattle.std.specs.Option.{option_and_then}
 use Rattle.std.proofs.lemmas.Bool.{cases_Bool}
 use Rattle.fd_closure.specs.declared.attrs.Attrs.{Attrs}
 use Rattle.fd_closure.specs.declared.attrs.Fd.{Fd}
 use Rattle.fd_closure.specs.Bits.{bit_of, meets}
 use Rattle.fd_closure.specs.Closure.{within, closure}
-use Rattle.blz_value.specs.Members.{Has}
 use Rattle.bloom_ast.specs.Reads.{arrow_from, with_all, bit_if}
 use Rattle.topo_types.specs.declared.graph.paths.Path.{Path}
 use Rattle.topo_types.specs.Carried.{is_key, allows_notes, may_carry, streams_behind, streams_towards, carriers, carries_key, key_before, carries}
 use Rattle.topo_types.specs.Code.Found.{HasEnds, usable_at}
-use Rattle.topo_types.specs.Code.Paths.{fds_by, path_from, path_by, paths_by, passes_by, start_by, arrow_by, carriers_by, carried_if, carried_by}
+use Rattle.topo_types.specs.Code.Paths.{fds_by, path_from, path_by, paths_by, start_by, arrow_by, carriers_by, carried_if, carried_by}
 use Rattle.topo_types.specs.Dependencies.{is_usable, usable_fds}
 use Rattle.topo_types.specs.Graph.{is_in}
-use Rattle.topo_types.specs.Sets.{set_of_numbers, spreading, spread}
+use Rattle.topo_types.specs.Sets.{set_of_numbers, spreading}
 use Rattle.topo_types.specs.View.{View, End, origin_of, stream_at, output_at, own_attrs, has_body, has_stream, mode_of, mode_key, ports_towards, stream_numbers}
 use Rattle.topo_types.proofs.Spreading.{from_below}
 use Rattle.topo_types.proofs.Tables.{placed, map_on, where-is}

@@ -1,7 +1,7 @@
 -- The first place at which a test holds; where it holds nowhere, the length.
-use Rattle.std.proofs.Common.{◌≡◌, ◌≤◌, ◌<◌, inl, inr, ℕ, suc, not, nat_lt, Bool, true, false, cond, Option, None, Some, List, [], ◌∷◌, map, length, unwrap_or, refl, arith, ap, sym, ◌∙◌}
+use Rattle.std.proofs.Common.{◌≡◌, ◌≤◌, inl, inr, nat_lt, Bool, List, [], ◌∷◌, map, length, unwrap_or, refl, arith, ◌∙◌}
 use Rattle.std.specs.Prelude.{position}
-use Rattle.std.specs.List.{position_or_len, prefix_len}
+use Rattle.std.specs.List.{position_or_len}
 use Rattle.std.specs.Str.{bytes_eq}
 use Rattle.std.proofs.lemmas.Bool.{cases_Bool}
 use Rattle.std.proofs.lemmas.Bool.Decides.{nat_tests}

@@ -1,9 +1,8 @@
 -- The regions that are found are those of the view.
-use Rattle.std.proofs.Common.{◌≡◌, ◌<◌, ◌≤◌, ◌+◌, ℕ, zero, suc, Bool, Option, None, Some, List, [], ◌∷◌, map, length, get_or, refl, arith, ap, sym, ◌∙◌, bit_or}
-use Rattle.std.specs.List.{enumerate_from, position_or_len, range_with_len}
+use Rattle.std.proofs.Common.{◌≡◌, ◌≤◌, ℕ, zero, suc, Bool, Option, None, Some, List, [], ◌∷◌, map, length, get_or, arith, ap, sym, ◌∙◌, bit_or}
+use Rattle.std.specs.List.{enumerate_from, position_or_len}
 use Rattle.std.proofs.lemmas.List.FromFn.{length-map-range_with_len}
-use Rattle.fd_closure.specs.declared.attrs.Fd.{Fd}
-use Rattle.topo_types.specs.Code.Feeders.{feeders, all_feeders, feeder_arrow, feeder_arrows, feeding_arrow, ups_by, all_regions, sets_by, region_by, next_by, regions_by, is_cyclic_by}
+use Rattle.topo_types.specs.Code.Feeders.{feeders, all_feeders, feeder_arrows, feeding_arrow, ups_by, all_regions, sets_by, region_by, next_by, regions_by, is_cyclic_by}
 use Rattle.topo_types.specs.Code.Found.{HasEnds}
 use Rattle.topo_types.specs.Graph.{arrows, is_in, up, region, is_cyclic_set}
 use Rattle.topo_types.specs.Regions.{edges, regions, region_of, region_set, is_in_cycle, is_cyclic}

@@ -1,6 +1,5 @@
 -- From one component to the next: the first place, the attributes and the replicas.
 use Rattle.std.proofs.Common.{◌≡◌, ◌<◌, ◌+◌, ℕ, Bool, true, false, Option, Some, List, [], ◌∷◌, ◌++◌, length, take, drop, get_or, refl, arith, ap, sym, ◌∙◌}
-use Rattle.std.specs.List.{flat_map}
 use Rattle.std.proofs.lemmas.Grind.{flat_map-append}
 use Rattle.std.proofs.lemmas.List.{take_more, get_or-map, append-nil, length-map}
 use Rattle.std.proofs.lemmas.List.Sums.{sum_by-append, fold-append}

@@ -1,5 +1,4 @@
 -- In a valid topology streams go between components that are there.
-use Rattle.std.proofs.Common.{◌≡◌, ◌<◌, ◌≤◌, length}
 use Rattle.topo_types.specs.Code.Found.{HasEnds}
 use Rattle.topo_types.specs.Valid.{IsValid}
 use Rattle.topo_types.specs.View.{View}

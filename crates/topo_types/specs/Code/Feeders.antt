@@ -4,7 +4,7 @@ use Rattle.std.specs.List.{list_any, find, enumerate_from}
 use Rattle.std.specs.Option.{option_map_or}
 use Rattle.fd_closure.specs.declared.attrs.Fd.{Fd}
 use Rattle.fd_closure.specs.Bits.{bit_of, members}
-use Rattle.fd_closure.specs.Closure.{within, closure}
+use Rattle.fd_closure.specs.Closure.{within}
 use Rattle.bloom_ast.specs.Reads.{arrow_from, with_all, bit_if}
 use Rattle.topo_types.specs.Graph.{is_in, up}
 use Rattle.topo_types.specs.Sets.{below, set_where}

@@ -1,5 +1,5 @@
 -- Streams as dependencies look at them, and what is found of them.
-use Rattle.std.specs.Prelude.{ℕ, ◌&&◌, ◌||◌, not, is_none, Bool, true, false, Option, None, Some, List, map, length, slice_index_or, bit_or}
+use Rattle.std.specs.Prelude.{ℕ, ◌&&◌, ◌||◌, not, Bool, true, false, Option, None, Some, List, map, slice_index_or, bit_or}
 use Rattle.std.specs.List.{enumerate_from}
 use Rattle.fd_closure.specs.declared.attrs.Fd.{Fd}
 use Rattle.fd_closure.specs.Closure.{within, closure}
@@ -7,7 +7,7 @@ use Rattle.bloom_ast.specs.Reads.{arrow_from, with_all, bit_if}
 use Rattle.topo_types.specs.declared.graph.lines.Line.{Line}
 use Rattle.topo_types.specs.Data.{has_both}
 use Rattle.topo_types.specs.Graph.{is_in}
-use Rattle.topo_types.specs.Sets.{below, set_of_numbers}
+use Rattle.topo_types.specs.Sets.{set_of_numbers}
 use Rattle.topo_types.specs.View.{View, End, origin_of, is_order, has_body, output_at, own_attrs, stream_attrs, streams_into, stream_numbers, component_numbers}
 
 -- the streams into a component

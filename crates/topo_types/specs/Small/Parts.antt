@@ -1,7 +1,7 @@
 -- What a topology says of its parts by their names, where components run elsewhere. This page serves small topologies, and goes with them: Sites stands in its place.
 use Rattle.std.specs.Prelude.{List, [], Option}
 use Rattle.std.specs.List.{find, flat_map}
-use Rattle.std.specs.Option.{option_map, option_and_then}
+use Rattle.std.specs.Option.{option_and_then}
 use Rattle.std.specs.Str.{bytes_eq}
 use Rattle.bloom_ast.specs.Query.{Name}
 use Rattle.topo_types.specs.declared.topology.SourceEntry.{SourceEntry}

@@ -1,9 +1,7 @@
 -- The kind Twice of a small topology. This page goes with small topologies: Validity.Twice stands in its place.
-use Rattle.std.specs.Prelude.{◌||◌, not, Bool, List, map}
-use Rattle.std.specs.List.{list_any}
+use Rattle.std.specs.Prelude.{◌||◌, not, Bool, List}
 use Rattle.topo_types.specs.declared.topology.SourceEntry.{SourceEntry}
 use Rattle.topo_types.specs.declared.topology.ComponentEntry.{ComponentEntry}
-use Rattle.topo_types.specs.declared.topology.Side.{Side}
 use Rattle.topo_types.specs.Small.Parts.{ports_of, outputs_of}
 use Rattle.topo_types.specs.Validity.Twice.{names_are_distinct, spots_are_distinct, notes_are_distinct, sides_are_distinct, repeats_column, has_source, has_component}
 

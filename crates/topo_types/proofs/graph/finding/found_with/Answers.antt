@@ -1,6 +1,5 @@
-use Rattle.std.proofs.Common.{◌≡◌, map, length, ℕ, Bool, Option, List, sym, ◌∙◌}
+use Rattle.std.proofs.Common.{◌≡◌, map, length, ◌∙◌}
 use Rattle.std.specs.List.{enumerate_from}
-use Rattle.fd_closure.specs.declared.attrs.Attrs.{Attrs}
 use Rattle.topo_types.specs.Carried.{carries}
 use Rattle.topo_types.specs.Code.Found.{usable_at}
 use Rattle.topo_types.specs.Code.Lines.{all_into, lines_by, upholders_by, good_set, usable_by}

@@ -1,4 +1,4 @@
-use Rattle.std.proofs.Common.{◌≡◌, ◌≤◌, map, length, ℕ, Bool, List, refl, arith, ap, sym, ◌∙◌}
+use Rattle.std.proofs.Common.{◌≡◌, ◌≤◌, map, length, ℕ, List, refl, arith, ap, sym, ◌∙◌}
 use Rattle.std.specs.List.{position_or_len}
 use Rattle.topo_types.specs.Code.Feeders.{all_feeders, sets_by, regions_by, is_cyclic_by}
 use Rattle.topo_types.specs.Graph.{is_in}

@@ -1,4 +1,4 @@
-use Rattle.std.proofs.Common.{◌≡◌, ◌+◌, ◌-◌, ◌++◌, ◌∙◌, sym, suc, arith, None, Some, append_assoc, append-nil}
+use Rattle.std.proofs.Common.{◌≡◌, ◌+◌, ◌-◌, ◌∙◌, sym, suc, arith, None, Some, append_assoc, append-nil}
 use Rattle.topo_types.specs.Code.Feeders.{next_by}
 use Rattle.topo_types.proofs.graph.regions.walk.Goals as goal
 

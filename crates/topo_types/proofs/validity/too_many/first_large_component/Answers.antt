@@ -1,5 +1,4 @@
-use Rattle.std.proofs.Common.{◌≡◌, ◌≤◌, ◌+◌, ℕ, Bool, true, false, get_or, arith, sym, ◌∙◌}
-use Rattle.topo_types.specs.Validity.TooMany.{too_many_component}
+use Rattle.std.proofs.Common.{arith, sym, ◌∙◌}
 use Rattle.topo_types.proofs.SizeLemmas.{found, passed, tested, attributes_next, replicas_next}
 use Rattle.topo_types.proofs.validity.too_many.first_large_component.Goals as goal
 

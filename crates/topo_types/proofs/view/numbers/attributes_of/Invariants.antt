@@ -1,4 +1,4 @@
-use Rattle.std.proofs.Common.{◌≡◌, map, take}
+use Rattle.std.proofs.Common.{◌≡◌, take}
 use Rattle.path_annotate.specs.HeadRoots.{attribute_roots}
 use Rattle.topo_types.proofs.view.numbers.attributes_of.Given as goal
 

@@ -6,3 +6,5 @@ pub mod Feeders
 pub mod Lines
 pub mod Paths
 pub mod Found
+pub mod OfView
+pub mod Validating

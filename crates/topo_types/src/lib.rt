@@ -9,6 +9,7 @@ mod mode;
 mod small;
 mod topology;
 mod valid;
+mod validation;
 mod validity;
 mod view;
 
@@ -23,3 +24,4 @@ pub use topology::{
     Spot, Stock, StreamEntry, Topology,
 };
 pub use valid::{Valid, carries, upholds, usable};
+pub use validation::validate;

@@ -9,6 +9,7 @@ ghost use Rattle.topo_types.specs.Validity.{AreFew, IsOfNames};
 ghost use Rattle.topo_types.specs.declared.fault.TopoKind.TheVariants.{TooMany};
 
 pub(crate) mod columns;
+pub(crate) mod of_view;
 pub(crate) mod spots;
 pub(crate) mod too_many;
 pub(crate) mod twice;
@@ -30,6 +31,7 @@ use std::alloc::{AllocError, Global};
 
 /// What the kinds before ReplicaMismatch look at: a topology, its components with their bodies, and
 /// the names of its attributes.
+#[derive(Drop)]
 pub(crate) struct Parts<'p, 'a> {
     pub(crate) topology: &'p Topology,
     pub(crate) sites: &'p [Site<'a>],

@@ -123,8 +123,8 @@ fn outputs_of(
 
 // ---- notes
 
-// The notes that a body gives, None where there is none.
-fn derived_notes(
+/// The notes that a body gives, None where there is none.
+pub(crate) fn derived_notes(
     alloc: Global,
     names: &AttrNames,
     site: &Site<'_>,
@@ -151,9 +151,9 @@ fn declared_note(names: &AttrNames, notes: &[Declared], port: &Str, output: &Str
     }
 }
 
-// The note that a body gives a path.
+/// The note that a body gives a path.
 #[tactic(auto, using(crate::proofs::BuiltSites::none_derived))]
-fn derived_note(
+pub(crate) fn derived_note(
     names: &AttrNames,
     site: &Site<'_>,
     derived: &Option<Notes>,

@@ -1,8 +1,9 @@
 -- What a validation knows once no fault of size or of names is found.
-use Rattle.std.proofs.Common.{◌≡◌, ◌≤◌, ◌<◌, inl, inr, refl, Option, None, Some, Bool, List, length, map, arith, ap, sym, subst, ◌∙◌}
+use Rattle.std.proofs.Common.{◌≡◌, ◌≤◌, ◌<◌, inl, inr, refl, Option, None, Some, Result, Ok, Err, Bool, List, length, map, arith, ap, sym, subst, ◌∙◌}
 use Rattle.std.specs.List.{All}
 use Rattle.std.specs.Option.{option_or}
 use Rattle.std.proofs.lemmas.List.{length-map}
+use Rattle.std.proofs.lemmas.List.FromFn.{length-range_with_len}
 use Rattle.bloom_ast.specs.Form.{Accepted}
 use Rattle.bloom_ast.specs.Query.{Name}
 use Rattle.topo_types.specs.declared.fault.TopoKind.TheVariants as kind
@@ -12,9 +13,14 @@ use Rattle.topo_types.specs.declared.view.sites.Site as held
 use Rattle.topo_types.specs.Code.Built.{sites_seen, site_seen, IsBuilt}
 use Rattle.topo_types.specs.Code.Found.{HasEnds}
 use Rattle.topo_types.specs.Code.OfView.{HasKnownNotes}
-use Rattle.topo_types.specs.Code.Validating.{early_fault, view_fault, IsNamed}
+use Rattle.topo_types.specs.Code.Validating.{early_fault, view_fault, IsNamed, Names}
 use Rattle.topo_types.specs.Sites.{Site, sites_of, attributes_in}
 use Rattle.topo_types.specs.declared.fault.TopoFault.{TopoFault}
+use Rattle.topo_types.specs.declared.fault.ValidFault.{ValidFault}
+use Rattle.topo_types.specs.declared.fault.ValidFault.TheVariants.{Bad, NoMemory}
+use Rattle.topo_types.specs.Regions.{is_in_cycle}
+use Rattle.topo_types.specs.Valid.{Validated}
+use Rattle.topo_types.specs.Validation.{Validates}
 use Rattle.topo_types.specs.Code.Named.{of_names, sized}
 use Rattle.topo_types.specs.Validity.{AreFew, fault_of, kind_fault, fault_in, kinds_of_names}
 use Rattle.topo_types.specs.View.{View, component_numbers}
@@ -40,6 +46,12 @@ as_many components modules sites is = sym (length-map sites site_seen) ∙ ap le
 pub early_fault_is : (t : Topology) (modules : List Accepted) (sites : List held.Site) → sites_seen sites ≡ sites_of t.components modules
     → (f : TopoFault) → early_fault t (sites_seen sites) ≡ Some f → fault_of t modules ≡ Some f
 early_fault_is t modules sites is f e = early_is t modules f (ap (early_fault t) (sym is) ∙ e)
+
+-- and it is the answer
+pub names_answer : (t : Topology) (modules : List Accepted) (sites : List held.Site) → sites_seen sites ≡ sites_of t.components modules
+    → (e : ValidFault) → Names t (sites_seen sites) (Err e) → (r : Result Validated ValidFault) → r ≡ Err e → Validates t modules r
+names_answer t modules sites is (Bad f) found r e = subst (Validates t modules) (sym e) (early_fault_is t modules sites is f found)
+names_answer t modules sites is NoMemory found r e = subst (Validates t modules) (sym e) tt
 
 module _ (t : Topology) (modules : List Accepted) (sites : List held.Site) (is : sites_seen sites ≡ sites_of t.components modules) (names : List Name) (named : IsNamed t (sites_seen sites) names) where
   clean : early_fault t (sites_of t.components modules) ≡ None
@@ -70,6 +82,10 @@ module _ (t : Topology) (modules : List Accepted) (sites : List held.Site) (is :
 
     pub each_component : length v.components ≡ length sites
     each_component = ap (λ (x : View). length x.components) made ∙ length-map (sites_seen sites) (component_view names) ∙ length-map sites site_seen
+
+    -- each component is told of
+    pub each_told : (cycles : List Bool) → cycles ≡ map (is_in_cycle v) (component_numbers v) → length cycles ≡ length sites
+    each_told cycles told = ap length told ∙ length-map (component_numbers v) (is_in_cycle v) ∙ length-range_with_len 0 (length v.components) ∙ each_component
 
     -- the first fault is that of the view
     pub fault_is : (o : Option TopoFault) → o ≡ view_fault t (sites_seen sites) v → fault_of t modules ≡ o

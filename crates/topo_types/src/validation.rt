@@ -90,6 +90,32 @@ fn known(modules: &[Checked])
     }
 }
 
+// The topology with its view, or the first fault of the view, where there is none of size or of
+// names, and these are the components with their bodies and the names of the attributes.
+fn valid_of(
+    alloc: Global,
+    topology: &Topology,
+    modules: &[Checked],
+    sites: &[Site<'_>],
+    names: AttrNames,
+) -> Result<Valid, ValidFault>
+    requires each { length modules.now ≡ length (filter_map needs_module topology.now.components) }
+    requires allowed { IsAllowed topology.now }
+    requires sites { sites_seen sites.now ≡ sites_spec.sites_of topology.now.components modules.now }
+    requires named { code.IsNamed topology.now (sites_seen sites.now) names }
+    ensures { Validates topology.now modules.now result }
+{
+    let kept = parts_of(alloc, topology, sites, names)?;
+    let regions = regions_of(alloc, &kept)?;
+    let fault = view_fault(alloc, topology, sites, &kept, &regions.cycles)?;
+    if let Some(fault) = fault {
+        return Err(ValidFault::Bad(fault));
+    }
+    known(modules);
+    let found = found_with(alloc, &kept, regions)?;
+    Ok(Valid::new(topology.copied(alloc)?, kept, found))
+}
+
 /// The topology with its view, or its first fault: the first kind that holds, at its first place.
 /// The modules are those of the components with one, in their order. The error is that fault or
 /// want of memory.
@@ -104,13 +130,5 @@ pub fn validate(
 {
     let sites = sites_of(alloc, topology.components.as_slice(), modules)?;
     let names = names_of(alloc, topology, &sites)?;
-    let kept = parts_of(alloc, topology, &sites, names)?;
-    let regions = regions_of(alloc, &kept)?;
-    let fault = view_fault(alloc, topology, &sites, &kept, &regions.cycles)?;
-    if let Some(fault) = fault {
-        return Err(ValidFault::Bad(fault));
-    }
-    known(modules);
-    let found = found_with(alloc, &kept, regions)?;
-    Ok(Valid::new(topology.copied(alloc)?, kept, found))
+    valid_of(alloc, topology, modules, &sites, names)
 }

@@ -17,7 +17,7 @@ ghost use Rattle.topo_types.specs.Validity.{AreFew};
 ghost use Rattle.topo_types.specs.View.{component_numbers};
 
 use crate::fault::{TopoFault, TopoKind, ValidFault};
-use crate::graph::found::{found_with, regions_of};
+use crate::graph::finding::{found_with, regions_of};
 use crate::kept::Kept;
 use crate::topology::Topology;
 use crate::valid::Valid;

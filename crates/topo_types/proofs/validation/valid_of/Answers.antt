@@ -2,6 +2,7 @@ use Rattle.std.proofs.Common.{◌≡◌, ◌∙◌, None, Some, length, map, ap,
 use Rattle.blz_value.proofs.Membership.{All-of_member}
 use Rattle.bloom_ast.specs.Checks.{IsChecked}
 use Rattle.bloom_ast.specs.Form.{Accepted}
+use Rattle.topo_types.specs.Code.Bounded.{IsBounded}
 use Rattle.topo_types.specs.Kept.{view_kept}
 use Rattle.topo_types.specs.Regions.{is_in_cycle}
 use Rattle.topo_types.specs.Sites.{sites_of}
@@ -10,6 +11,7 @@ use Rattle.topo_types.specs.Valid.{AreModules, IsWhole, Validated}
 use Rattle.topo_types.specs.Validity.{fault_of}
 use Rattle.topo_types.specs.View.{View, component_numbers}
 use Rattle.topo_types.specs.ViewOf.{view_of}
+use Rattle.topo_types.proofs.ViewBounds.{view_bounded}
 use Rattle.topo_types.proofs.ValidatingLemmas as lemmas
 use Rattle.topo_types.proofs.WholeLemmas as lemmas'
 use Rattle.topo_types.proofs.validation.valid_of.Goals as goal
@@ -51,6 +53,9 @@ new-requires-clause-whole c =
 
 pub new-requires-clause-valid : goal.new-requires-clause-valid
 new-requires-clause-valid c = lemmas'.valid c.args.topology.now c.args.modules.now (view_kept c.in_ok-kept.kept) (view_is c) c.requires.allowed (given c) (clean c)
+
+pub new-requires-clause-bounded : goal.new-requires-clause-bounded
+new-requires-clause-bounded c = subst IsBounded (sym (view_is c)) (view_bounded c.args.topology.now c.args.modules.now (clean c))
 
 pub returns : goal.returns
 returns c = record {

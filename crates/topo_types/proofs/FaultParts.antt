@@ -1,5 +1,5 @@
 -- The first fault of a topology is that of size or of names, and else that of its view.
-use Rattle.std.proofs.Common.{◌≡◌, ◌+◌, ℕ, false, Option, None, Some, List, [], ◌∷◌, ◌++◌, length, refl, ap, sym, ◌∙◌}
+use Rattle.std.proofs.Common.{◌≡◌, ◌+◌, ℕ, false, Option, None, Some, List, [], ◌∷◌, ◌++◌, length, refl, ap, ◌∙◌}
 use Rattle.std.specs.Option.{option_or}
 use Rattle.blz_value.specs.FirstPlace.{first_place}
 use Rattle.blz_value.specs.Members.{Has}

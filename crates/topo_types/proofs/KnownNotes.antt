@@ -1,5 +1,5 @@
 -- Where the kind Unknown names nothing, each note is of a port and of an output that are there.
-use Rattle.std.proofs.Common.{◌≡◌, ◌<◌, not, ℕ, false, Option, None, List, length, get_or, subst}
+use Rattle.std.proofs.Common.{◌≡◌, ◌<◌, not, ℕ, None, List, length, get_or, subst}
 use Rattle.std.specs.List.{All}
 use Rattle.std.proofs.lemmas.List.{get_or_default}
 use Rattle.blz_value.proofs.Membership.{Has-get_or}

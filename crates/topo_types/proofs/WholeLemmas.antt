@@ -1,9 +1,9 @@
 -- A topology without a fault, with its view, is as a Valid is to be.
-use Rattle.std.proofs.Common.{◌≡◌, Option, None, List, ap, sym, subst, ◌∙◌}
+use Rattle.std.proofs.Common.{◌≡◌, None, List, ap, sym, subst, ◌∙◌}
 use Rattle.bloom_ast.specs.Form.{Accepted}
 use Rattle.topo_types.specs.declared.topology.Topology.{Topology}
 use Rattle.topo_types.specs.Allowed.{IsAllowed}
-use Rattle.topo_types.specs.Valid.{IsValid, IsWhole, IsValidated, AreModules, Validated}
+use Rattle.topo_types.specs.Valid.{IsValid, IsWhole, AreModules}
 use Rattle.topo_types.specs.Validity.{fault_of}
 use Rattle.topo_types.specs.View.{View}
 use Rattle.topo_types.specs.ViewOf.{view_of, modules_in}

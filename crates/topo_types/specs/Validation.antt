@@ -1,5 +1,5 @@
 -- What a validation answers.
-use Rattle.std.specs.Prelude.{◌≡◌, Option, None, Some, List, Result, Ok, Err}
+use Rattle.std.specs.Prelude.{◌≡◌, None, Some, List, Result, Ok, Err}
 use Rattle.bloom_ast.specs.Form.{Accepted}
 use Rattle.topo_types.specs.declared.fault.ValidFault.{ValidFault}
 use Rattle.topo_types.specs.declared.fault.ValidFault.TheVariants.{Bad, NoMemory}

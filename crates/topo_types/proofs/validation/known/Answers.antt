@@ -1,4 +1,4 @@
-use Rattle.std.proofs.Common.{ℕ, below_more, get_or, subst, sym, ◌∙◌}
+use Rattle.std.proofs.Common.{below_more, subst, ◌∙◌}
 use Rattle.std.proofs.lemmas.List.{get_or_default}
 use Rattle.bloom_ast.specs.Checks.{IsChecked}
 use Rattle.bloom_ast.specs.Form.{Accepted}

@@ -1,15 +1,12 @@
-use Rattle.std.proofs.Common.{◌≡◌, ◌∙◌, None, Some, length, map, ap, sym, subst}
+use Rattle.std.proofs.Common.{◌≡◌, ◌∙◌, None, Some, ap, sym, subst}
 use Rattle.blz_value.proofs.Membership.{All-of_member}
 use Rattle.bloom_ast.specs.Checks.{IsChecked}
 use Rattle.bloom_ast.specs.Form.{Accepted}
 use Rattle.topo_types.specs.Code.Bounded.{IsBounded}
 use Rattle.topo_types.specs.Kept.{view_kept}
-use Rattle.topo_types.specs.Regions.{is_in_cycle}
-use Rattle.topo_types.specs.Sites.{sites_of}
 use Rattle.topo_types.specs.declared.topology.Topology.{Topology}
 use Rattle.topo_types.specs.Valid.{AreModules, IsWhole, Validated}
 use Rattle.topo_types.specs.Validity.{fault_of}
-use Rattle.topo_types.specs.View.{View, component_numbers}
 use Rattle.topo_types.specs.ViewOf.{view_of}
 use Rattle.topo_types.proofs.ViewBounds.{view_bounded}
 use Rattle.topo_types.proofs.ValidatingLemmas as lemmas

@@ -1,8 +1,7 @@
-use Rattle.std.proofs.Common.{◌≡◌, ◌∙◌, Err, List, ap, length, subst, sym}
+use Rattle.std.proofs.Common.{◌∙◌, Err, List, ap, length}
 use Rattle.std.proofs.lemmas.Result.{err_from_is_err_and}
 use Rattle.topo_types.specs.declared.fault.ValidFault.{ValidFault}
 use Rattle.topo_types.specs.declared.topology.ComponentEntry.{ComponentEntry}
-use Rattle.topo_types.specs.declared.view.sites.Site as held
 use Rattle.topo_types.specs.Code.Built.{sites_seen}
 use Rattle.topo_types.specs.Sites.{sites_of}
 use Rattle.topo_types.proofs.ValidatingLemmas.{as_many, names_answer}

@@ -1,17 +1,24 @@
 -- What is found of a view, looked up at a number.
-use Rattle.std.proofs.Common.{◌≡◌, ◌<◌, ℕ, Bool, Option, map, length, get_or, arith, ap, ◌∙◌}
-use Rattle.std.specs.List.{range_with_len}
+use Rattle.std.proofs.Common.{◌≡◌, ◌<◌, ℕ, Bool, Option, List, map, length, get_or, arith, ap, ◌∙◌, ◌+◌, inl, inr, ◌∷◌, [], Some, None}
+use Rattle.std.specs.BTreeMap.{BTreeMap, get}
+use Rattle.std.specs.List.{range_with_len, position_from}
+use Rattle.std.specs.Str.{bytes_eq}
+use Rattle.std.proofs.lemmas.Bool.{cases_Bool}
 use Rattle.std.proofs.lemmas.List.{get_or-map, length-map}
 use Rattle.std.proofs.lemmas.List.FromFn.{length-map-range_with_len}
 use Rattle.fd_closure.specs.declared.attrs.Attrs.{Attrs}
 use Rattle.topo_types.specs.declared.graph.found.Found.{Found}
+use Rattle.topo_types.specs.declared.index.Index.{Index}
+use Rattle.bloom_ast.specs.Query.{Name}
 use Rattle.topo_types.specs.Carried.{carries}
 use Rattle.topo_types.specs.Code.Found.{found_of, usable_at}
 use Rattle.topo_types.specs.Dependencies.{upholders, is_usable}
 use Rattle.topo_types.specs.Graph.{is_in}
 use Rattle.topo_types.specs.Regions.{regions, region_of, is_cyclic}
+use Rattle.topo_types.specs.Code.Bounded.{IsBounded}
+use Rattle.topo_types.specs.Code.Index.{IsIndex, name_cmp}
 use Rattle.topo_types.specs.Valid.{IsValid}
-use Rattle.topo_types.specs.View.{View, no_fd, fd_at}
+use Rattle.topo_types.specs.View.{View, no_fd, fd_at, component_at, find_stream, find_component, find_port}
 use Rattle.topo_types.proofs.Tables.{at_below, where-is}
 
 length_below : {X : Type 0} (f : ℕ → X) (n : ℕ) → length (map f (range_with_len 0 n)) ≡ n
@@ -50,3 +57,28 @@ module _ (f : Found) (v : View) (is : f ≡ found_of v) where
   usable_is c n d valid lt within =
       let at : get_or f.usable n d ≡ usable_at v (fd_at v n) = ap (λ (x : Found). get_or x.usable n d) is ∙ get_or-map (usable_at v) v.fds n no_fd d within in
       rw at (where-is (λ b. is_usable v b (fd_at v n)) (length v.components) c (omega (arith, valid.numbered.few_components)) lt)
+
+-- ---- numbers by names
+
+place_within : {X : Type 0} (name_of : X → Name) (at : ℕ) (xs : List X) (name : Name) (k : ℕ) → position_from (λ x. bytes_eq (name_of x) name) at xs ≡ Some k → k < at + length xs
+place_within name_of at [] name k e = let bad : None ≡ Some k = e in cc
+place_within name_of at (x ∷ xs) name k e = elim (cases_Bool (bytes_eq (name_of x) name)) [
+  | inl t ↦ let here : Some at ≡ Some k = rw t at e in let same : at ≡ k = (cc) in omega (arith, same)
+  | inr f ↦ omega (arith, place_within name_of (at + 1) xs name k (rw f at e))
+]
+
+pub stream_found : (v : View) → IsValid v → (name : Name) (k : ℕ) → find_stream v name ≡ Some k → k < 4294967296
+stream_found v valid name k e = omega (arith, valid.numbered.few_streams, place_within (λ s. s.name) 0 v.streams name k e)
+
+pub component_found : (v : View) → IsValid v → (name : Name) (k : ℕ) → find_component v name ≡ Some k → k < 4294967296
+component_found v valid name k e = omega (arith, valid.numbered.few_components, place_within (λ c. c.name) 0 v.components name k e)
+
+pub port_found : (v : View) → IsBounded v → (c : ℕ) (name : Name) (k : ℕ) → c < length v.components → find_port v c name ≡ Some k → k < 4294967296
+port_found v bounded c name k lt e = omega (arith, bounded.ports c lt, place_within (λ p. p.name) 0 (component_at v c).ports name k e)
+
+module _ (v : View) (index : Index) (is : IsIndex v index) where
+  pub ports_within : (c : ℕ) → c < length v.components → c < length index.ports
+  ports_within c lt = omega (arith, lt, is.each)
+
+  pub port_place : (c : ℕ) (d : BTreeMap Name ℕ) (name : Name) → c < length v.components → get name_cmp (get_or index.ports c d) name ≡ find_port v c name
+  port_place c d name lt = is.ports c d name lt

@@ -6,5 +6,6 @@ pub mod Feeders
 pub mod Lines
 pub mod Paths
 pub mod Found
+pub mod Index
 pub mod OfView
 pub mod Validating

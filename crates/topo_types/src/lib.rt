@@ -3,6 +3,7 @@
 
 mod fault;
 mod graph;
+mod index;
 mod kept;
 mod laws;
 mod mode;

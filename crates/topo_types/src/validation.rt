@@ -113,7 +113,8 @@ fn valid_of(
     }
     known(modules);
     let found = found_with(alloc, &kept, regions)?;
-    Ok(Valid::new(topology.copied(alloc)?, kept, found))
+    let copied = topology.copied(alloc)?;
+    Ok(Valid::new(alloc, copied, kept, found)?)
 }
 
 /// The topology with its view, or its first fault: the first kind that holds, at its first place.

@@ -56,7 +56,7 @@ new-requires-clause-bounded c = subst IsBounded (sym (view_is c)) (view_bounded 
 
 pub returns : goal.returns
 returns c = record {
-  topology = ap (λ (seen : Validated). seen.topology) c.new.ensures ∙ c.in_ok-copied.ensures;
-  view = ap (λ (seen : Validated). seen.view) c.new.ensures ∙ lemmas.view_is c.args.topology.now c.args.modules.now c.args.sites.now c.requires.sites c.args.names c.requires.named (view_kept c.in_ok-kept.kept) c.in_ok-kept.ensures;
+  topology = ap (λ (seen : Validated). seen.topology) c.in_ok-new.ensures ∙ c.in_ok-copied.ensures;
+  view = ap (λ (seen : Validated). seen.view) c.in_ok-new.ensures ∙ lemmas.view_is c.args.topology.now c.args.modules.now c.args.sites.now c.requires.sites c.args.names c.requires.named (view_kept c.in_ok-kept.kept) c.in_ok-kept.ensures;
   clean = lemmas.fault_is c.args.topology.now c.args.modules.now c.args.sites.now c.requires.sites c.args.names c.requires.named (view_kept c.in_ok-kept.kept) c.in_ok-kept.ensures None (sym c.in_default.is ∙ c.in_ok-fault.ensures);
 }

@@ -16,7 +16,7 @@ mod view;
 
 pub use fault::{TopoFault, TopoKind, TopoPlace, ValidFault};
 pub use fd_closure::{AttrNames, Attrs, Fd};
-pub use laws::{carried_law, other_modes_law, regions_law, valid_law};
+pub use laws::{carried_law, other_modes_law, regions_law, valid_law, with_mode_law};
 pub use mode::Mode;
 pub use path_annotate::Note;
 pub use small::first_fault;

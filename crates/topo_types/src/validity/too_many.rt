@@ -56,8 +56,8 @@ pub(crate) fn are_many(sides: &[Side]) -> bool
     sides.len() > MOST_SIDES
 }
 
-// Adds the columns in turn, and answers whether all had room.
-fn add_columns(names: &mut AttrNames, columns: &[Str]) -> Result<bool, AllocError>
+/// Adds the columns in turn, and answers whether all had room.
+pub(crate) fn add_columns(names: &mut AttrNames, columns: &[Str]) -> Result<bool, AllocError>
     requires { length names.old ≤ 64 }
     ensures fit { IfOk result (λ fit. fit ≡ nat_le (length (attributes.with_columns names.old columns.now)) 64) }
     ensures added { IfOk result (λ fit. IsTrue fit → names.new ≡ attributes.with_columns names.old columns.now) }

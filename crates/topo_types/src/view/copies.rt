@@ -15,15 +15,22 @@ pub(crate) trait Copied: Drop + Sized {
         ensures { IfOk result (λ copy. copy ≡ self.now) };
 }
 
-/// Equal items of their own.
-pub(crate) fn copy_all<T: Copied>(alloc: Global, items: &[T]) -> Result<Items<T>, AllocError>
-    ensures { IfOk result (λ copies. copies ≡ items.now) }
+/// Equal items of their own, in a list that can be changed.
+pub(crate) fn copies_of<T: Copied>(alloc: Global, items: &[T]) -> Result<Vec<T>, AllocError>
+    ensures { IfOk result (λ copies. copies.items ≡ items.now) }
 {
     let mut copies = Vec::new(alloc);
     for item in items {
         copies.push(item.copied(alloc)?)?;
     }
-    Ok(Items::from_vec(copies))
+    Ok(copies)
+}
+
+/// Equal items of their own.
+pub(crate) fn copy_all<T: Copied>(alloc: Global, items: &[T]) -> Result<Items<T>, AllocError>
+    ensures { IfOk result (λ copies. copies ≡ items.now) }
+{
+    Ok(Items::from_vec(copies_of(alloc, items)?))
 }
 
 impl Copied for Str {

@@ -1,5 +1,5 @@
 -- A list in which one element is altered, and what doesn't see that.
-use Rattle.std.proofs.Common.{◌≡◌, ◌≢◌, ◌<◌, ◌++◌, ◌||◌, ℕ, zero, suc, Bool, true, false, cond, Option, None, Some, List, [], ◌∷◌, length, map, take, get_or, refl, arith, ap}
+use Rattle.std.proofs.Common.{◌≡◌, ◌≢◌, ◌<◌, ◌++◌, ◌||◌, ℕ, zero, suc, Bool, true, false, cond, Option, Some, List, [], ◌∷◌, length, map, take, get_or, refl, arith, ap}
 use Rattle.std.specs.Prelude.{slice_set}
 use Rattle.std.specs.List.{find, flat_map, filter_map, fold, list_any, position_or_len}
 use Rattle.std.specs.Option.{option_and_then}

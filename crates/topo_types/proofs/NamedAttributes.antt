@@ -1,21 +1,20 @@
 -- The attributes of an allowed topology are names.
-use Rattle.std.proofs.Common.{◌≡◌, ◌&&◌, inl, inr, Bool, true, false, cond, if◌then◌else◌, is_some, List, [], ◌∷◌, ◌++◌, ℕ, codes, length, map, get_or, refl, ap, sym, subst, ◌∙◌}
+use Rattle.std.proofs.Common.{◌≡◌, inl, inr, Bool, true, false, if◌then◌else◌, is_some, List, [], ◌∷◌, ◌++◌, ℕ, codes, length, map, get_or, refl, subst, ◌∙◌}
 use Rattle.std.specs.List.{list_all, flat_map, range_with_len}
 use Rattle.std.proofs.lemmas.List.Folds.{list_all-append}
 use Rattle.blz_value.specs.Members.{Has}
 use Rattle.blz_value.specs.Name.{is_name}
-use Rattle.blz_value.proofs.Membership.{Has-get_or, Has-from_map, Has-from_filter, Has-append_left, Has-append_right, Has-flat_map, all_from, all_member}
+use Rattle.blz_value.proofs.Membership.{Has-get_or, Has-from_map, Has-from_filter, Has-append_left, Has-flat_map, all_from, all_member}
 use Rattle.fd_closure.specs.Names.{place_of, added}
 use Rattle.bloom_ast.specs.declared.module.Collection.{Collection}
 use Rattle.bloom_ast.specs.declared.module.Kind.TheVariants.{Input}
-use Rattle.bloom_ast.specs.declared.program.Program.{Program}
 use Rattle.bloom_ast.specs.declared.program.Program.TheVariants as program
 use Rattle.bloom_ast.specs.Checks.{IsChecked}
 use Rattle.bloom_ast.specs.Form.{Accepted}
 use Rattle.bloom_ast.specs.Kinds.{same_kind, of_kind}
 use Rattle.bloom_ast.specs.Program.{key_columns}
 use Rattle.bloom_ast.specs.Query.{Name}
-use Rattle.bloom_ast.specs.Reserved.{is_own_name, is_reserved, module_names, query_names}
+use Rattle.bloom_ast.specs.Reserved.{is_own_name, module_names, query_names}
 use Rattle.bloom_ast.specs.StockSteps.{keys_in_order}
 use Rattle.topo_types.specs.declared.topology.Body.{Body}
 use Rattle.topo_types.specs.declared.topology.Body.TheVariants as body
@@ -25,9 +24,9 @@ use Rattle.topo_types.specs.declared.topology.Side.{Side}
 use Rattle.topo_types.specs.declared.topology.Stock.{Stock}
 use Rattle.topo_types.specs.declared.topology.Stock.TheVariants as stock
 use Rattle.topo_types.specs.declared.topology.Topology.{Topology}
-use Rattle.topo_types.specs.Allowed.{is_empty, are_names, are_some_names, is_side, allows_source, allows_body, allows_component, allows_stream, allows_fd, IsAllowed}
+use Rattle.topo_types.specs.Allowed.{is_empty, are_names, are_some_names, is_side, allows_source, allows_body, allows_component, IsAllowed}
 use Rattle.topo_types.specs.Attributes.{with_columns, source_columns, side_columns}
-use Rattle.topo_types.specs.Sites.{Site, sites_of, site_columns, attributes_in, ports_with, program_in, program_ports, stock_program, modules_after, column_number, collection_side, side}
+use Rattle.topo_types.specs.Sites.{sites_of, site_columns, attributes_in, ports_with, program_in, program_ports, stock_program, modules_after, column_number, collection_side, side}
 use Rattle.topo_types.proofs.Spreading.{both_true, and_true, from_below}
 use Rattle.topo_types.proofs.ViewRuns.{among_after}
 

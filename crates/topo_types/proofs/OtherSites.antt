@@ -1,6 +1,5 @@
 -- The components of a topology with another mode of one of them: ports, outputs and attributes are the same.
-use Rattle.std.proofs.Common.{◌≡◌, ℕ, zero, suc, Option, None, Some, List, [], ◌∷◌, length, map, take, get_or, refl, ap, sym, ◌∙◌}
-use Rattle.std.specs.List.{find}
+use Rattle.std.proofs.Common.{◌≡◌, ℕ, zero, suc, Option, None, Some, List, [], ◌∷◌, map, take, refl, ap, ◌∙◌}
 use Rattle.std.specs.Str.{bytes_eq}
 use Rattle.bloom_ast.specs.declared.program.Program.{Program}
 use Rattle.bloom_ast.specs.Form.{Accepted}
@@ -14,8 +13,7 @@ use Rattle.topo_types.specs.declared.topology.Spot.{Spot}
 use Rattle.topo_types.specs.declared.topology.StreamEntry.{StreamEntry}
 use Rattle.topo_types.specs.Attributes.{with_columns, source_columns, side_columns}
 use Rattle.topo_types.specs.Modes.{entry_with_mode}
-use Rattle.topo_types.specs.Sites.{Site, no_site, sites_of, site_with, site_at, site_number, side_at, side_number, side_of, port_of, output_of, port_end, output_end, program_in, modules_after, site_columns, attributes_in}
-use Rattle.topo_types.specs.View.{Stream}
+use Rattle.topo_types.specs.Sites.{Site, no_site, sites_of, site_with, site_at, site_number, side_at, side_number, side_of, port_of, output_of, port_end, output_end, program_in, modules_after, attributes_in}
 use Rattle.topo_types.specs.ViewOf.{source_view, stream_view, output_columns_at}
 use Rattle.topo_types.proofs.Altered.{altered, at-same, flat_map-same, place-same, found-same, take-altered}
 

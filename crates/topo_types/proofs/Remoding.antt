@@ -1,5 +1,5 @@
 -- The parts of a topology with another mode of one component, as they are made.
-use Rattle.std.proofs.Common.{◌≡◌, ◌≢◌, ◌≤◌, ◌<◌, ◌^◌, ◌+◌, ◌-◌, ◌++◌, ℕ, inl, inr, zero, suc, cond, nat_le, Bool, true, false, if◌then◌else◌, is_some, IsNone, Option, None, Some, List, [], ◌∷◌, length, map, filter, get_or, refl, arith, ap, sym, subst, ◌∙◌, append_assoc, append-nil}
+use Rattle.std.proofs.Common.{◌≡◌, ◌≢◌, ◌≤◌, ◌<◌, ◌^◌, ◌+◌, ◌-◌, ◌++◌, ℕ, inl, inr, zero, suc, cond, nat_le, true, false, if◌then◌else◌, is_some, IsNone, Option, None, Some, List, [], ◌∷◌, length, map, filter, get_or, refl, arith, ap, sym, subst, ◌∙◌, append_assoc, append-nil}
 use Rattle.std.specs.Prelude.{slice_set}
 use Rattle.std.specs.List.{AllPairs, range_with_len}
 use Rattle.std.proofs.lemmas.Bool.{cases_Bool}

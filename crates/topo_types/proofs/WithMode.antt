@@ -1,10 +1,9 @@
 -- A topology with another mode of one component is valid where the mode may be written there. The plan: its components are the same but for one mode, so ports, outputs and attributes are the same, and its view is the view with that mode; kinds that look at names are as before but for the names of the key, which are distinct attributes; kinds of the view don't hold, since the view is valid under other modes.
-use Rattle.std.proofs.Common.{◌≡◌, ◌≢◌, ◌≤◌, ◌<◌, ◌+◌, ◌++◌, ◌||◌, ◌&&◌, inl, inr, not, ℕ, zero, suc, nat_eq, nat_lt, Bool, true, false, is_none, is_some, Option, None, Some, List, [], ◌∷◌, length, map, take, get_or, refl, arith, ap, sym, subst, ◌∙◌}
-use Rattle.std.specs.Prelude.{slice_set}
+use Rattle.std.proofs.Common.{◌≡◌, ◌≢◌, ◌≤◌, ◌<◌, ◌+◌, ◌++◌, ◌||◌, ◌&&◌, inl, inr, not, ℕ, zero, suc, Bool, true, false, is_none, is_some, Option, None, List, [], ◌∷◌, length, map, take, get_or, refl, arith, ap, sym, subst, ◌∙◌}
 use Rattle.std.specs.List.{list_all, list_any, filter_map}
 use Rattle.std.specs.Option.{option_map_or}
 use Rattle.std.specs.Str.{bytes_eq}
-use Rattle.std.proofs.lemmas.Bool.{cases_Bool, cases_eq, true≢false, false_from_ne_true}
+use Rattle.std.proofs.lemmas.Bool.{cases_Bool, cases_eq, true≢false}
 use Rattle.std.proofs.lemmas.List.{length-map}
 use Rattle.blz_value.specs.FirstPlace.{first_place}
 use Rattle.blz_value.specs.Members.{Has}
@@ -13,7 +12,6 @@ use Rattle.fd_closure.specs.declared.attrs.Attrs.{Attrs}
 use Rattle.bloom_ast.specs.Form.{Accepted}
 use Rattle.bloom_ast.specs.Query.{Name}
 use Rattle.bloom_ast.proofs.Levels.{neither}
-use Rattle.topo_types.specs.declared.fault.TopoFault.{TopoFault}
 use Rattle.topo_types.specs.declared.fault.TopoKind.{TopoKind}
 use Rattle.topo_types.specs.declared.fault.TopoKind.TheVariants as kind
 use Rattle.topo_types.specs.declared.mode.Mode.{Mode}
@@ -21,31 +19,30 @@ use Rattle.topo_types.specs.declared.mode.Mode.TheVariants as modes
 use Rattle.topo_types.specs.declared.topology.ComponentEntry.{ComponentEntry}
 use Rattle.topo_types.specs.declared.topology.FdEntry.{FdEntry}
 use Rattle.topo_types.specs.declared.topology.SourceEntry.{SourceEntry}
-use Rattle.topo_types.specs.declared.topology.Side.{Side}
 use Rattle.topo_types.specs.declared.topology.Spot.{Spot}
 use Rattle.topo_types.specs.declared.topology.StreamEntry.{StreamEntry}
 use Rattle.topo_types.specs.declared.topology.Topology.{Topology}
-use Rattle.topo_types.specs.Allowed.{is_allowed, IsAllowed, allows_source, allows_component, allows_stream, allows_fd, allows_key, allows_body, allows_note}
+use Rattle.topo_types.specs.Allowed.{IsAllowed, allows_source, allows_component, allows_key, allows_body, allows_note}
 use Rattle.topo_types.specs.Feeds.{can_be_paired}
-use Rattle.topo_types.specs.Laws.{IsKeyOf, IsWithoutKey, CanHaveMode, WithModeLaw, validated_with_mode}
+use Rattle.topo_types.specs.Laws.{IsKeyOf, IsWithoutKey, CanHaveMode, WithModeLaw}
 use Rattle.topo_types.specs.Modes.{entry_with_mode, key_names, mode_name, topology_with_mode}
 use Rattle.topo_types.specs.OtherModes.{AreRemoded}
 use Rattle.topo_types.specs.Regions.{is_in_cycle}
-use Rattle.topo_types.specs.Sites.{Site, no_site, no_entry, sites_of, site_at, port_of, output_of, attributes_in}
-use Rattle.topo_types.specs.Valid.{IsValid, IsComponent, Validated, IsValidated, AreModules, needs_module}
+use Rattle.topo_types.specs.Sites.{Site, no_site, no_entry, sites_of, site_at, attributes_in}
+use Rattle.topo_types.specs.Valid.{IsValid, IsValidated, AreModules, needs_module}
 use Rattle.topo_types.specs.Validity.{Written, written, bad_source, bad_component, bad_stream, bad_fd, at_places, kind_fault, fault_in, kinds_in_order, fault_of}
 use Rattle.topo_types.specs.Validity.Columns.{differs, meets_others, columns_component}
 use Rattle.topo_types.specs.Validity.OfView.{is_mismatched, is_unpaired, seals_in_cycle, is_understated}
 use Rattle.topo_types.specs.Validity.TooMany.{too_many_component, replica_sum}
 use Rattle.topo_types.specs.Validity.Twice.{has_component, repeat_in, repeats_in_body, repeats_in_notes, repeats_in_gate, notes_are_distinct, names_are_distinct, names_within, twice_component}
-use Rattle.topo_types.specs.Validity.Unknown.{misses_port, misses_attribute, misses_note, unknown_in_body, unknown_component}
-use Rattle.topo_types.specs.View.{View, Component, End, no_component, component_at, component_with_mode, with_mode, mode_of, mode_key, is_order, is_order_mode, replicas_of, stream_replicas, ends_of}
-use Rattle.topo_types.specs.ViewOf.{view_of, view_with, component_view, source_view, stream_view, mode_from, attribute_set, count_from}
+use Rattle.topo_types.specs.Validity.Unknown.{misses_port, unknown_in_body, unknown_component}
+use Rattle.topo_types.specs.View.{View, Component, End, no_component, component_with_mode, with_mode, mode_of, mode_key, is_order, is_order_mode, replicas_of, stream_replicas, ends_of}
+use Rattle.topo_types.specs.ViewOf.{view_of, view_with, component_view, mode_from, count_from}
 use Rattle.topo_types.proofs.Altered.{altered, set-altered, length-altered, take-altered, at-altered, other-altered, map-altered, at-same, filter_map-same, fold-same, any-same}
 use Rattle.topo_types.proofs.AttributeNames.{attributes-distinct}
 use Rattle.topo_types.proofs.KeyNames.{key_back, key_distinct, key_within, key_named, key_some}
 use Rattle.topo_types.proofs.NamedAttributes.{attributes-named}
-use Rattle.topo_types.proofs.NoFault.{no_source, no_written, not_false, none_in, no_places, few_attributes, length_sites, site_fine, stream_fine}
+use Rattle.topo_types.proofs.NoFault.{no_written, none_in, no_places, few_attributes, site_fine}
 use Rattle.topo_types.proofs.OtherModes.{other_modes_law}
 use Rattle.topo_types.proofs.OtherSites.{site_with_mode, sites-altered, source_view-same, stream_view-same, port_of-same, output_of-same, attributes-same, attributes_before-same}
 use Rattle.topo_types.proofs.Spreading.{both_true, and_true}

@@ -1,9 +1,8 @@
 use Rattle.std.proofs.Common.{◌≡◌, ◌<◌, ◌∙◌, ap, length, subst, sym}
 use Rattle.topo_types.specs.Kept.{view_kept}
-use Rattle.topo_types.specs.Laws.{validated_with_mode}
 use Rattle.topo_types.specs.Modes.{topology_with_mode}
 use Rattle.topo_types.specs.Valid.{Validated}
-use Rattle.topo_types.specs.View.{View, with_mode}
+use Rattle.topo_types.specs.View.{with_mode}
 use Rattle.topo_types.proofs.NextWhole as lemmas
 use Rattle.topo_types.proofs.valid.Valid.with_mode.Goals as goal
 

@@ -8,5 +8,5 @@ mod reconciliation;
 
 pub use label::{Base, Label, PathLabel, severity};
 pub use laws::{diverge_law, first_worst_law, monotone_law, no_better_law, severity_law};
-pub use path::pass_path;
-pub use reconciliation::reconcile;
+pub use path::{gate_read, label_read, pass_path};
+pub use reconciliation::{is_protected, reconcile};

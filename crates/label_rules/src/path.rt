@@ -24,7 +24,9 @@ fn is_awaited(mode: Mode, key: Attrs) -> bool
     }
 }
 
-fn label_read(mode: Mode, label: Label) -> Label
+/// A label as a component of this mode reads it: Seal is Async unless the mode is Pass or Seal with
+/// its key.
+pub fn label_read(mode: Mode, label: Label) -> Label
     ensures { result ≡ spec.label_read mode label }
 {
     match label {
@@ -33,7 +35,9 @@ fn label_read(mode: Mode, label: Label) -> Label
     }
 }
 
-fn gate_read(mode: Mode, columns: Attrs, gate: Attrs) -> Attrs
+/// A gate as a component of this mode reads it at a port with these columns: it is empty where the
+/// mode is Seal and its key isn't within the columns.
+pub fn gate_read(mode: Mode, columns: Attrs, gate: Attrs) -> Attrs
     ensures { result ≡ spec.gate_read mode columns gate }
 {
     match mode {

@@ -27,7 +27,9 @@ fn all_are_covered(key: Attrs, fds: &[Fd], paths: &[PathLabel]) -> bool
     paths.iter().all(|path| is_covered(key, fds, *path))
 }
 
-fn is_protected(paths: &[PathLabel], mode: Mode, fds: &[Fd]) -> bool
+/// Whether an output with these path labels is protected: the mode is Seal, and each path label is
+/// Seal of its key or an NdRead with whose gate the key is compatible.
+pub fn is_protected(paths: &[PathLabel], mode: Mode, fds: &[Fd]) -> bool
     ensures { result ≡ spec.is_protected paths.now mode fds.now }
 {
     match mode {

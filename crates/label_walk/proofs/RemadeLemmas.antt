@@ -15,7 +15,7 @@ use Rattle.label_walk.specs.Paths.{label_at}
 use Rattle.label_walk.specs.Labels.{region_label, outside_label, label_by, label_after, with_region}
 use Rattle.label_walk.specs.Code.Remade.{region_at, cycle_label, alone_label, member_label, remade_label, remade_labels}
 use Rattle.label_walk.proofs.ListsAlike.{map_alike}
-use Rattle.label_walk.proofs.RegionSets.{region_of_member}
+use Rattle.topo_types.proofs.RegionSets.{region_of_member}
 
 module _ (v : View) (valid : IsValid v) (labels : List Label) (r : ℕ) (lt : r < length (regions v)) where
   abbrev set : ℕ

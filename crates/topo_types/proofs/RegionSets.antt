@@ -1,11 +1,12 @@
--- Each region is that of each of its members.
-use Rattle.std.proofs.Common.{◌≡◌, ◌≤◌, ◌<◌, inl, inr, ℕ, zero, suc, Bool, true, Option, None, Some, List, [], ◌∷◌, length, get_or, refl, arith, sym, subst, ◌∙◌, bit_or}
+-- Regions by their numbers: each is that of each of its members, and there are no more than components.
+use Rattle.std.proofs.Common.{◌≡◌, ◌≤◌, ◌<◌, inl, inr, ℕ, zero, suc, Bool, true, Option, None, Some, List, [], ◌∷◌, length, refl, arith, ap, sym, subst, ◌∙◌, bit_or}
 use Rattle.blz_value.specs.Members.{Has}
-use Rattle.blz_value.proofs.Membership.{Has-get_or}
 use Rattle.fd_closure.specs.declared.attrs.Fd.{Fd}
 use Rattle.fd_closure.proofs.Members.{member_small}
 use Rattle.bloom_ast.proofs.Chosen.{from_chosen}
-use Rattle.topo_types.specs.Graph.{arrows, is_in, together, region, is_next, next, regions_from}
+use Rattle.topo_types.specs.declared.graph.found.Found.{Found}
+use Rattle.topo_types.specs.Code.Found.{found_of}
+use Rattle.topo_types.specs.Graph.{Edge, arrows, is_in, together, region, is_next, next, regions_from}
 use Rattle.topo_types.specs.Regions.{edges, region_set, regions}
 use Rattle.topo_types.specs.Sets.{below}
 use Rattle.topo_types.specs.Valid.{IsValid}
@@ -14,6 +15,11 @@ use Rattle.topo_types.proofs.Classes.{same-class, region-is}
 use Rattle.topo_types.proofs.Numbering.{find-some}
 use Rattle.topo_types.proofs.RegionOrder.{where_same}
 use Rattle.topo_types.proofs.Spreading.{from_below}
+
+-- the regions from here on, by the next component
+abbrev from_next : List Edge → List Fd → (count left done : ℕ) → Option ℕ → List ℕ
+from_next es arrs count left done None = []
+from_next es arrs count left done (Some c) = region arrs count c ∷ regions_from es arrs count left (bit_or done (region arrs count c))
 
 module _ (v : View) (valid : IsValid v) where
   abbrev count : ℕ
@@ -29,17 +35,12 @@ module _ (v : View) (valid : IsValid v) where
   abbrev pub IsRegion : ℕ → Type 0
   IsRegion set = (c : ℕ) × (c < length v.components) × (set ≡ region_set v c)
 
-  -- the regions from here on, by the next component
-  abbrev continued : ℕ → ℕ → Option ℕ → List ℕ
-  continued left done None = []
-  continued left done (Some c) = region ar count c ∷ regions_from (edges v) ar count left (bit_or done (region ar count c))
-
   each_from : (left done set : ℕ) → Has set (regions_from (edges v) ar count left done) → IsRegion set
   unfolding region_set
   each_from zero done set has = absurd has
   each_from (suc left) done set has = by (next (edges v) ar count done) refl (λ d later. each_from left d set later) has
     where
-      by : (o : Option ℕ) → next (edges v) ar count done ≡ o → ((d : ℕ) → Has set (regions_from (edges v) ar count left d) → IsRegion set) → Has set (continued left done o) → IsRegion set
+      by : (o : Option ℕ) → next (edges v) ar count done ≡ o → ((d : ℕ) → Has set (regions_from (edges v) ar count left d) → IsRegion set) → Has set (from_next (edges v) ar count left done o) → IsRegion set
       by None e more h = absurd h
       by (Some c) e more (inl same) = (c, from_below count c (find-some (is_next (edges v) ar count done) (below count) c e).0, sym same)
       by (Some c) e more (inr later) = more (bit_or done (region ar count c)) later
@@ -67,3 +68,20 @@ module _ (v : View) (valid : IsValid v) where
       let there = joined of.0 d (subst (λ (s : ℕ). is_in d s ≡ true) of.2 h) in
       sym (of.2 ∙ where_same (together ar of.0) (together ar d) (below count) (λ n at.
       same-class ar of.0 d n (omega (arith, of.1, few)) (omega (arith, there.0, few)) (omega (arith, from_below count n at, few)) there.1))
+
+few_from : (es : List Edge) (arrs : List Fd) (count left done : ℕ) → length (regions_from es arrs count left done) ≤ left
+few_from es arrs count zero done = omega arith
+few_from es arrs count (suc left) done = by (next es arrs count done) (λ d. few_from es arrs count left d)
+  where
+    by : (o : Option ℕ) → ((d : ℕ) → length (regions_from es arrs count left d) ≤ left) → length (from_next es arrs count left done o) ≤ suc left
+    by None few = omega arith
+    by (Some c) few = let fewer = few (bit_or done (region arrs count c)) in omega (arith, fewer)
+
+-- there are no more regions than components
+pub few_regions : (v : View) → length (regions v) ≤ length v.components
+unfolding regions
+few_regions v = few_from (edges v) (arrows (edges v)) (length v.components) (length v.components) 0
+
+-- the regions that are found are those of the view
+pub regions_found : (f : Found) (v : View) → f ≡ found_of v → f.regions ≡ regions v
+regions_found f v is = ap (λ (x : Found). x.regions) is

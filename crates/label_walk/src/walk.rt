@@ -237,7 +237,7 @@ fn output_labels(alloc: Global, topology: &Topology) -> Result<Vec<Label>, Alloc
 }
 
 /// The labels of all streams of a topology in which each goes forward.
-pub fn labels(alloc: Global, topology: &Topology) -> Result<Labels, AllocError>
+pub fn small_labels(alloc: Global, topology: &Topology) -> Result<Labels, AllocError>
     requires { IsTrue (is_forward topology.now) }
     ensures { IfOk result (λ labels. SmallLabels topology.now labels) }
 {

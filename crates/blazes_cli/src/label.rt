@@ -12,7 +12,7 @@ use crate::status::Status;
 use crate::stop::Stop;
 use crate::topology_file::{small_topology, topology_file};
 use blz_outside::Files;
-use label_walk::labels;
+use label_walk::small_labels;
 use std::alloc::{AllocError, Global};
 use topo_types::Topology;
 
@@ -20,7 +20,7 @@ fn labels_reply(alloc: Global, topology: &Topology) -> Result<Reply, AllocError>
     requires { IsTrue (is_forward topology.now) }
     ensures { IfOk result (λ reply. HasLabels topology.now (answer_of reply)) }
 {
-    let labels = labels(alloc, topology)?;
+    let labels = small_labels(alloc, topology)?;
     let text = label_text(alloc, topology, labels.as_slice())?;
     Ok(Reply {
         status: Status::Done,

@@ -62,6 +62,15 @@ fn as_carried(valid: &Valid, stream: u32, label: Label) -> Label
     }
 }
 
+fn is_order(mode: Mode) -> bool
+    ensures { result ≡ view.is_order_mode mode }
+{
+    match mode {
+        Mode::Order => true,
+        Mode::Free | Mode::Pass(_) | Mode::Seal(_) => false,
+    }
+}
+
 // The label of an output stream outside cycles.
 fn alone_label(
     alloc: Global,
@@ -77,7 +86,7 @@ fn alone_label(
     ensures { IfOk result (λ label. label ≡ code.alone_label valid.now.view labels.now stream (component, output)) }
 {
     let mode = valid.mode(component);
-    if let Mode::Order = mode {
+    if is_order(mode) {
         return Ok(Label::Run);
     }
     let fds = usable_fds(alloc, valid, component)?;

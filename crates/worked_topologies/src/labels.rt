@@ -1,7 +1,7 @@
 //! Labels of worked topologies.
 use crate::text::topology_of;
 use label_rules::Label;
-use label_walk::{is_forward, labels};
+use label_walk::{is_forward, small_labels};
 use std::test::Fail;
 
 // Source a goes into c, b from c into d, and e comes from d. The note of c stands between the parts.
@@ -45,7 +45,7 @@ fn labels_follow_the_note_of_a_path(rt: HostRuntime) -> Result<(), Fail> {
     for (note, expected) in table {
         let chain = topology_of(rt.alloc(), &[CHAIN_TO_NOTE, note, CHAIN_FROM_NOTE])?;
         assert!(rt; is_forward(&chain));
-        let labels = labels(rt.alloc(), &chain)?;
+        let labels = small_labels(rt.alloc(), &chain)?;
         assert_eq!(rt; labels.as_slice(), expected.as_slice(), "{note} at c");
     }
     Ok(())
@@ -98,7 +98,7 @@ to = ['e.right']
 fn an_output_is_as_bad_as_its_worst_path(rt: HostRuntime) -> Result<(), Fail> {
     let diamond = topology_of(rt.alloc(), &[DIAMOND])?;
     assert!(rt; is_forward(&diamond));
-    let labels = labels(rt.alloc(), &diamond)?;
+    let labels = small_labels(rt.alloc(), &diamond)?;
     let expected = [
         Label::Async,
         Label::Run,

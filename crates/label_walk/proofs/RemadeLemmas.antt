@@ -17,9 +17,9 @@ use Rattle.label_rules.specs.declared.label.Label.{Label}
 use Rattle.label_rules.specs.declared.label.Label.TheVariants.{Run}
 use Rattle.label_rules.specs.declared.label.PathLabel.{PathLabel}
 use Rattle.label_rules.specs.Reconciliation.{reconcile}
-use Rattle.label_walk.specs.Paths.{label_at, output_paths, region_paths, is_replicated_set}
+use Rattle.label_walk.specs.Paths.{label_at, output_paths, region_at, region_paths, is_replicated_set}
 use Rattle.label_walk.specs.Labels.{AreLabels, as_carried, first_labels, labels_of, region_label, outside_label, label_by, label_after, with_region}
-use Rattle.label_walk.specs.Code.Remade.{region_at, cycle_label, alone_label, member_label, remade_label, remade_labels}
+use Rattle.label_walk.specs.Code.Remade.{cycle_label, alone_label, member_label, remade_label, remade_labels}
 use Rattle.label_walk.proofs.ListsAlike.{map_alike}
 use Rattle.label_walk.proofs.RegionByRegion.{are_labels}
 use Rattle.topo_types.proofs.RegionSets.{region_of_member}

@@ -1,13 +1,12 @@
 //! Regions as one node: what comes into a region from outside, and its one note.
-ghost use Rattle.std.specs.Prelude.{◌≡◌, ◌<◌, ◌++◌, ℕ, IfOk, OnOk, IsTrue, [], fold, length, map, slice_index_or};
+ghost use Rattle.std.specs.Prelude.{◌≡◌, ◌<◌, ◌++◌, ℕ, IfOk, OnOk, MatchOption, false, [], fold, length, map, slice_index_or};
 ghost use Rattle.std.specs.List.{filter_map, flat_map, list_any};
 ghost use Rattle.path_annotate.specs.declared.note.Note.TheVariants.{CR};
 ghost use Rattle.topo_types.specs.Regions as regions;
 ghost use Rattle.topo_types.specs.View as view;
 ghost use Rattle.path_annotate.specs.Note as notes;
-ghost use Rattle.label_walk.specs.Code.Remade.{region_at};
-ghost use Rattle.label_walk.specs.Code.Remade.{AreComponents};
 ghost use Rattle.label_walk.specs.Paths as spec;
+ghost use Rattle.label_walk.specs.Paths.{AreComponents, AreInputs, IsCycleOf, region_at};
 
 use crate::paths::label_at;
 use crate::sets::{is_in, members};
@@ -69,8 +68,10 @@ pub fn region_inputs(
     region: u32,
 ) -> Result<Vec<(u32, (u32, u32))>, AllocError>
     requires { region < length (regions.regions valid.now.view) }
-    ensures { IfOk result (λ inputs. inputs.items ≡ spec.region_inputs valid.now.view (region_at valid.now.view region)) }
+    ensures inputs { IfOk result (λ inputs. inputs.items ≡ spec.region_inputs valid.now.view (region_at valid.now.view region)) }
+    ensures within { IfOk result (λ inputs. AreInputs valid.now.view inputs.items) }
 {
+    valid.known();
     set_inputs(alloc, valid, valid.region_members(region))
 }
 
@@ -82,6 +83,21 @@ pub fn region_members(alloc: Global, valid: &Valid, region: u32) -> Result<Vec<u
 {
     valid.known();
     members(alloc, valid.region_members(region))
+}
+
+/// The number of the region of a component that is in a cycle, None where it is in none.
+#[tactic(auto, using(crate::proofs::RegionNumbers::number_within, crate::proofs::RegionNumbers::is_cycle_of, crate::proofs::RegionNumbers::no_cycle))]
+pub fn cycle_of(valid: &Valid, component: u32) -> Option<u32>
+    requires { component < length valid.now.view.components }
+    ensures { MatchOption result (regions.is_in_cycle valid.now.view component ≡ false) (λ region. IsCycleOf valid.now.view component region) }
+{
+    valid.known();
+    let region = valid.region(component);
+    if valid.is_cyclic(region) {
+        Some(region)
+    } else {
+        None
+    }
 }
 
 // A note combined with those from a port.

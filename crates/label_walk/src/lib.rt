@@ -11,11 +11,11 @@ mod sets;
 mod small;
 mod walk;
 
-pub use cycles::{region_inputs, region_members, region_note};
+pub use cycles::{cycle_of, region_inputs, region_members, region_note};
 pub use forward::is_forward;
 pub use label_list::Labels;
 pub use laws::{labels_law, small_labels_law, upstream_law};
-pub use paths::{goes_to, output_paths, port_attrs, usable_fds};
+pub use paths::{goes_to, is_order, output_paths, port_attrs, usable_fds};
 pub use region_walk::labels;
 pub use sets::members;
 pub use small::is_small;

@@ -6,7 +6,7 @@ ghost use Rattle.label_walk.specs.Paths as spec;
 
 use label_rules::{Label, PathLabel, pass_path};
 use std::alloc::{AllocError, Global};
-use topo_types::{Attrs, Fd, Note, Valid, usable};
+use topo_types::{Attrs, Fd, Mode, Note, Valid, usable};
 
 /// The label of a stream. Each stream has one.
 pub(crate) fn label_at(labels: &[Label], stream: u32) -> Label
@@ -15,6 +15,17 @@ pub(crate) fn label_at(labels: &[Label], stream: u32) -> Label
     match labels.get(stream as usize) {
         Some(label) => *label,
         None => Label::Async,
+    }
+}
+
+/// Whether a component is Order.
+pub fn is_order(valid: &Valid, component: u32) -> bool
+    requires { component < length valid.now.view.components }
+    ensures { result ≡ view.is_order valid.now.view component }
+{
+    match valid.mode(component) {
+        Mode::Order => true,
+        Mode::Free | Mode::Pass(_) | Mode::Seal(_) => false,
     }
 }
 

@@ -5,10 +5,11 @@ ghost use Rattle.topo_types.specs.Regions.{regions};
 ghost use Rattle.topo_types.specs.View as view;
 ghost use Rattle.label_walk.specs.Code.Remade as code;
 ghost use Rattle.label_walk.specs.Labels as spec;
+ghost use Rattle.label_walk.specs.Paths.{region_at};
 
 use crate::cycles::{is_replicated, region_paths};
 use crate::label_list::Labels;
-use crate::paths::{label_at, output_paths, usable_fds};
+use crate::paths::{is_order, label_at, output_paths, usable_fds};
 use crate::sets::is_in;
 use label_rules::{Label, reconcile};
 use std::alloc::{AllocError, Global};
@@ -62,15 +63,6 @@ fn as_carried(valid: &Valid, stream: u32, label: Label) -> Label
     }
 }
 
-fn is_order(mode: Mode) -> bool
-    ensures { result ≡ view.is_order_mode mode }
-{
-    match mode {
-        Mode::Order => true,
-        Mode::Free | Mode::Pass(_) | Mode::Seal(_) => false,
-    }
-}
-
 // The label of an output stream outside cycles.
 fn alone_label(
     alloc: Global,
@@ -85,13 +77,13 @@ fn alone_label(
     requires output { output < length (view.component_at valid.now.view component).outputs }
     ensures { IfOk result (λ label. label ≡ code.alone_label valid.now.view labels.now stream (component, output)) }
 {
-    let mode = valid.mode(component);
-    if is_order(mode) {
+    if is_order(valid, component) {
         return Ok(Label::Run);
     }
     let fds = usable_fds(alloc, valid, component)?;
     let paths = output_paths(alloc, valid, labels, component, output, &fds)?;
-    let label = reconcile(&paths, mode, valid.replicas(component) > 1, &fds);
+    let replicated = valid.replicas(component) > 1;
+    let label = reconcile(&paths, valid.mode(component), replicated, &fds);
     Ok(as_carried(valid, stream, label))
 }
 
@@ -161,7 +153,7 @@ fn with_region(
     region: u32,
 ) -> Result<Vec<Label>, AllocError>
     requires { region < length (regions valid.now.view) }
-    ensures { IfOk result (λ remade. remade.items ≡ spec.with_region valid.now.view labels.now (code.region_at valid.now.view region)) }
+    ensures { IfOk result (λ remade. remade.items ≡ spec.with_region valid.now.view labels.now (region_at valid.now.view region)) }
 {
     valid.known();
     let cycle = cycle_label(alloc, valid, labels, region)?;

@@ -1,20 +1,12 @@
 -- The labels with those of one region made anew.
-use Rattle.std.specs.Prelude.{ℕ, ◌<◌, length, if◌then◌else◌, List, map, Option, None, Some, slice_index_or}
+use Rattle.std.specs.Prelude.{ℕ, if◌then◌else◌, List, map, Option, None, Some}
 use Rattle.topo_types.specs.Graph.{is_in}
-use Rattle.topo_types.specs.Regions.{regions, is_cyclic}
+use Rattle.topo_types.specs.Regions.{is_cyclic}
 use Rattle.topo_types.specs.View.{View, End, origin_of, is_order, stream_numbers}
 use Rattle.label_rules.specs.declared.label.Label.{Label}
 use Rattle.label_rules.specs.declared.label.Label.TheVariants.{Run}
-use Rattle.label_walk.specs.Paths.{label_at}
+use Rattle.label_walk.specs.Paths.{label_at, region_at}
 use Rattle.label_walk.specs.Labels.{region_label, outside_label}
-
--- each is the number of a component
-abbrev pub AreComponents : View → List ℕ → Type 0
-AreComponents v numbers = (k : ℕ) → k < length numbers → slice_index_or numbers k 0 < length v.components
-
--- the region with a number
-abbrev pub region_at : View → (region : ℕ) → ℕ
-region_at v r = slice_index_or (regions v) r 0
 
 -- the label of a region where it is cyclic
 abbrev pub cycle_label : View → List Label → (region : ℕ) → Option Label

@@ -1,12 +1,14 @@
 //! Lines of words.
-ghost use Rattle.std.specs.Prelude.{◌≡◌, ◌++◌, OnOk, codes, map};
+ghost use Rattle.std.specs.Prelude.{◌≡◌, ◌++◌, IfOk, OnOk, [], codes, map, slice_index_or};
 ghost use Rattle.std.specs.Fmt.{decimal};
 ghost use Rattle.std.specs.List.{flat_map, join_by};
-ghost use Rattle.report_print.specs.Code.Lines.{word_text, later_text};
+ghost use Rattle.report_print.specs.Code.Lines.{word_text, later_text, shown};
 ghost use Rattle.report_print.specs.Words as spec;
 
 use blz_value::{Record, Str, write_escaped, write_record};
+use label_walk::members;
 use std::alloc::{AllocError, Global};
+use topo_types::Attrs;
 
 /// A word of a line.
 #[derive(Clone, Copy)]
@@ -23,6 +25,8 @@ pub(crate) enum Word<'a> {
     Row(&'a Record),
     /// A set of names.
     Names(&'a [Str]),
+    /// A text and, behind it, those of these names whose numbers are in the set.
+    Marked(&'a str, &'a [Str], Attrs),
 }
 
 fn push_number(alloc: Global, number: u32, into: &mut Vec<u8>) -> Result<(), AllocError>
@@ -31,35 +35,76 @@ fn push_number(alloc: Global, number: u32, into: &mut Vec<u8>) -> Result<(), All
     into.extend_from_slice(number.to_string(alloc)?.as_bytes())
 }
 
-fn push_later_names(names: &[Str], into: &mut Vec<u8>) -> Result<(), AllocError>
-    ensures { OnOk result (into.new.items ≡ into.old.items ++ flat_map (λ name. codes ", " ++ name) names.now) }
+fn push_later_names(names: &[&str], into: &mut Vec<u8>) -> Result<(), AllocError>
+    ensures { OnOk result (into.new.items ≡ into.old.items ++ flat_map (λ name. codes ", " ++ name) (shown names.now)) }
 {
     for name in names {
         into.extend_from_slice(b", ")?;
-        into.extend_from_slice(name.as_str().as_bytes())?;
+        into.extend_from_slice(name.as_bytes())?;
     }
     Ok(())
 }
 
-fn push_joined_names(names: &[Str], into: &mut Vec<u8>) -> Result<(), AllocError>
-    ensures { OnOk result (into.new.items ≡ into.old.items ++ join_by (λ name. name) (codes ", ") names.now) }
+fn push_joined_names(names: &[&str], into: &mut Vec<u8>) -> Result<(), AllocError>
+    ensures { OnOk result (into.new.items ≡ into.old.items ++ join_by (λ name. name) (codes ", ") (shown names.now)) }
 {
     match names {
         [] => Ok(()),
         [first, later @ ..] => {
-            into.extend_from_slice(first.as_str().as_bytes())?;
+            into.extend_from_slice(first.as_bytes())?;
             push_later_names(later, into)
         }
     }
 }
 
-fn push_names(names: &[Str], into: &mut Vec<u8>) -> Result<(), AllocError>
-    ensures { OnOk result (into.new.items ≡ into.old.items ++ spec.names_text names.now) }
+fn push_names(names: &[&str], into: &mut Vec<u8>) -> Result<(), AllocError>
+    ensures { OnOk result (into.new.items ≡ into.old.items ++ spec.names_text (shown names.now)) }
 {
     into.push(b'[')?;
     push_joined_names(names, into)?;
     into.push(b']')?;
     Ok(())
+}
+
+fn texts<'a>(alloc: Global, names: &'a [Str]) -> Result<Vec<&'a str>, AllocError>
+    ensures { IfOk result (λ texts. shown texts.items ≡ names.now) }
+{
+    let mut texts = Vec::new(alloc);
+    for name in names {
+        texts.push(name.as_str())?;
+    }
+    Ok(texts)
+}
+
+// The name of an attribute; past the last stands an empty one.
+fn name_at(names: &[Str], attribute: u32) -> &str
+    ensures { result.now ≡ slice_index_or names.now attribute [] }
+{
+    match names.get(attribute as usize) {
+        Some(name) => name.as_str(),
+        None => "",
+    }
+}
+
+fn names_at<'a>(
+    alloc: Global,
+    names: &'a [Str],
+    attributes: &[u32],
+) -> Result<Vec<&'a str>, AllocError>
+    ensures { IfOk result (λ texts. shown texts.items ≡ map (λ attribute. slice_index_or names.now attribute []) attributes.now) }
+{
+    let mut texts = Vec::new(alloc);
+    for attribute in attributes {
+        texts.push(name_at(names, *attribute))?;
+    }
+    Ok(texts)
+}
+
+fn push_set(alloc: Global, names: &[Str], set: Attrs, into: &mut Vec<u8>) -> Result<(), AllocError>
+    ensures { OnOk result (into.new.items ≡ into.old.items ++ spec.set_text names.now set.bits) }
+{
+    let held = names_at(alloc, names, &members(alloc, set)?)?;
+    push_names(&held, into)
 }
 
 fn push_word(alloc: Global, word: &Word<'_>, into: &mut Vec<u8>) -> Result<(), AllocError>
@@ -75,7 +120,11 @@ fn push_word(alloc: Global, word: &Word<'_>, into: &mut Vec<u8>) -> Result<(), A
             push_number(alloc, *number, into)
         }
         Word::Row(row) => write_record(alloc, row, into),
-        Word::Names(names) => push_names(names, into),
+        Word::Names(names) => push_names(&texts(alloc, names)?, into),
+        Word::Marked(text, names, set) => {
+            into.extend_from_slice(text.as_bytes())?;
+            push_set(alloc, names, *set, into)
+        }
     }
 }
 
@@ -117,4 +166,16 @@ pub(crate) fn push_line(
     push_words(alloc, words, into)?;
     into.push(b'\n')?;
     Ok(())
+}
+
+/// Appends the line of these words, behind two spaces.
+pub(crate) fn push_inner_line(
+    alloc: Global,
+    words: &[Word<'_>],
+    into: &mut Vec<u8>,
+) -> Result<(), AllocError>
+    ensures { OnOk result (into.new.items ≡ into.old.items ++ spec.inner_line (map word_text words.now)) }
+{
+    into.extend_from_slice(b"  ")?;
+    push_line(alloc, words, into)
 }

@@ -1,2 +1,3 @@
 -- What only the clauses of private functions speak of.
 pub mod Lines
+pub mod Uses

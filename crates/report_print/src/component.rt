@@ -130,6 +130,7 @@ fn is_stream_of(report: &Report<'_>, component: u32, output: u32, stream: u32) -
     }
 }
 
+#[tactic(auto, using(crate::proofs::Streams::none_further, crate::proofs::Streams::found_at))]
 fn stream_of(report: &Report<'_>, component: u32, output: u32) -> Option<u32>
     ensures stream { result ≡ view.stream_of report.now.valid.now.view component output }
     ensures within { IfSome result (λ stream. stream < length report.now.valid.now.view.streams) }

@@ -28,9 +28,9 @@ use Rattle.inbox.proofs.Timesteps.Widths.{timesteps-many}
 use Rattle.inbox.proofs.Timesteps.OfLives.{batches_heard}
 use Rattle.inbox.proofs.Timesteps.Entries.{Has-from_rows_in}
 use Rattle.stream_deps.specs.Sent.{IsHistory, IsSentTo, AreSent}
-use Rattle.stream_deps.proofs.Arrives.{feeds_law}
-use Rattle.stream_deps.proofs.Joint.{sent_has_stream}
-use Rattle.stream_deps.proofs.Viewed.{port_count}
+use Rattle.stream_deps.proofs.Records.ArrivingLaw.{feeds_law}
+use Rattle.stream_deps.proofs.Dependencies.JointLaw.{sent_has_stream}
+use Rattle.stream_deps.proofs.Columns.Viewed.{port_count}
 use Rattle.confluence.specs.Complete.{contents_at, contents_into}
 use Rattle.confluence.proofs.Determined.Parts.{IsPart, covered_on}
 use Rattle.confluence.proofs.Contents.Heard.{from_into, heard_into}

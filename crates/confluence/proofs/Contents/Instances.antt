@@ -30,7 +30,7 @@ use Rattle.confluence.specs.Complete.{contents_into}
 use Rattle.confluence.proofs.Contents.Heard.{last_heard}
 use Rattle.confluence.proofs.Determined.Rows.{AreAllIn, IsDetermined}
 use Rattle.bloom_ast.specs.Proper.{IsProper}
-use Rattle.stream_deps.proofs.Bridges.{rows_law}
+use Rattle.stream_deps.proofs.Records.RowsLaw.{rows_law}
 
 -- ---- one stream
 

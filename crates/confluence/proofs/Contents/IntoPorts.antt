@@ -11,7 +11,7 @@ use Rattle.inbox.specs.Instances.{Instance}
 use Rattle.inbox.specs.Wiring.{wiring_of, instance_at}
 use Rattle.inbox.specs.Executions.{Execution, contents}
 use Rattle.inbox.proofs.WiringLemmas.{instance-wired, instance-ports}
-use Rattle.stream_deps.proofs.Streams.{goes_is}
+use Rattle.stream_deps.proofs.Streams.IntoPorts.{goes_is}
 use Rattle.confluence.specs.Complete.{contents_into}
 use Rattle.confluence.proofs.Contents.Heard.{in_into}
 use Rattle.confluence.proofs.Contents.Pairing.{port_feed}

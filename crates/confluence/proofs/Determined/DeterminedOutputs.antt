@@ -47,8 +47,8 @@ use Rattle.inbox.specs.Executions.{Execution, emitted_list, contents}
 use Rattle.inbox.specs.Completeness.{IsComplete}
 use Rattle.stream_deps.specs.Laws.{ArrivalsLaw, KeyedLaw, HaveKey}
 use Rattle.stream_deps.specs.Sent.{IsHistory}
-use Rattle.stream_deps.proofs.Streams.{end_there}
-use Rattle.stream_deps.proofs.Columns.{within-small, numbers_are_roots}
+use Rattle.stream_deps.proofs.Streams.IntoPorts.{end_there}
+use Rattle.stream_deps.proofs.Columns.Attributes.{within-small, numbers_are_roots}
 use Rattle.confluence.specs.Complete.{contents_into}
 use Rattle.confluence.specs.LabelMeaning.{HasConfluentPaths, IsPath, IsGuarded}
 use Rattle.confluence.specs.Partitions.{IsFed, IsSealing, AreCarrying, IsAtOnce}

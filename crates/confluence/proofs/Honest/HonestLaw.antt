@@ -29,9 +29,9 @@ use Rattle.inbox.proofs.Lists.Rows.{life_rows, rows_of_list}
 use Rattle.inbox.proofs.MessagesLemmas.{is_same_row-is}
 use Rattle.inbox.proofs.WiringLemmas.{instance-wired, stream-wired, instance-feeds, length-below, port_of-feed}
 use Rattle.stream_deps.specs.Sent.{IsHistory}
-use Rattle.stream_deps.proofs.CarriedKeys.{carries-from, key_of_source, may_carry-is, carried_output, carried_at, not_ordered, comes_lower, output_places, port_places}
-use Rattle.stream_deps.proofs.Streams.{into_port}
-use Rattle.stream_deps.proofs.InstancePorts.{carrying_is, places_only}
+use Rattle.stream_deps.proofs.Streams.CarriedKeys.{carries-from, key_of_source, may_carry-is, carried_output, carried_at, not_ordered, comes_lower, output_places, port_places}
+use Rattle.stream_deps.proofs.Streams.IntoPorts.{into_port}
+use Rattle.stream_deps.proofs.Streams.InstancePorts.{carrying_is, places_only}
 use Rattle.confluence.specs.Honest.{IsHonest}
 use Rattle.confluence.specs.Laws.{HonestLaw}
 use Rattle.confluence.proofs.Honest.FromFeeds.{IsFedHonestly}

@@ -18,9 +18,9 @@ use Rattle.inbox.specs.Instances.{Instance}
 use Rattle.inbox.specs.Wiring.{instance_for}
 use Rattle.inbox.proofs.WiringLemmas.{instance-ports}
 use Rattle.stream_deps.specs.Agreement.{port_roots}
-use Rattle.stream_deps.proofs.Bridges.{key_law}
-use Rattle.stream_deps.proofs.InstancePorts.{as_many, key_here, has_columns}
-use Rattle.stream_deps.proofs.Joint.{has_attribute_is, is_has_attribute}
+use Rattle.stream_deps.proofs.Dependencies.KeyLaw.{key_law}
+use Rattle.stream_deps.proofs.Streams.InstancePorts.{as_many, key_here, has_columns}
+use Rattle.stream_deps.proofs.Dependencies.JointLaw.{has_attribute_is, is_has_attribute}
 use Rattle.confluence.proofs.Honest.Partitions.{IsRestriction}
 
 module _ (v : View) (c j : ℕ) (key : Attrs) (mode : mode_key (mode_of v c) ≡ Some key) (valid : IsValid v) (there : c < length v.components)

@@ -24,9 +24,9 @@ use Rattle.inbox.proofs.WiringLemmas.{instance-wired}
 use Rattle.inbox.proofs.Timesteps.Widths.{timesteps-many}
 use Rattle.inbox.proofs.Timesteps.OfLives.{batches_heard}
 use Rattle.stream_deps.specs.Sent.{IsHistory, AreSent}
-use Rattle.stream_deps.proofs.Arrives.{heard_law, arrivals_law}
-use Rattle.stream_deps.proofs.InstancePorts.{ports_same}
-use Rattle.stream_deps.proofs.CarriedKeys.{not_ordered}
+use Rattle.stream_deps.proofs.Records.ArrivingLaw.{heard_law, arrivals_law}
+use Rattle.stream_deps.proofs.Streams.InstancePorts.{ports_same}
+use Rattle.stream_deps.proofs.Streams.CarriedKeys.{not_ordered}
 use Rattle.confluence.specs.Partitions.{IsLived}
 use Rattle.confluence.proofs.Honest.FromFeeds.{AllCome}
 use Rattle.bloom_ast.specs.Steps.{AreArrivals}

@@ -42,8 +42,8 @@ use Rattle.bloom_ast.specs.Steps.{AreArrivals}
 use Rattle.path_annotate.specs.Annotation.{rule_use}
 use Rattle.path_annotate.specs.Given.{is_w}
 use Rattle.fd_closure.specs.Bits.{members}
-use Rattle.stream_deps.proofs.InstancePorts.{carrying_is, ports_same}
-use Rattle.stream_deps.proofs.Streams.{has_some}
+use Rattle.stream_deps.proofs.Streams.InstancePorts.{carrying_is, ports_same}
+use Rattle.stream_deps.proofs.Streams.IntoPorts.{has_some}
 
 module _ (v : View) (d : Data) (x : Execution) (c j : ℕ) (key : Attrs) (batches : List Batch) (program : Program) (body : program_of v c ≡ Some program) (value : Row) (s : IsSealing v d x c j key batches) where
   abbrev i : Instance

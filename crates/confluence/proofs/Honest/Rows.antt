@@ -45,13 +45,13 @@ use Rattle.inbox.proofs.Timesteps.AtOnce.{GoesAtOnce, at_once_timesteps-stand}
 use Rattle.inbox.proofs.WiringLemmas.{instance-ports}
 use Rattle.stream_deps.specs.Sent.{IsHistory}
 use Rattle.stream_deps.specs.Agreement.{port_roots}
-use Rattle.stream_deps.proofs.Joint.{same_keys}
-use Rattle.stream_deps.proofs.Rows.{put_out_over, arrived_up, arrivals_up}
-use Rattle.stream_deps.proofs.CarriedKeys.{MayCarry, may_carry-is, towards_carries}
-use Rattle.stream_deps.proofs.InstancePorts.{carrying_is, ports_same, key_here}
-use Rattle.stream_deps.proofs.Columns.{within-small}
-use Rattle.stream_deps.proofs.KeyedOutputs.{output_keyed_law}
-use Rattle.stream_deps.proofs.Copied.{copied_law}
+use Rattle.stream_deps.proofs.Dependencies.JointLaw.{same_keys}
+use Rattle.stream_deps.proofs.Records.PutOut.{put_out_over, arrived_up, arrivals_up}
+use Rattle.stream_deps.proofs.Streams.CarriedKeys.{MayCarry, may_carry-is, towards_carries}
+use Rattle.stream_deps.proofs.Streams.InstancePorts.{carrying_is, ports_same, key_here}
+use Rattle.stream_deps.proofs.Columns.Attributes.{within-small}
+use Rattle.stream_deps.proofs.Dependencies.KeyedOutputs.{output_keyed_law}
+use Rattle.stream_deps.proofs.Records.CopiedLaw.{copied_law}
 use Rattle.confluence.proofs.Honest.LivesHeard.{by_mode, all_come, heard_standing, all_sent, all_arrive}
 use Rattle.confluence.specs.Partitions.{IsLived, IsFed}
 use Rattle.confluence.proofs.Honest.FromFeeds.{AllCome, IsFedHonestly, heard_fed, whole_heard}

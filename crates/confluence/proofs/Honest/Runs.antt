@@ -9,7 +9,7 @@ use Rattle.bloom_ast.specs.Step.{Sets, set_at}
 use Rattle.row_laws.specs.Runs.{output_over, rows_over}
 use Rattle.inbox.specs.Folds.{rows_from}
 use Rattle.bloom_ast.specs.Steps.{AreArrivals, tables_after_steps}
-use Rattle.stream_deps.proofs.Rows.{put_out_over, arrived_up, arrivals_up}
+use Rattle.stream_deps.proofs.Records.PutOut.{put_out_over, arrived_up, arrivals_up}
 
 module _ (program : Program) (rows : (kept now : Sets) → List Row) where
   -- a record that has arrived

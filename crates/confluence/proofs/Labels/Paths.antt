@@ -12,7 +12,7 @@ use Rattle.label_rules.specs.declared.label.Label.{Label}
 use Rattle.label_rules.specs.declared.label.Label.TheVariants.{Run}
 use Rattle.label_walk.specs.Labels.{AreLabels, IsLabel, IsRegionLabel, IsOutsideLabel}
 use Rattle.label_walk.specs.Paths.{label_at, path_label, port_paths, output_paths}
-use Rattle.stream_deps.proofs.Streams.{leads, has_some, end_there}
+use Rattle.stream_deps.proofs.Streams.IntoPorts.{leads, has_some, end_there}
 use Rattle.confluence.specs.LabelMeaning.{IsOutside, IsPath}
 
 -- the path label of a path is in the list

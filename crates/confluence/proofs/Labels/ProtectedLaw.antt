@@ -29,9 +29,9 @@ use Rattle.confluence.proofs.Labels.Cells.{IsCovered, covered_tells}
 use Rattle.confluence.proofs.Labels.Paths.{has_path}
 use Rattle.confluence.proofs.Labels.SealLaw.{seal_carries}
 use Rattle.blz_value.proofs.Membership.{all_member, all_from}
-use Rattle.stream_deps.proofs.Streams.{Leads, leads, some_stream, has_some, into_port, attrs_into}
-use Rattle.stream_deps.proofs.CarriedKeys.{stream_key_law, carries-from}
-use Rattle.stream_deps.proofs.Joint.{closure_law}
+use Rattle.stream_deps.proofs.Streams.IntoPorts.{Leads, leads, some_stream, has_some, into_port, attrs_into}
+use Rattle.stream_deps.proofs.Streams.CarriedKeys.{stream_key_law, carries-from}
+use Rattle.stream_deps.proofs.Dependencies.JointLaw.{closure_law}
 
 -- a compatible key lies in the closure
 compatible_within : (gate key : ℕ) (fds : List Fd) → compatible gate key fds ≡ true → within key (closure gate fds) ≡ true

@@ -18,7 +18,7 @@ use Rattle.label_rules.specs.PathTable.{pass_path}
 use Rattle.label_rules.specs.Reconciliation.{settled}
 use Rattle.label_walk.specs.Labels.{AreLabels, IsLabel, IsRegionLabel, IsOutsideLabel, source_label, as_carried}
 use Rattle.label_walk.specs.Paths.{label_at, region_note, region_inputs, region_paths, is_replicated_set}
-use Rattle.stream_deps.proofs.CarriedKeys.{stream_key_law, carries-from}
+use Rattle.stream_deps.proofs.Streams.CarriedKeys.{stream_key_law, carries-from}
 use Rattle.confluence.proofs.Labels.Cells.{free_never_seal}
 use Rattle.confluence.proofs.Labels.Settling.{comes_of_path}
 use Rattle.confluence.specs.Laws.{SealMeansCarries}

@@ -40,7 +40,7 @@ use Rattle.inbox.proofs.Timesteps.Widths.{timesteps-many}
 use Rattle.inbox.proofs.Timesteps.Entries.{heard_entry, Has-rows_in, Has-from_rows_in}
 use Rattle.inbox.proofs.Timesteps.OfLives.{batches_heard}
 use Rattle.stream_deps.specs.Sent.{IsHistory}
-use Rattle.stream_deps.proofs.Streams.{goes_is}
+use Rattle.stream_deps.proofs.Streams.IntoPorts.{goes_is}
 use Rattle.confluence.specs.Complete.{contents_into}
 use Rattle.topo_types.specs.Laws.{OrderIsAcyclic}
 use Rattle.confluence.proofs.Determined.Parts.{by_parts}

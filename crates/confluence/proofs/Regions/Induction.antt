@@ -29,7 +29,7 @@ use Rattle.inbox.specs.Executions.{Execution, emitted_list, contents}
 use Rattle.inbox.proofs.Lists.Origins.{source_list}
 use Rattle.inbox.proofs.Timesteps.Entries.{Has-rows_in}
 use Rattle.stream_deps.specs.Sent.{IsHistory}
-use Rattle.stream_deps.proofs.Streams.{goes_is}
+use Rattle.stream_deps.proofs.Streams.IntoPorts.{goes_is}
 use Rattle.confluence.specs.Complete.{IsCompleted, contents_into}
 use Rattle.confluence.specs.LabelMeaning.{IsOutside, IsProtected, IsGuarded, IsInCycle, HasGoodPaths, HasGoodInputs, HasConfluentPaths}
 use Rattle.confluence.specs.Laws.{StrongRestartLaw, OpenRegionLaw, DeterminedOutputs}

@@ -1,6 +1,6 @@
 -- The premises hold, and so do the laws.
-use Rattle.stream_deps.proofs.Arrives.{arrivals_law}
-use Rattle.stream_deps.proofs.Joint.{keyed_law}
+use Rattle.stream_deps.proofs.Records.ArrivingLaw.{arrivals_law}
+use Rattle.stream_deps.proofs.Dependencies.JointLaw.{keyed_law}
 use Rattle.confluence.specs.Laws.{RegionLaw, RestartLaw, StrongRestartLaw, OpenRegionLaw, DeterminedOutputs}
 use Rattle.confluence.proofs.Regions.Premises.{Premises}
 use Rattle.confluence.proofs.Regions.Corollaries.{region_of_restarts, restarts_of_all}

@@ -30,11 +30,11 @@ use Rattle.inbox.specs.Executions.{Execution, emitted_list}
 use Rattle.stream_deps.specs.Agreement.{port_roots, value_at, IsTraced, IsCopiedFrom, HaveSameValues}
 use Rattle.stream_deps.specs.Sent.{IsHistory}
 use Rattle.stream_deps.specs.Laws.{WidthLaw, TracedLaw}
-use Rattle.stream_deps.proofs.ByRank.{SentWith, OfSources, OfOutputs, by_rank}
-use Rattle.stream_deps.proofs.Copied.{copied_law}
-use Rattle.stream_deps.proofs.Viewed.{runs, output_is, port_count, stream_is, are_arrivals}
-use Rattle.stream_deps.proofs.Wide.{output_wide}
-use Rattle.stream_deps.proofs.Streams.{stream_into, attrs_into, goes_in}
+use Rattle.stream_deps.proofs.Records.ByRank.{SentWith, OfSources, OfOutputs, by_rank}
+use Rattle.stream_deps.proofs.Records.CopiedLaw.{copied_law}
+use Rattle.stream_deps.proofs.Columns.Viewed.{runs, output_is, port_count, stream_is, are_arrivals}
+use Rattle.stream_deps.proofs.Columns.Wide.{output_wide}
+use Rattle.stream_deps.proofs.Streams.IntoPorts.{stream_into, attrs_into, goes_in}
 use Rattle.bloom_ast.specs.Steps.{tables_after_steps, AreArrivals}
 use Rattle.fd_closure.proofs.Members.{member_small}
 

@@ -32,8 +32,8 @@ use Rattle.inbox.specs.Wiring.{carried_places, instance_for}
 use Rattle.inbox.proofs.WiringLemmas.{get_or-below, length-below}
 use Rattle.stream_deps.specs.Laws.{StreamKeyLaw, PortKeyLaw, CarriedLaw, GateKeyLaw}
 use Rattle.stream_deps.specs.Agreement.{IsCarriedBy}
-use Rattle.stream_deps.proofs.Columns.{root_within, roots_within, own_column}
-use Rattle.stream_deps.proofs.Streams.{goes_is, own_stream, stream_into, attrs_into, into_port, some_stream}
+use Rattle.stream_deps.proofs.Columns.Attributes.{root_within, roots_within, own_column}
+use Rattle.stream_deps.proofs.Streams.IntoPorts.{goes_is, own_stream, stream_into, attrs_into, into_port, some_stream}
 
 -- ---- keys
 

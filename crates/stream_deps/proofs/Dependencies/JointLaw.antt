@@ -31,10 +31,10 @@ use Rattle.inbox.proofs.MessagesLemmas.{is_same_row-is, is_same_row-itself}
 use Rattle.stream_deps.specs.Agreement.{port_roots, value_at, HaveSameValues, IsTraced}
 use Rattle.stream_deps.specs.Sent.{IsHistory, IsSentTo}
 use Rattle.stream_deps.specs.Laws.{WholeLaw, ClosureLaw, JointLaw, KeyedLaw}
-use Rattle.stream_deps.proofs.Columns.{numbers_are_roots, in_columns, value_in_is, attribute_within}
-use Rattle.stream_deps.proofs.Tracing.{traced_law}
-use Rattle.stream_deps.proofs.Viewed.{port_is}
-use Rattle.stream_deps.proofs.Streams.{stream_into, attrs_into, goes_in, some_stream, has_some}
+use Rattle.stream_deps.proofs.Columns.Attributes.{numbers_are_roots, in_columns, value_in_is, attribute_within}
+use Rattle.stream_deps.proofs.Records.TracedLaw.{traced_law}
+use Rattle.stream_deps.proofs.Columns.Viewed.{port_is}
+use Rattle.stream_deps.proofs.Streams.IntoPorts.{stream_into, attrs_into, goes_in, some_stream, has_some}
 use Rattle.fd_closure.proofs.Members.{member_small}
 use Rattle.fd_closure.proofs.MembersInOrder.{within_by_members, from_members}
 use Rattle.path_annotate.specs.Attributes.{has_attribute, value_in}

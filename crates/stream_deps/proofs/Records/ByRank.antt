@@ -27,8 +27,8 @@ use Rattle.inbox.proofs.Executions.Appending.{legal_more}
 use Rattle.inbox.proofs.Timesteps.OfLives.{timestep_entry, life_timesteps-many}
 use Rattle.inbox.proofs.Lists.NoBody.{nothing_without}
 use Rattle.stream_deps.specs.Sent.{IsSentTo}
-use Rattle.stream_deps.proofs.Sending.{timestep_sent}
-use Rattle.stream_deps.proofs.Rows.{emitted_in_step}
+use Rattle.stream_deps.proofs.Records.Sending.{timestep_sent}
+use Rattle.stream_deps.proofs.Records.PutOut.{emitted_in_step}
 use Rattle.bloom_ast.specs.Steps.{tables_after_steps}
 use Rattle.path_annotate.specs.Roots.{Roots}
 

@@ -16,10 +16,10 @@ use Rattle.topo_types.specs.Valid.{IsValid, IsCovered}
 use Rattle.topo_types.specs.View.{View, component_at, output_at, has_stream, note_at, port_attrs, port_numbers, program_of, ports_towards, streams_to}
 use Rattle.topo_types.proofs.Spreading.{in_below}
 use Rattle.stream_deps.specs.Laws.{HaveKey, OutputKeyedLaw}
-use Rattle.stream_deps.proofs.CarriedKeys.{stream_key_law, gate_key_law, may_carry-is}
-use Rattle.stream_deps.proofs.Joint.{keyed_law}
-use Rattle.stream_deps.proofs.Viewed.{runs}
-use Rattle.stream_deps.proofs.Streams.{end_there, some_stream, into_port, attrs_into}
+use Rattle.stream_deps.proofs.Streams.CarriedKeys.{stream_key_law, gate_key_law, may_carry-is}
+use Rattle.stream_deps.proofs.Dependencies.JointLaw.{keyed_law}
+use Rattle.stream_deps.proofs.Columns.Viewed.{runs}
+use Rattle.stream_deps.proofs.Streams.IntoPorts.{end_there, some_stream, into_port, attrs_into}
 use Rattle.fd_closure.proofs.Members.{member_small}
 use Rattle.fd_closure.specs.Bits.{members}
 

@@ -19,7 +19,7 @@ use Rattle.path_annotate.specs.Annotation.{roots_of_output}
 use Rattle.path_annotate.specs.HeadRoots.{attribute_roots}
 use Rattle.path_annotate.specs.Roots.{Roots, root_at}
 use Rattle.topo_types.specs.Data.{place_of_attribute}
-use Rattle.stream_deps.proofs.Columns.{first_place, one_place}
+use Rattle.stream_deps.proofs.Columns.Attributes.{first_place, one_place}
 use Rattle.bloom_ast.specs.Proper.{IsProper}
 use Rattle.bloom_ast.proofs.ProperLemmas.{own_columns}
 

@@ -14,8 +14,8 @@ use Rattle.path_annotate.specs.Roots.{Roots}
 use Rattle.topo_types.specs.Valid.{IsValid, Runs}
 use Rattle.topo_types.specs.View.{View, Port, Output, no_port, no_output, component_at, stream_at, output_at, program_of, goes_to}
 use Rattle.stream_deps.specs.Agreement.{port_roots}
-use Rattle.stream_deps.proofs.Columns.{get_or-map_default}
-use Rattle.stream_deps.proofs.Streams.{stream_into}
+use Rattle.stream_deps.proofs.Columns.Attributes.{get_or-map_default}
+use Rattle.stream_deps.proofs.Streams.IntoPorts.{stream_into}
 use Rattle.bloom_ast.specs.Steps.{AreArrivals}
 use Rattle.bloom_ast.proofs.StockWidths.{wide_by_rows}
 

@@ -11,9 +11,9 @@ use Rattle.inbox.proofs.Executions.Sent.{history_holds, sent_by_now}
 use Rattle.inbox.proofs.WiringLemmas.{instance-wired, instance-ports}
 use Rattle.inbox.proofs.Timesteps.OfLives.{life_timesteps-many}
 use Rattle.stream_deps.specs.Laws.{HeardLaw, TimestepsLaw, FeedsLaw, ArrivalsLaw, LifeLaw}
-use Rattle.stream_deps.proofs.Sending.{feed_sends, heard_sent, timestep_sent}
-use Rattle.stream_deps.proofs.Tracing.{width_law}
-use Rattle.stream_deps.proofs.Viewed.{port_count, stream_is, are_arrivals}
+use Rattle.stream_deps.proofs.Records.Sending.{feed_sends, heard_sent, timestep_sent}
+use Rattle.stream_deps.proofs.Records.TracedLaw.{width_law}
+use Rattle.stream_deps.proofs.Columns.Viewed.{port_count, stream_is, are_arrivals}
 
 pub heard_law : HeardLaw
 heard_law v d x c j life entry h within there lived heard =

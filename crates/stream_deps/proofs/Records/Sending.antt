@@ -1,22 +1,20 @@
 -- What instances hear, what logs hold and what stands in timesteps was sent by streams.
-use Rattle.std.proofs.Common.{◌≡◌, ap, sym, subst, ℕ, ◌<◌, ◌≤◌, length, inl, inr, Some, arith, ◌∙◌}
-use Rattle.std.specs.Option.{option_map, unwrap_or}
+use Rattle.std.proofs.Common.{sym, subst, ℕ, ◌<◌, ◌≤◌, length, inl, inr, arith, ◌∙◌}
 use Rattle.blz_value.specs.Members.{Has}
 use Rattle.blz_value.specs.Record.{Row}
 use Rattle.blz_value.proofs.Membership.{Has-get_or, Has-from_flat_map}
 use Rattle.bloom_ast.specs.Step.{Sets, set_at}
 use Rattle.topo_types.specs.Data.{Data}
 use Rattle.topo_types.specs.Feeds.{Feed, no_feed}
-use Rattle.topo_types.specs.Messages.{Message, row, seal, row_in}
+use Rattle.topo_types.specs.Messages.{row}
 use Rattle.topo_types.specs.Valid.{IsValid}
 use Rattle.topo_types.specs.View.{View, replicas_of}
 use Rattle.inbox.specs.Messages.{Batch, Entry, all_pairs}
 use Rattle.inbox.specs.Growth.{feed_numbered, ComesFrom, EntryComesFrom, WasSentBefore}
-use Rattle.inbox.specs.Instances.{Instance, port_of_feed, entry_of, entries_of}
+use Rattle.inbox.specs.Instances.{Instance, entries_of}
 use Rattle.inbox.specs.Lives.{Life, all_lives, life_timesteps}
 use Rattle.inbox.specs.Wiring.{instance_for, wiring_of}
 use Rattle.inbox.specs.Executions.{Execution, emitted_list}
-use Rattle.inbox.proofs.Timesteps.Whole.{Has-from_filter_map}
 use Rattle.inbox.proofs.WiringLemmas.{IsFeedInto, instance-wired, instance-feeds, port_of-feed}
 use Rattle.inbox.proofs.Timesteps.OfLives.{timestep_entry}
 use Rattle.inbox.proofs.Timesteps.Entries.{heard_entry}

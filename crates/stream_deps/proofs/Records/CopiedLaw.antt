@@ -23,9 +23,9 @@ use Rattle.topo_types.specs.Valid.{IsValid}
 use Rattle.topo_types.specs.View.{View, component_at, port_at, output_at, program_of, own_root, own_attrs, port_attrs}
 use Rattle.stream_deps.specs.Agreement.{port_roots, value_at, IsCopiedFrom}
 use Rattle.stream_deps.specs.Laws.{CopiedLaw}
-use Rattle.stream_deps.proofs.Columns.{value_of_place, numbers_are_roots, root_within, roots_within, own_column}
-use Rattle.stream_deps.proofs.OwnColumns.{port_distinct, own_first}
-use Rattle.stream_deps.proofs.Viewed.{runs, port_is, output_is}
+use Rattle.stream_deps.proofs.Columns.Attributes.{value_of_place, numbers_are_roots, root_within, roots_within, own_column}
+use Rattle.stream_deps.proofs.Columns.OwnColumns.{port_distinct, own_first}
+use Rattle.stream_deps.proofs.Columns.Viewed.{runs, port_is, output_is}
 use Rattle.bloom_ast.specs.Steps.{tables_after_steps, AreArrivals}
 
 module _ (v : View) (c o : ℕ) (program : Program) (earlier : List Sets) (now : Sets) (r : Row) (valid : IsValid v) (there : c < length v.components) (has : program_of v c ≡ Some program)

@@ -3,7 +3,6 @@ pub mod Members
 pub mod ByEmission
 pub mod Acyclic
 pub mod Cyclic
-pub mod Premises
 pub mod Induction
 pub mod Corollaries
 pub mod RegionLaw

@@ -5,7 +5,6 @@ use Rattle.std.proofs.lemmas.List.{get_or_past, length-map}
 use Rattle.std.proofs.lemmas.List.FromFn.{length-map-range_with_len}
 use Rattle.blz_value.specs.Members.{Has}
 use Rattle.blz_value.specs.Record.{Row}
-use Rattle.blz_value.proofs.Membership.{any_from_Has}
 use Rattle.blz_value.proofs.SetLaws.{Has-from_set_of}
 use Rattle.bloom_ast.specs.declared.program.Program.{Program}
 use Rattle.bloom_ast.specs.Program.{port_columns, output_columns}
@@ -13,17 +12,14 @@ use Rattle.bloom_ast.specs.Step.{Sets, set_at}
 use Rattle.path_annotate.specs.Annotation.{note_of}
 use Rattle.path_annotate.specs.declared.note.Note.{Note}
 use Rattle.topo_types.specs.Data.{Data}
-use Rattle.topo_types.specs.Feeds.{Feed}
-use Rattle.topo_types.specs.Messages.{row, rows_in}
+use Rattle.topo_types.specs.Messages.{rows_in}
 use Rattle.topo_types.specs.Valid.{Runs, IsCovered}
-use Rattle.topo_types.specs.View.{View, origin_of, program_of, is_order, replicas_of, component_at, note_at, has_stream, goes_to, stream_numbers}
-use Rattle.topo_types.proofs.Spreading.{in_below}
+use Rattle.topo_types.specs.View.{View, origin_of, program_of, is_order, replicas_of, component_at, note_at, has_stream}
 use Rattle.inbox.specs.Instances.{Instance}
 use Rattle.inbox.specs.Timesteps.{timesteps}
 use Rattle.inbox.specs.Lives.{Life, all_lives}
 use Rattle.inbox.specs.Wiring.{Wiring, wiring_of, instance_at}
 use Rattle.inbox.specs.Executions.{Execution, emitted_list}
-use Rattle.inbox.proofs.WiringLemmas.{IsFeedInto, instance-feeds}
 use Rattle.inbox.proofs.Timesteps.Widths.{timesteps-many}
 use Rattle.inbox.proofs.Timesteps.OfLives.{batches_heard}
 use Rattle.inbox.proofs.Timesteps.Entries.{Has-from_rows_in}
@@ -34,7 +30,7 @@ use Rattle.stream_deps.proofs.Columns.Viewed.{port_count}
 use Rattle.confluence.specs.Complete.{contents_at, contents_into}
 use Rattle.confluence.proofs.Determined.Parts.{IsPart, covered_on}
 use Rattle.confluence.proofs.Contents.Heard.{from_into, heard_into}
-use Rattle.confluence.proofs.Contents.Instances.{instance_is, ports_are, inside, not_order}
+use Rattle.confluence.proofs.Contents.Instances.{ports_are, inside, not_order}
 use Rattle.confluence.proofs.Determined.Rows.{AreInside}
 
 module _ (v : View) (d : Data) (x : Execution) (history : IsHistory v d x) (s c o j : ℕ) (within : s < length v.streams) (origin : origin_of v s ≡ Some (c, o)) (sender : j < replicas_of v c)

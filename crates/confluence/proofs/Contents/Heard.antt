@@ -1,8 +1,7 @@
 -- What an instance hears is among the contents of its feeds, and in a complete execution it is all of them.
-use Rattle.std.proofs.Common.{◌≡◌, ◌<◌, ◌==◌, ℕ, suc, true, false, Some, List, [], ◌∷◌, length, filter, get_or, refl, ap, ◌∙◌, sym, subst, inl, inr, arith}
+use Rattle.std.proofs.Common.{◌≡◌, ◌<◌, ◌==◌, ℕ, suc, true, false, List, [], ◌∷◌, length, filter, get_or, refl, ap, ◌∙◌, sym, subst, inl, inr, arith}
 use Rattle.std.specs.Prelude.{Ok}
 use Rattle.std.specs.List.{flat_map}
-use Rattle.std.specs.Option.{unwrap_or, option_map}
 use Rattle.std.proofs.lemmas.Bool.{cases_lt, eqb-true, eq-eqb}
 use Rattle.std.proofs.lemmas.List.{get_or_past}
 use Rattle.std.proofs.lemmas.List.FromFn.{get_or-map-range_with_len, length-map-range_with_len}
@@ -11,14 +10,12 @@ use Rattle.blz_value.specs.Record.{Row}
 use Rattle.blz_value.proofs.Membership.{Has-get_or, Has-flat_map, Has-from_flat_map, Has-filter, Has-from_filter}
 use Rattle.blz_value.proofs.SetLaws.{Has-set_of, Has-from_set_of}
 use Rattle.bloom_ast.specs.Step.{set_at}
-use Rattle.topo_types.specs.declared.mode.Mode.{Mode}
-use Rattle.topo_types.specs.declared.mode.Mode.TheVariants.{Free, Pass, Seal, Order}
 use Rattle.topo_types.specs.Data.{Data}
 use Rattle.topo_types.specs.Feeds.{Feed, no_feed}
-use Rattle.topo_types.specs.Messages.{Message, row, seal, row_in, rows_in}
+use Rattle.topo_types.specs.Messages.{Message, row, rows_in}
 use Rattle.topo_types.specs.View.{is_order_mode}
-use Rattle.inbox.specs.Messages.{Pair, Batch, Entry, all_pairs}
-use Rattle.inbox.specs.Instances.{Instance, port_of_feed, entry_of, entries_of}
+use Rattle.inbox.specs.Messages.{Batch, Entry, all_pairs}
+use Rattle.inbox.specs.Instances.{Instance, port_of_feed, entries_of}
 use Rattle.inbox.specs.Timesteps.{Stands, timesteps}
 use Rattle.inbox.specs.Lives.{Life, all_lives}
 use Rattle.inbox.specs.Wiring.{Wiring, instance_at, is_there}
@@ -26,12 +23,9 @@ use Rattle.inbox.specs.Executions.{Execution, emitted_list, contents, execution_
 use Rattle.inbox.specs.Completeness.{IsComplete}
 use Rattle.inbox.specs.Growth.{feed_numbered, ComesFrom}
 use Rattle.inbox.specs.Events.{Step}
-use Rattle.inbox.proofs.Timesteps.AtOnce.{at_once_timesteps-heard}
 use Rattle.inbox.proofs.Executions.Completing.{all_delivered}
 use Rattle.inbox.proofs.Timesteps.Held.{nothing_held}
 use Rattle.inbox.proofs.Executions.Sent.{history_holds}
-use Rattle.inbox.proofs.Timesteps.UnderSeal.{seal_timesteps-go}
-use Rattle.inbox.proofs.Timesteps.Whole.{Has-filter_map, Has-from_filter_map}
 use Rattle.inbox.proofs.WiringLemmas.{port_of-feed}
 use Rattle.inbox.proofs.Timesteps.Entries.{Has-rows_in, Has-from_rows_in, heard_entry, entry_heard}
 use Rattle.confluence.specs.Complete.{contents_at, contents_into}

@@ -1,9 +1,9 @@
 -- The contents of a stream of a component that isn't Order: the rows of its output over the lives of the instance that emits them.
-use Rattle.std.proofs.Common.{◌≡◌, ◌<◌, ℕ, true, false, Some, List, [], ◌∷◌, length, refl, ap, ◌∙◌, sym, subst, inl, arith}
+use Rattle.std.proofs.Common.{◌≡◌, ◌<◌, ℕ, true, false, Some, [], ◌∷◌, length, refl, ap, ◌∙◌, sym, subst, inl, arith}
 use Rattle.std.proofs.lemmas.Bool.{lt-ltb}
 use Rattle.blz_value.specs.Members.{Has, IsWithin}
 use Rattle.blz_value.specs.Record.{Row}
-use Rattle.blz_value.proofs.Membership.{Has-append_right, Has-flat_map, Has-from_flat_map}
+use Rattle.blz_value.proofs.Membership.{Has-append_right}
 use Rattle.blz_value.proofs.SetLaws.{sorted_set_of, Has-set_of, Has-from_set_of, same_row_sets}
 use Rattle.bloom_ast.specs.declared.program.Program.{Program}
 use Rattle.bloom_ast.specs.ProgramStep.{empty_tables, answer_of}
@@ -11,20 +11,17 @@ use Rattle.bloom_ast.specs.Step.{Sets, set_at}
 use Rattle.row_laws.specs.Runs.{output_rows, over_steps, output_over}
 use Rattle.row_laws.proofs.Confluent.ConfluentLaw.{one_step_answers}
 use Rattle.topo_types.specs.Data.{Data}
-use Rattle.topo_types.specs.Messages.{Message, rows_in}
+use Rattle.topo_types.specs.Messages.{rows_in}
 use Rattle.topo_types.specs.Valid.{IsValid}
 use Rattle.topo_types.specs.View.{View, origin_of, program_of, is_order, is_order_mode, replicas_of, component_at}
 use Rattle.inbox.specs.Instances.{Instance}
 use Rattle.inbox.specs.Timesteps.{timesteps}
-use Rattle.inbox.specs.Lives.{Life, all_lives, emitted_by, life_timesteps}
+use Rattle.inbox.specs.Lives.{Life, all_lives, life_timesteps}
 use Rattle.inbox.specs.Wiring.{Wiring, wiring_of, instance_at, instance_for, is_there}
 use Rattle.inbox.specs.Executions.{Execution, emitted_list, contents}
 use Rattle.inbox.specs.Completeness.{IsComplete}
-use Rattle.inbox.specs.Folds.{rows_from}
-use Rattle.inbox.proofs.Lists.Rows.{life_rows, rows_of_list}
 use Rattle.inbox.proofs.WiringLemmas.{instance-wired, there-wired, length-below, instance-ports}
 use Rattle.inbox.proofs.Timesteps.OfLives.{life_timesteps-hearing}
-use Rattle.inbox.proofs.Lists.Origins.{output_list}
 use Rattle.inbox.proofs.Timesteps.Entries.{Has-rows_in, Has-from_rows_in}
 use Rattle.confluence.specs.Complete.{contents_into}
 use Rattle.confluence.proofs.Contents.Heard.{last_heard}

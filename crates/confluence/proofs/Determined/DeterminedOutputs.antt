@@ -1,17 +1,15 @@
--- Determined outputs: the contents of a protected output, or of one with confluent paths, are the one-step answer to all that arrives.
+-- The contents of a protected output, or of one with confluent paths, are the one-step answer to all that arrives.
 use Rattle.std.proofs.Common.{◌≡◌, ◌<◌, ◌^◌, ◌&&◌, ℕ, Bool, true, false, Option, None, Some, IfSome, List, [], ◌∷◌, length, map, refl, ap, ◌∙◌, sym, subst, inl, inr, ◌⊎◌}
 use Rattle.std.specs.Prelude.{is_some}
 use Rattle.std.specs.List.{list_any}
 use Rattle.std.proofs.lemmas.Bool.{cases_Bool, true≢false}
 use Rattle.blz_value.specs.Members.{Has, IsWithin, HaveEqualMembers}
 use Rattle.blz_value.specs.Record.{Row}
-use Rattle.blz_value.proofs.Membership.{Has-from_any, any_from_Has, Has-from_map, Has-get_or, Has-filter, Has-from_filter}
+use Rattle.blz_value.proofs.Membership.{Has-from_any, any_from_Has, Has-from_map, Has-get_or, Has-filter}
 use Rattle.fd_closure.specs.declared.attrs.Attrs.{Attrs}
 use Rattle.fd_closure.specs.declared.attrs.Fd.{Fd}
-use Rattle.fd_closure.specs.Bits.{bit_of, meets}
 use Rattle.fd_closure.specs.Closure.{within, closure}
 use Rattle.fd_closure.proofs.Least.{closure-least}
-use Rattle.fd_closure.proofs.Members.{in-within}
 use Rattle.fd_closure.proofs.Reached.{least-monotone}
 use Rattle.fd_closure.proofs.Within.{within-trans}
 use Rattle.fd_closure.proofs.MembersInOrder.{members_within}
@@ -45,14 +43,15 @@ use Rattle.inbox.proofs.WiringLemmas.{instance-ports, port_of-feed}
 use Rattle.inbox.proofs.Timesteps.Entries.{Has-rows_in, Has-from_rows_in}
 use Rattle.inbox.specs.Executions.{Execution, emitted_list, contents}
 use Rattle.inbox.specs.Completeness.{IsComplete}
-use Rattle.stream_deps.specs.Laws.{ArrivalsLaw, KeyedLaw, HaveKey}
+use Rattle.stream_deps.specs.Laws.{HaveKey}
 use Rattle.stream_deps.specs.Sent.{IsHistory}
 use Rattle.stream_deps.proofs.Streams.IntoPorts.{end_there}
 use Rattle.stream_deps.proofs.Columns.Attributes.{within-small, numbers_are_roots}
+use Rattle.stream_deps.proofs.Records.ArrivingLaw.{arrivals_law}
+use Rattle.stream_deps.proofs.Dependencies.JointLaw.{keyed_law}
 use Rattle.confluence.specs.Complete.{contents_into}
 use Rattle.confluence.specs.LabelMeaning.{HasConfluentPaths, IsPath, IsGuarded}
 use Rattle.confluence.specs.Partitions.{IsFed, IsSealing, AreCarrying, IsAtOnce}
-use Rattle.confluence.specs.Laws.{RulesLaw, OutputsLaw}
 use Rattle.confluence.proofs.Contents.Heard.{at_place, in_into, from_into}
 use Rattle.confluence.proofs.Honest.KeysAtPorts.{restricts}
 use Rattle.confluence.proofs.Honest.Partitions.{IsRestriction}
@@ -194,7 +193,7 @@ module _ (v : View) (d : Data) (x : Execution) (history : IsHistory v d x) (s c 
         silent_part v program o rows given gate part port lt o_there (timesteps i life.heard) all (silent (timesteps i life.heard) (into_life life of_life)) (silent (all ∷ []) into_all)
 
     -- where one has, and the output is protected
-    module _ (arrivals : ArrivalsLaw) (keyed : KeyedLaw) (rules : RulesLaw) (outputs : OutputsLaw) (holds : Holds v d) (guard : IsGuarded v (c, o)) where
+    module _ (holds : Holds v d) (guard : IsGuarded v (c, o)) where
       abbrev key : Attrs
       key = guard.key
 
@@ -295,7 +294,7 @@ module _ (v : View) (d : Data) (x : Execution) (history : IsHistory v d x) (s c 
         }
 
         by_value : AreSilentAt program (λ port. is_some (given port)) (map of (timesteps i life.heard)) ⊎ IsOpen v program o rows given gate part (members key.bits) (timesteps i life.heard) all value
-        by_value = elim (part.partitions rules outputs d x c j key life.heard value sealing body carrying) [
+        by_value = elim (part.partitions d x c j key life.heard value sealing body carrying) [
           | inl waiting ↦ inl (λ now came port lt t. subst (λ (nows : List Sets). (z : Sets) → Has z (map of nows) → (p : ℕ) → set_at z p ≡ []) same_steps waiting.silent now came port)
           | inr open_ ↦ inr (opened open_)
         ]
@@ -307,19 +306,19 @@ module _ (v : View) (d : Data) (x : Execution) (history : IsHistory v d x) (s c 
           let into : AreInside nows all = into_life life of_life in
           let sent = inside_sent v d x history s c o j stands origin sender program body unordered in
           apart_part v program o rows given gate part (members key.bits) nows all port lt o_there (usable_fds v c) (record {
-            arrivals = arrivals v d x c program nows history at.0 body (long_life v d x history s c o j stands origin sender program body unordered life) (sent nows into);
-            all_arrivals = arrivals v d x c program (all ∷ []) history at.0 body
+            arrivals = arrivals_law v d x c program nows history at.0 body (long_life v d x history s c o j stands origin sender program body unordered life) (sent nows into);
+            all_arrivals = arrivals_law v d x c program (all ∷ []) history at.0 body
                 (λ now h. elim h [ inl e ↦ ap length (sym e) ∙ long_all v d x history s c o j stands origin sender program body unordered | inr never ↦ absurd never ]) (sent (all ∷ []) into_all);
-            keyed = keyed v d x c program nows (λ other. is_some (given other)) (members key.bits) history holds at.0 body (sent nows into) has_key;
-            all_keyed = keyed v d x c program (all ∷ []) (λ other. is_some (given other)) (members key.bits) history holds at.0 body (sent (all ∷ []) into_all) has_key;
+            keyed = keyed_law v d x c program nows (λ other. is_some (given other)) (members key.bits) history holds at.0 body (sent nows into) has_key;
+            all_keyed = keyed_law v d x c program (all ∷ []) (λ other. is_some (given other)) (members key.bits) history holds at.0 body (sent (all ∷ []) into_all) has_key;
             closed = closed_at port lt o_there over_it;
             each = λ value. by_value (key_small port lt o_there over_it) life of_life value;
           }) into
 
     -- the cases
-    pub part_determined : ArrivalsLaw → KeyedLaw → RulesLaw → OutputsLaw → Holds v d → IsGuarded v (c, o) ⊎ HasConfluentPaths v (c, o)
+    pub part_determined : Holds v d → IsGuarded v (c, o) ⊎ HasConfluentPaths v (c, o)
         → (life : Life) → Has life (all_lives (x.lives c j)) → IsDetermined program over (timesteps i life.heard) all
-    part_determined arrivals keyed rules outputs holds kept life of_life =
+    part_determined holds kept life of_life =
         elim (cases_Bool (list_any (λ port. is_o (given port)) (below count))) [
           | inr none ↦ confluent_part v program o rows given gate part (all_c (λ port lt. none_passes (λ other. is_o (given other)) count port none lt)) (timesteps i life.heard) all (into_life life of_life)
           | inl some ↦
@@ -332,7 +331,7 @@ module _ (v : View) (d : Data) (x : Execution) (history : IsHistory v d x) (s c 
                     let p_lt = from_below count p.0 p.1 in
                     let both = both_true (is_o (given p.0)) (has_stream v c p.0) p.2 in
                     elim kept [
-                      | inl guard ↦ guarded_part arrivals keyed rules outputs holds guard p.0 p_lt both.0 both.1 life of_life
+                      | inl guard ↦ guarded_part holds guard p.0 p_lt both.0 both.1 life of_life
                       | inr confluent ↦
                           let g = covers_o (note_at v c p.0 o) (given p.0) (covered p.0 (below_ports p.0 p_lt)) both.0 in
                           let st = Has-from_any (goes_to v c p.0) (stream_numbers v) both.1 in
@@ -348,8 +347,8 @@ module _ (v : View) (d : Data) (x : Execution) (history : IsHistory v d x) (s c 
           | inr no_it ↦ no_it
         ]
 
-  -- Determined outputs
-  pub determined_output : ArrivalsLaw → KeyedLaw → RulesLaw → OutputsLaw → Holds v d → IsGuarded v (c, o) ⊎ HasConfluentPaths v (c, o) → IsComplete w d x
+  -- the contents of a guarded output, or of one with confluent paths
+  pub determined_output : Holds v d → IsGuarded v (c, o) ⊎ HasConfluentPaths v (c, o) → IsComplete w d x
       → contents w d x s j ≡ set_at (answer_of program all) o
-  determined_output arrivals keyed rules outputs holds kept complete =
-      contents_by_parts complete (λ rows given gate part life of_life. part_determined rows given gate part arrivals keyed rules outputs holds kept life of_life)
+  determined_output holds kept complete =
+      contents_by_parts complete (λ rows given gate part life of_life. part_determined rows given gate part holds kept life of_life)

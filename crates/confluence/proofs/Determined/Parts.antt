@@ -26,7 +26,7 @@ use Rattle.topo_types.specs.View.{View, program_of}
 use Rattle.inbox.specs.Messages.{Batch}
 use Rattle.inbox.specs.Executions.{Execution}
 use Rattle.confluence.specs.Partitions.{IsSealing, AreCarrying, IsWaiting, IsAtOnce}
-use Rattle.confluence.specs.Laws.{RulesLaw, OutputsLaw}
+use Rattle.confluence.proofs.Honest.PartitionLaw.{partitions_of_rules, partitions_of_outputs}
 use Rattle.row_laws.specs.Confluence.{IsConfluent}
 use Rattle.row_laws.specs.Ports.{SeesItsPorts, IsSilent}
 use Rattle.row_laws.specs.Runs.{query_rows, output_rows, output_over, rows_over}
@@ -83,7 +83,7 @@ pub record IsPart (v : View) (program : Program) (output : ℕ) (rows : Sets →
   pub covered : (port : ℕ) → IsCovered (note_of v.attributes program port output) (given port)
   pub gated : (port : ℕ) → IfSome (given port) (λ note. IfSome (own_gate note) (λ own. own.bits ≡ gate))
   -- Partition of a life
-  pub partitions : RulesLaw → OutputsLaw → (d : Data) (x : Execution) (c j : ℕ) (key : Attrs) (batches : List Batch) (value : Row) → IsSealing v d x c j key batches → program_of v c ≡ Some program → AreCarrying v c key given
+  pub partitions : (d : Data) (x : Execution) (c j : ℕ) (key : Attrs) (batches : List Batch) (value : Row) → IsSealing v d x c j key batches → program_of v c ≡ Some program → AreCarrying v c key given
       → IsWaiting v d x c j key program batches value (rows_over program rows) ⊎ IsAtOnce v d x c j key program batches value (rows_over program rows)
 
 -- a fact of rows over timesteps holds of an output where it holds of each of its parts
@@ -104,7 +104,7 @@ rule_part v a checked output rule of_head =
       silent = see.1;
       covered = λ port. all_cover (map (λ (r : RuleForm). rule_use v.attributes a r port) (rules_at a.form.collections a.form.rules (number a checked output))) (rule_use v.attributes a rule port) (Has-map (λ (r : RuleForm). rule_use v.attributes a r port) rule (rules_at a.form.collections a.form.rules (number a checked output)) of_head);
       gated = λ port. uses_have_gate a.form (good_tables a) (rule_gate v.attributes a rule) (number_in_kind Input a.form.collections port) rule.1;
-      partitions = λ rules outputs d x c j key batches value sealing body carrying. rules v d x c j key batches a value sealing body rule stands carrying;
+      partitions = λ d x c j key batches value sealing body carrying. partitions_of_rules v d x c j key batches a value sealing body rule stands carrying;
     }
 
 latest_gated : (keys port : ℕ) → IfSome (own_gate (latest_note keys port)) (λ own. own.bits ≡ keys)
@@ -125,7 +125,7 @@ stock_part v program output proper silent gated = record {
   silent = silent;
   covered = λ port. covered_self (note_of v.attributes program port output);
   gated = gated;
-  partitions = λ rules outputs d x c j key batches value sealing body carrying. outputs v d x c j key batches program value sealing body output carrying;
+  partitions = λ d x c j key batches value sealing body carrying. partitions_of_outputs v d x c j key batches program value sealing body output carrying;
 }
 
 pub by_parts : (v : View) (program : Program) (output : ℕ) → IsProper program → output < length (output_columns program) → ByParts v program output

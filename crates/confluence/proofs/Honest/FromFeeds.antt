@@ -6,17 +6,16 @@ use Rattle.blz_value.specs.Record.{Row}
 use Rattle.blz_value.specs.Operators.{cells}
 use Rattle.blz_value.proofs.Membership.{Has-filter}
 use Rattle.topo_types.specs.Data.{Data}
-use Rattle.topo_types.specs.Messages.{Message, row, seal, row_in, is_same_row}
+use Rattle.topo_types.specs.Messages.{row, is_same_row}
 use Rattle.topo_types.specs.Sets.{below}
 use Rattle.topo_types.proofs.Spreading.{in_below}
 use Rattle.inbox.specs.Messages.{Pair, Entry}
-use Rattle.inbox.specs.Instances.{Instance, port_of_feed, key_places_at, is_carrying, entry_of, entries_of, key_of_entry}
+use Rattle.inbox.specs.Instances.{Instance, port_of_feed, key_places_at, is_carrying, entries_of, key_of_entry}
 use Rattle.inbox.specs.Timesteps.{is_whole}
 use Rattle.inbox.specs.Wiring.{Wiring}
 use Rattle.inbox.specs.Executions.{Execution, emitted_list}
 use Rattle.inbox.specs.Growth.{feed_numbered, ComesFrom}
 use Rattle.inbox.proofs.MessagesLemmas.{is_same_row-itself}
-use Rattle.inbox.proofs.Timesteps.Whole.{Has-from_filter_map}
 use Rattle.inbox.proofs.Timesteps.Entries.{heard_entry}
 use Rattle.confluence.specs.Honest.{IsHonest}
 use Rattle.confluence.specs.Partitions.{IsFed}

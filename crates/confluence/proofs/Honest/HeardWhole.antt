@@ -1,5 +1,5 @@
 -- Where a partition is whole and its feeds are honest, all of its records that feeds emitted were heard.
-use Rattle.std.proofs.Common.{◌≡◌, refl, ap, sym, subst, ◌∙◌, ℕ, ◌+◌, ◌≤◌, ◌==◌, Bool, true, false, cond, List, [], ◌∷◌, ◌++◌, length, map, filter, arith, inl, inr, Some}
+use Rattle.std.proofs.Common.{◌≡◌, ap, sym, subst, ◌∙◌, ℕ, ◌+◌, ◌≤◌, ◌==◌, Bool, true, List, [], ◌∷◌, ◌++◌, length, map, filter, arith, inl, inr, Some}
 use Rattle.std.specs.Option.{option_map, unwrap_or}
 use Rattle.std.proofs.lemmas.Bool.{eqb-true}
 use Rattle.std.proofs.lemmas.List.Elements.{filter_map-append, filter-append}
@@ -14,13 +14,13 @@ use Rattle.blz_value.proofs.RowSets.{length-set_of-le}
 use Rattle.topo_types.specs.Data.{Data}
 use Rattle.topo_types.specs.Messages.{Message, row, seal, is_same_row, row_in, rows_in}
 use Rattle.inbox.specs.Messages.{Pair, Entry}
-use Rattle.inbox.specs.Instances.{Instance, port_of_feed, key_places_at, carrying_feeds, entry_of, entries_of, key_of_entry, is_of_key}
+use Rattle.inbox.specs.Instances.{Instance, port_of_feed, key_places_at, carrying_feeds, entries_of, key_of_entry, is_of_key}
 use Rattle.inbox.specs.Timesteps.{is_whole, from_feed}
 use Rattle.inbox.specs.Wiring.{Wiring}
 use Rattle.inbox.specs.Executions.{Execution, emitted_list}
 use Rattle.inbox.specs.Growth.{feed_numbered, ComesFrom}
 use Rattle.inbox.proofs.MessagesLemmas.{is_same_row-itself}
-use Rattle.inbox.proofs.Timesteps.Whole.{Has-filter_map, Has-from_filter_map, whole-seal}
+use Rattle.inbox.proofs.Timesteps.Whole.{whole-seal}
 use Rattle.inbox.proofs.Timesteps.UnderSeal.{of_key-is}
 use Rattle.inbox.proofs.Timesteps.Entries.{entry_heard, heard_entry, Has-rows_in, Has-from_rows_in}
 use Rattle.inbox.proofs.Timesteps.Touching.{none_of}

@@ -16,9 +16,7 @@ use Rattle.inbox.specs.Wiring.{Wiring, wiring_of, instance_at, instance_for}
 use Rattle.inbox.specs.Executions.{Execution}
 use Rattle.inbox.specs.Growth.{ComesFrom}
 use Rattle.inbox.specs.Laws.{IsSent}
-use Rattle.inbox.proofs.Timesteps.AtOnce.{GoesAtOnce, at_once_timesteps-heard}
 use Rattle.inbox.proofs.Executions.Sent.{history_holds}
-use Rattle.inbox.proofs.Timesteps.UnderSeal.{seal_timesteps-go}
 use Rattle.inbox.proofs.Timesteps.Whole.{entries_of-append}
 use Rattle.inbox.proofs.WiringLemmas.{instance-wired}
 use Rattle.inbox.proofs.Timesteps.Widths.{timesteps-many}

@@ -4,7 +4,7 @@ use Rattle.std.proofs.lemmas.Bool.{true≢false}
 use Rattle.fd_closure.specs.declared.attrs.Attrs.{Attrs}
 use Rattle.blz_value.specs.Members.{Has}
 use Rattle.blz_value.specs.Record.{Row}
-use Rattle.blz_value.proofs.Membership.{Has-get_or, any_from_Has}
+use Rattle.blz_value.proofs.Membership.{Has-get_or}
 use Rattle.bloom_ast.specs.declared.program.Program.{Program}
 use Rattle.bloom_ast.specs.declared.program.Program.TheVariants.{Module}
 use Rattle.bloom_ast.specs.Program.{port_columns}
@@ -22,8 +22,7 @@ use Rattle.row_laws.proofs.Ports.PortsLaw.{outputs_see}
 use Rattle.topo_types.specs.Data.{Data}
 use Rattle.topo_types.specs.Feeds.{no_feed}
 use Rattle.topo_types.specs.Valid.{Runs}
-use Rattle.topo_types.specs.View.{View, component_at, program_of, mode_of, mode_key, has_stream, goes_to, stream_numbers}
-use Rattle.topo_types.proofs.Spreading.{in_below}
+use Rattle.topo_types.specs.View.{View, component_at, program_of, mode_of, mode_key, has_stream, goes_to}
 use Rattle.inbox.specs.Messages.{Batch, all_pairs}
 use Rattle.inbox.specs.Instances.{Instance, is_carrying}
 use Rattle.inbox.specs.Timesteps.{is_whole, timesteps}

@@ -1,14 +1,13 @@
 -- A set within another that has no more members is the other.
-use Rattle.std.proofs.Common.{◌≡◌, refl, ap, sym, subst, ◌∙◌, ◌+◌, ◌≤◌, true, false, List, ◌∷◌, ◌++◌, length, arith, inl, inr}
+use Rattle.std.proofs.Common.{◌≡◌, refl, ap, sym, subst, ◌∙◌, ◌+◌, ◌≤◌, true, false, List, ◌∷◌, length, arith, inl, inr}
 use Rattle.std.specs.List.{list_any}
 use Rattle.std.specs.BTreeSet.{insert_key}
 use Rattle.blz_value.specs.Members.{Has, IsWithin}
 use Rattle.blz_value.specs.Record.{Row, record_cmp}
 use Rattle.blz_value.specs.RecordOrder.{record_cmp_exact}
 use Rattle.blz_value.specs.Sets.{set_of, IsRowSet}
-use Rattle.blz_value.proofs.Membership.{Has-append_right, Has-append_cases}
 use Rattle.blz_value.proofs.SetLaws.{sorted_set_of, Has-from_set_of}
-use Rattle.blz_value.proofs.RowSets.{same_set_of, set_of-sorted, length-insert_key-new, length-set_of-append_left}
+use Rattle.blz_value.proofs.RowSets.{set_of-sorted, length-insert_key-new}
 use Rattle.blz_value.proofs.OperatorsLemmas.{length-within}
 use Rattle.topo_types.specs.Messages.{is_same_row}
 use Rattle.inbox.proofs.MessagesLemmas.{is_same_row-is, is_same_row-itself, same-from_any, any-from_same}

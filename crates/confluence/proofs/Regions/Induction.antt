@@ -19,6 +19,7 @@ use Rattle.topo_types.specs.Sets.{below}
 use Rattle.topo_types.specs.Valid.{IsValid}
 use Rattle.topo_types.specs.View.{View, End, origin_of, program_of, is_order, is_replicated, replicas_of, senders_of, goes_to, stream_numbers}
 use Rattle.topo_types.proofs.Spreading.{from_below, in_below}
+use Rattle.topo_types.proofs.OrderAlone.{order_acyclic}
 use Rattle.label_rules.specs.declared.label.Label.{Label}
 use Rattle.label_rules.specs.declared.label.Label.TheVariants.{Seal, Async, Run, Inst, Diverge}
 use Rattle.label_rules.specs.Label.{severity}
@@ -33,13 +34,15 @@ use Rattle.stream_deps.proofs.Streams.IntoPorts.{goes_is}
 use Rattle.confluence.specs.Complete.{IsCompleted, contents_into}
 use Rattle.confluence.specs.LabelMeaning.{IsOutside, IsProtected, IsGuarded, IsInCycle, HasGoodPaths, HasGoodInputs, HasConfluentPaths}
 use Rattle.confluence.specs.Laws.{StrongRestartLaw, OpenRegionLaw, DeterminedOutputs}
-use Rattle.confluence.proofs.Regions.Premises.{Premises}
 use Rattle.confluence.specs.Sound.{IsSteady, HaveEqualContents, HasOneStepContents, is_replicated_node, IsOpenSound}
 use Rattle.confluence.proofs.Determined.DeterminedOutputs.{determined_output}
 use Rattle.confluence.proofs.Regions.Members.{in_own, same_region, same_number, earlier}
 use Rattle.confluence.proofs.Contents.OrderReplicas.{no_contents, order_equal}
 use Rattle.confluence.proofs.Regions.Acyclic.{PathsEqual, answers_equal, equal_back}
 use Rattle.confluence.proofs.Regions.Cyclic.{in_inputs, member_unordered, confluent_contents, contents_common, empty_contents, empty_answer}
+use Rattle.confluence.proofs.Labels.CyclicLaw.{inputs_of_async, inputs_of_run}
+use Rattle.confluence.proofs.Labels.GoodPathsLaw.{good_of_async, good_of_run}
+use Rattle.confluence.proofs.Labels.ProtectedLaw.{protected_guarded}
 use Rattle.fd_closure.specs.Bits.{members}
 
 -- ---- labels
@@ -70,7 +73,7 @@ outside_so set origin from e out member =
     let t : not (is_in from.0 set) ≡ true = ap (λ o. option_map_or (λ (output : End). not (is_in output.0 set)) o true) (sym e) ∙ out in
     true≢false (sym t ∙ ap not member)
 
-module _ (premises : Premises) (v : View) (labels : List Label) (d : Data) (valid : IsValid v) (are : AreLabels v labels) (fits : IsData v d) (holds : Holds v d) where
+module _ (v : View) (labels : List Label) (d : Data) (valid : IsValid v) (are : AreLabels v labels) (fits : IsData v d) (holds : Holds v d) where
   abbrev w : Wiring
   w = wiring_of v
 
@@ -90,8 +93,8 @@ module _ (premises : Premises) (v : View) (labels : List Label) (d : Data) (vali
     outside_given : (x : Execution) → (done : Done x) → (i : ℕ) → (lt_i : i < replicas_of v c) → (program : Program) → program_of v c ≡ Some program → contents w d x s i ≡ set_at (answer_of program (contents_into w d x c i)) o
     outside_given x done i lt_i program body =
         let hx = history x done in
-        let guarded : IsGuarded v (c, o) ⊎ HasConfluentPaths v (c, o) = elim kept [ inl p ↦ inl (premises.protected v labels (c, o) valid are p) | inr q ↦ inr q ] in
-        determined_output v d x hx s c o i stands origin lt_i program body unordered premises.arrivals premises.keyed premises.rules premises.outputs holds guarded done.complete
+        let guarded : IsGuarded v (c, o) ⊎ HasConfluentPaths v (c, o) = elim kept [ inl p ↦ inl (protected_guarded v labels (c, o) valid are p) | inr q ↦ inr q ] in
+        determined_output v d x hx s c o i stands origin lt_i program body unordered holds guarded done.complete
 
   module _ (s c o : ℕ) (stands : s < length v.streams) (origin : origin_of v s ≡ Some (c, o)) (unordered : is_order v c ≡ false) (acyclic : is_in_cycle v c ≡ false) (worst : Label) (good : HasGoodPaths v labels (c, o) worst) where
     -- part 2
@@ -138,23 +141,23 @@ module _ (premises : Premises) (v : View) (labels : List Label) (d : Data) (vali
     cycle_answer : (x : Execution) → Done x → (i : ℕ) → i < replicas_of v c → (program : Program) → program_of v c ≡ Some program → contents w d x s i ≡ set_at (answer_of program (contents_into w d x c i)) o
     cycle_answer x done i lt_i program body = elim good [
       | inl none ↦
-          empty_contents v d valid premises.order_acyclic c lt_c cyclic none x (history x done) s c o i stands origin lt_i own
-          ∙ sym (empty_answer v d valid premises.order_acyclic c lt_c cyclic none x (history x done) s c o i stands origin lt_i own program body)
-      | inr inputs ↦ confluent_contents v d valid premises.order_acyclic c lt_c cyclic inputs.confluent x (history x done) done.complete s c o i stands origin lt_i own program body
+          empty_contents v d valid order_acyclic c lt_c cyclic none x (history x done) s c o i stands origin lt_i own
+          ∙ sym (empty_answer v d valid order_acyclic c lt_c cyclic none x (history x done) s c o i stands origin lt_i own program body)
+      | inr inputs ↦ confluent_contents v d valid order_acyclic c lt_c cyclic inputs.confluent x (history x done) done.complete s c o i stands origin lt_i own program body
     ]
 
     -- parts 1 and 3
     cycle_equal : (x y : Execution) → Done x → Done y → ((stream : ℕ) → stream < length v.streams → IsBefore stream c → severity (label_at labels stream) ≤ severity worst → HaveEqualContents v d x y stream) → HaveEqualContents v d x y s
     cycle_equal x y done_x done_y before i j lt_i' lt_j' = elim good [
       | inl none ↦
-          empty_contents v d valid premises.order_acyclic c lt_c cyclic none x (history x done_x) s c o i stands origin lt_i own
-          ∙ sym (empty_contents v d valid premises.order_acyclic c lt_c cyclic none y (history y done_y) s c o j stands origin lt_j own)
+          empty_contents v d valid order_acyclic c lt_c cyclic none x (history x done_x) s c o i stands origin lt_i own
+          ∙ sym (empty_contents v d valid order_acyclic c lt_c cyclic none y (history y done_y) s c o j stands origin lt_j own)
       | inr inputs ↦
           same_row_sets (contents w d x s i) (contents w d y s j) (sorted_set_of (rows_in (emitted_list w d x s i))) (sorted_set_of (rows_in (emitted_list w d y s j))) (
-            contents_common v d valid premises.order_acyclic c lt_c cyclic inputs.confluent y (history y done_y) done_y.complete x (history x done_x)
+            contents_common v d valid order_acyclic c lt_c cyclic inputs.confluent y (history y done_y) done_y.complete x (history x done_x)
                 (λ u k m p r lt lt_k out member goes sent l lt_l. subst (λ (z : List Row). Has r z) (before u lt (is_before u m p lt out member goes) (inputs.labelled (u, (m, p)) (in_inputs v (region_set v c) u m p lt out member goes)) k l lt_k lt_l) (listed x u k r sent))
                 s c o i j stands origin lt_i lt_j own,
-            contents_common v d valid premises.order_acyclic c lt_c cyclic inputs.confluent x (history x done_x) done_x.complete y (history y done_y)
+            contents_common v d valid order_acyclic c lt_c cyclic inputs.confluent x (history x done_x) done_x.complete y (history y done_y)
                 (λ u k m p r lt lt_k out member goes sent l lt_l. subst (λ (z : List Row). Has r z)
                 (equal_back v d x y u (before u lt (is_before u m p lt out member goes) (inputs.labelled (u, (m, p)) (in_inputs v (region_set v c) u m p lt out member goes))) k l lt_k lt_l) (listed y u k r sent))
                 s c o j i stands origin lt_j lt_i own,
@@ -174,7 +177,7 @@ module _ (premises : Premises) (v : View) (labels : List Label) (d : Data) (vali
         is_before u m p lt out member goes from of_from order =
             let end = goes_is v m p u goes in
             let lt_m = (valid.numbered.ends u (m, p) lt end).0 in
-            let unordered_m = member_unordered v d valid premises.order_acyclic c lt_c cyclic m lt_m member in
+            let unordered_m = member_unordered v d valid order_acyclic c lt_c cyclic m lt_m member in
             elim (earlier v valid u from (m, p) lt of_from end unordered_m) [
               | inl lower ↦ subst (λ (n : ℕ). region_of v from.0 < n) (sym (same_number v valid c m lt_c lt_m member)) lower
               | inr cycle ↦ absurd (outside_so (region_set v c) (origin_of v u) from of_from out (subst (λ (set : ℕ). is_in from.0 set ≡ true) (sym (same_region v valid c m lt_c lt_m member)) cycle.0))
@@ -233,12 +236,12 @@ module _ (premises : Premises) (v : View) (labels : List Label) (d : Data) (vali
   outside_claim s c o stands origin unordered acyclic before =
       let is : IsOutside v s (c, o) = record { stands = stands; origin = origin; unordered = unordered; acyclic = acyclic } in record {
         steady = λ steady x y done_x done_y.
-            let good = premises.good_async v labels s (c, o) valid are is (steady_severe (label_at labels s) steady) in
+            let good = good_of_async v labels s (c, o) valid are is (steady_severe (label_at labels s) steady) in
             outside_equal s c o stands origin unordered acyclic Async good x y done_x done_y (steady_before c before x y done_x done_y);
         run = λ run x done. elim (cases_Bool (is_replicated v c)) [
           | inr one ↦ one_replica s c o origin one x
           | inl more ↦
-              let good = premises.good_run v labels s (c, o) valid are is more run in
+              let good = good_of_run v labels s (c, o) valid are is more run in
               outside_equal s c o stands origin unordered acyclic Run good x x done done (mild_before c before x done)
         ];
       }
@@ -257,12 +260,12 @@ module _ (premises : Premises) (v : View) (labels : List Label) (d : Data) (vali
   cycle_claim s c o stands origin cyclic before =
       let is : IsInCycle v s (c, o) = record { stands = stands; origin = origin; cyclic = cyclic } in record {
         steady = λ steady x y done_x done_y.
-            let good = premises.inputs_async v labels s (c, o) valid are is (steady_severe (label_at labels s) steady) in
+            let good = inputs_of_async v labels s (c, o) valid are is (steady_severe (label_at labels s) steady) in
             cycle_equal s c o stands origin cyclic Async good x y done_x done_y (steady_before c before x y done_x done_y);
         run = λ run x done. elim (cases_Bool (is_replicated_set v (region_set v c))) [
           | inr one ↦ one_replica s c o origin (member_replicated s c o stands origin one) x
           | inl more ↦
-              let good = premises.inputs_run v labels s (c, o) valid are is more run in
+              let good = inputs_of_run v labels s (c, o) valid are is more run in
               cycle_equal s c o stands origin cyclic Run (inr good) x x done done (mild_before c before x done)
         ];
       }
@@ -308,9 +311,9 @@ module _ (premises : Premises) (v : View) (labels : List Label) (d : Data) (vali
   steady_answers : (s : ℕ) → s < length v.streams → IsSteady (label_at labels s) → (x : Execution) → Done x → HasOneStepContents v d x s
   steady_answers s stands steady x done c o i program origin body unordered lt_i =
       answers s c o stands origin (λ un. elim (cases_Bool (is_in_cycle v c)) [
-        | inl cyclic ↦ cycle_answer s c o stands origin cyclic Async (premises.inputs_async v labels s (c, o) valid are (record { stands = stands; origin = origin; cyclic = cyclic }) (steady_severe (label_at labels s) steady))
+        | inl cyclic ↦ cycle_answer s c o stands origin cyclic Async (inputs_of_async v labels s (c, o) valid are (record { stands = stands; origin = origin; cyclic = cyclic }) (steady_severe (label_at labels s) steady))
         | inr acyclic ↦
-            outside_answer s c o stands origin un acyclic Async (premises.good_async v labels s (c, o) valid are (record { stands = stands; origin = origin; unordered = un; acyclic = acyclic }) (steady_severe (label_at labels s) steady))
+            outside_answer s c o stands origin un acyclic Async (good_of_async v labels s (c, o) valid are (record { stands = stands; origin = origin; unordered = un; acyclic = acyclic }) (steady_severe (label_at labels s) steady))
       ]) x done c o i program origin body unordered lt_i
 
   run_answers : (s c o : ℕ) → s < length v.streams → origin_of v s ≡ Some (c, o) → is_replicated_node v c ≡ true → label_at labels s ≡ Run → (x : Execution) → Done x → HasOneStepContents v d x s
@@ -318,10 +321,10 @@ module _ (premises : Premises) (v : View) (labels : List Label) (d : Data) (vali
       answers s c o stands origin (λ un. elim (cases_Bool (is_in_cycle v c)) [
         | inl cyclic ↦
             let more : is_replicated_set v (region_set v c) ≡ true = ap (λ b. if b then is_replicated_set v (region_set v c) else is_replicated v c) (sym cyclic) ∙ replicated in
-            cycle_answer s c o stands origin cyclic Run (inr (premises.inputs_run v labels s (c, o) valid are (record { stands = stands; origin = origin; cyclic = cyclic }) more run))
+            cycle_answer s c o stands origin cyclic Run (inr (inputs_of_run v labels s (c, o) valid are (record { stands = stands; origin = origin; cyclic = cyclic }) more run))
         | inr acyclic ↦
             let more : is_replicated v c ≡ true = ap (λ b. if b then is_replicated_set v (region_set v c) else is_replicated v c) (sym acyclic) ∙ replicated in
-            outside_answer s c o stands origin un acyclic Run (premises.good_run v labels s (c, o) valid are (record { stands = stands; origin = origin; unordered = un; acyclic = acyclic }) more run)
+            outside_answer s c o stands origin un acyclic Run (good_of_run v labels s (c, o) valid are (record { stands = stands; origin = origin; unordered = un; acyclic = acyclic }) more run)
       ])
 
   open_sound : (s : ℕ) → s < length v.streams → IsOpenSound v d labels s
@@ -334,17 +337,17 @@ module _ (premises : Premises) (v : View) (labels : List Label) (d : Data) (vali
       }
 
 -- the law over all histories and of all streams
-pub open_region_law : Premises → OpenRegionLaw
-open_region_law premises v labels d s valid are fits holds stands = open_sound premises v labels d valid are fits holds s stands
+pub open_region_law : OpenRegionLaw
+open_region_law v labels d s valid are fits holds stands = open_sound v labels d valid are fits holds s stands
 
 -- and so with bodied streams
-pub strong_law : Premises → StrongRestartLaw
-strong_law premises v labels valid are d s fits holds stands bodied =
-    let sound = open_region_law premises v labels d s valid are fits holds stands in
+pub strong_law : StrongRestartLaw
+strong_law v labels valid are d s fits holds stands bodied =
+    let sound = open_region_law v labels d s valid are fits holds stands in
     record { schedules = sound.schedules; one_step = sound.one_step; replicas = sound.replicas }
 
--- Determined outputs
-pub determined_outputs : Premises → DeterminedOutputs
-determined_outputs premises v labels d s output x valid are fits holds is kept done =
-    answers premises v labels d valid are fits holds s output.0 output.1 is.stands is.origin (λ unordered y done_y i lt_i program body.
-    outside_given premises v labels d valid are fits holds s output.0 output.1 is.stands is.origin unordered kept y done_y i lt_i program body) x done
+-- the contents of a protected output, or of one with confluent paths
+pub determined_outputs : DeterminedOutputs
+determined_outputs v labels d s output x valid are fits holds is kept done =
+    answers v labels d valid are fits holds s output.0 output.1 is.stands is.origin (λ unordered y done_y i lt_i program body.
+    outside_given v labels d valid are fits holds s output.0 output.1 is.stands is.origin unordered kept y done_y i lt_i program body) x done

@@ -4,7 +4,8 @@ use Rattle.bloom_ast.specs.Form.{Accepted}
 use Rattle.topo_types.specs.Valid.{IsValid, Validated, IsValidated}
 use Rattle.topo_types.proofs.ValidViews.{valid_law}
 use Rattle.confluence.specs.Laws.{ValidatedLabelsAreSound, ValidatedLabelsSurviveRestarts}
-use Rattle.confluence.proofs.Regions.RegionLaw.{region_law, strong_law}
+use Rattle.confluence.proofs.Regions.RegionLaw.{region_law}
+use Rattle.confluence.proofs.Regions.Induction.{strong_law}
 
 pub validated_is_valid : (modules : List Accepted) (seen : Validated) → IsValidated modules seen → IsValid seen.view
 validated_is_valid modules seen h = subst IsValid (sym h.is) (valid_law seen.topology modules h.allowed h.given h.clean)

@@ -1,5 +1,5 @@
-use Rattle.confluence.proofs.Regions.RegionLaw as proved
+use Rattle.confluence.proofs.Regions.Induction as induction
 use Rattle.confluence.proofs.laws.determined_outputs.Goals as goal
 
 pub returns : goal.returns
-returns c = proved.determined_outputs
+returns c = induction.determined_outputs

@@ -1,3 +1,4 @@
+use Rattle.confluence.proofs.Regions.Induction as induction
 use Rattle.confluence.proofs.Regions.RegionLaw as proved
 use Rattle.confluence.proofs.laws.restart_law.Goals as goal
 
@@ -5,4 +6,4 @@ pub returns-clause-acyclic : goal.returns-clause-acyclic
 returns-clause-acyclic c = proved.restart_law
 
 pub returns-clause-strong : goal.returns-clause-strong
-returns-clause-strong c = proved.strong_law
+returns-clause-strong c = induction.strong_law

@@ -1,4 +1,4 @@
--- Partition of a life, and the honest law.
+-- What instances see of one partition, and that seals tell the truth.
 pub mod SmallSets
 pub mod HeardWhole
 pub mod FromFeeds

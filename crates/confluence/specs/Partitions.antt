@@ -45,13 +45,13 @@ abbrev pub of_partition : View → Program → (key : Attrs) → (value : Row) �
 of_partition v program key value nows = map (of_class v.attributes program (members key.bits) (λ values. values) value) nows
 
 module _ (v : View) (d : Data) (x : Execution) (c j : ℕ) (key : Attrs) (program : Program) (batches : List Batch) (value : Row) where
-  -- (a) the partition isn't whole: nothing of it stands in a timestep, and there are no rows
+  -- the partition isn't whole: nothing of it stands in a timestep, and there are no rows
   pub record IsWaiting (over : List Sets → List Row) : Type 0 where
     pub waits : is_whole (instance_for v c j) (all_pairs batches) value ≡ false
     pub silent : (now : Sets) → Has now (of_partition v program key value (timesteps (instance_for v c j) batches)) → (port : ℕ) → set_at now port ≡ []
     pub rows : over (of_partition v program key value (timesteps (instance_for v c j) batches)) ≡ []
 
-  -- (b) it is whole: the rows are those of one timestep, and that has at each carrying port all records of the partition that feeds of the port have emitted
+  -- it is whole: the rows are those of one timestep, and that has at each carrying port all records of the partition that feeds of the port have emitted
   pub record IsAtOnce (over : List Sets → List Row) : Type 0 where
     pub whole : is_whole (instance_for v c j) (all_pairs batches) value ≡ true
     pub rows : over (of_partition v program key value (timesteps (instance_for v c j) batches)) ≡ over (at_once program (of_partition v program key value (timesteps (instance_for v c j) batches)) ∷ [])

@@ -1,11 +1,10 @@
--- Dependencies at streams, in all histories, complete or not, with forgets or without.
+-- The laws of dependencies at streams, after any legal steps, each in one word.
 use Rattle.std.specs.Prelude.{ℕ, ◌≡◌, ◌<◌, ◌↔◌, IsTrue, Bool, is_some, Some, List, [], ◌∷◌, ◌++◌, length}
 use Rattle.std.specs.List.{list_all}
 use Rattle.blz_value.specs.Members.{Has}
 use Rattle.blz_value.specs.Record.{Row}
 use Rattle.fd_closure.specs.declared.attrs.Attrs.{Attrs}
 use Rattle.fd_closure.specs.declared.attrs.Fd.{Fd}
-use Rattle.fd_closure.specs.Bits.{bit_of, meets}
 use Rattle.fd_closure.specs.Closure.{within, closure}
 use Rattle.bloom_ast.specs.declared.program.Program.{Program}
 use Rattle.bloom_ast.specs.Program.{port_columns}
@@ -27,20 +26,20 @@ use Rattle.inbox.specs.Instances as instances
 use Rattle.inbox.specs.Lives.{Life, all_lives, life_timesteps}
 use Rattle.inbox.specs.Wiring.{wiring_of, instance_at, carried_places}
 use Rattle.inbox.specs.Executions.{Execution, emitted_list}
-use Rattle.stream_deps.specs.Agreement.{port_roots, HaveSameValues, IsTraced, IsCopiedFrom, IsCarriedBy}
+use Rattle.stream_deps.specs.Agreement.{port_roots, HaveSameValues, IsTraced, IsCopiedFrom, IsCarriedBy, HaveKey}
 use Rattle.stream_deps.specs.Sent.{IsHistory, IsSentTo, AreSent}
 use Rattle.bloom_ast.specs.Steps.{tables_after_steps, AreArrivals}
 use Rattle.fd_closure.specs.Bits.{members}
 
 -- ---- rows of outputs
 
--- Origin at the columns of a topology: each row of an output is such a copy
+-- each row of an output has, in the columns that are their own roots, the values of one record that arrived
 abbrev pub CopiedLaw : Type 0
 CopiedLaw = (v : View) (c o : ℕ) (program : Program) (earlier : List Sets) (now : Sets) (r : Row) → IsValid v → c < length v.components → program_of v c ≡ Some program
     → o < length (component_at v c).outputs → AreArrivals program (earlier ++ now ∷ [])
     → Has r (set_at (outputs_of_step program (tables_after_steps program earlier) now) o) → IsCopiedFrom v c o program (earlier ++ now ∷ []) r
 
--- Rows of a list, as row_laws has them: a record stands in an emitted list of an output exactly where it is a row over the timesteps of some life
+-- a record stands in an emitted list of an output exactly where it is a row over the timesteps of some life
 abbrev pub RowsLaw : Type 0
 RowsLaw = (v : View) (d : Data) (x : Execution) (s c o i : ℕ) (program : Program) (r : Row) → IsValid v → s < length v.streams → origin_of v s ≡ Some (c, o) → program_of v c ≡ Some program → i < replicas_of v c
     → Has (row r) (emitted_list (wiring_of v) d x s i) ↔ ((life : Life) × Has life (all_lives (x.lives c i)) × Has r (output_over program o (life_timesteps (instance_at (wiring_of v) c i) (x.logs c) life)))
@@ -52,7 +51,7 @@ abbrev pub WidthLaw : Type 0
 WidthLaw = (v : View) (d : Data) (x : Execution) (s i : ℕ) (r : Row) → IsHistory v d x → s < length v.streams → i < stream_replicas v s
     → Has (row r) (emitted_list (wiring_of v) d x s i) → length r ≡ length (stream_at v s).columns
 
--- Traced values: an emitted record of a stream that upholds a dependency and has all its columns has the values of a record of a source in them
+-- an emitted record of a stream that upholds a dependency and has all its columns has the values of a record of a source in them
 abbrev pub TracedLaw : Type 0
 TracedLaw = (v : View) (d : Data) (x : Execution) (fd : Fd) (s i : ℕ) (r : Row) → IsHistory v d x → s < length v.streams → i < stream_replicas v s
     → IsTrue (upholds v fd s) → IsTrue (has_both fd (stream_attrs v s).bits)
@@ -87,7 +86,7 @@ LifeLaw = (v : View) (d : Data) (x : Execution) (c j : ℕ) (program : Program) 
 
 -- ---- keys of records at a port that has all columns of the key
 
--- the key of a record as row_laws has it is its key value
+-- the key of a record by the names of attributes is its key value
 abbrev pub KeyLaw : Type 0
 KeyLaw = (v : View) (c p key : ℕ) (program : Program) (r : Row) → IsValid v → c < length v.components → program_of v c ≡ Some program
     → IsTrue (within key (port_attrs v c p).bits) → key_of v.attributes (columns_at program p) (members key) r ≡ key_value (port_roots v c p) key r
@@ -106,14 +105,10 @@ StreamKeyLaw = (v : View) (key s : ℕ) → IsValid v → s < length v.streams �
 abbrev pub PortKeyLaw : Type 0
 PortKeyLaw = (v : View) (key c p : ℕ) → IsValid v → IsTrue (port_carries v key c p) → IsTrue (has_stream v c p) × IsTrue (within key (port_attrs v c p).bits)
 
--- the stream of an output carries a key as Carried seals says
+-- where the stream of an output carries a key, it is that of the mode, the output may carry it, and so do all streams into the ports with a note towards it
 abbrev pub CarriedLaw : Type 0
 CarriedLaw = (v : View) (s c o : ℕ) (places : List ℕ) → IsValid v → s < length v.streams → origin_of v s ≡ Some (c, o)
     → carried_places v s ≡ Some places → IsCarriedBy v s c o places
-
--- a key in the closure of a gate, as row_laws has it
-abbrev pub GateKeyLaw : Type 0
-GateKeyLaw = (key gate : ℕ) (fds : List Fd) → IsTrue (within key (closure gate fds)) → IsInClosure (members key) gate fds
 
 -- ---- dependencies that are usable at a component
 
@@ -122,21 +117,17 @@ abbrev pub WholeLaw : Type 0
 WholeLaw = (v : View) (c p : ℕ) (fd : Fd) → IsValid v → IsTrue (has_stream v c p) → Has fd (usable_fds v c)
     → IsTrue (within fd.from.bits (port_attrs v c p).bits) → IsTrue (within fd.to.bits (port_attrs v c p).bits)
 
--- Closure stays in the columns: so a port that has a stream and all columns of a gate has all columns of its closure
+-- so a port that has a stream and all columns of a gate has all columns of its closure
 abbrev pub ClosureLaw : Type 0
 ClosureLaw = (v : View) (c p gate : ℕ) → IsValid v → IsTrue (has_stream v c p)
     → IsTrue (within gate (port_attrs v c p).bits) → IsTrue (within (closure gate (usable_fds v c)) (port_attrs v c p).bits)
 
--- Joint dependencies: over data that hold the dependencies, two records that were sent to ports with all columns of a usable dependency, and that agree on its first side, agree on its second
+-- over data that hold the dependencies, two records that were sent to ports with all columns of a usable dependency, and that agree on its first side, agree on its second
 abbrev pub JointLaw : Type 0
 JointLaw = (v : View) (d : Data) (x : Execution) (c p q : ℕ) (fd : Fd) (a b : Row) → IsHistory v d x → Holds v d → Has fd (usable_fds v c)
     → IsSentTo v d x c p a → IsSentTo v d x c q b
     → IsTrue (has_both fd (port_attrs v c p).bits) → IsTrue (has_both fd (port_attrs v c q).bits)
     → HaveSameValues fd.from.bits (port_roots v c p) a (port_roots v c q) b → HaveSameValues fd.to.bits (port_roots v c p) a (port_roots v c q) b
-
--- each used port that has a stream has each attribute of a key
-abbrev pub HaveKey : View → (component : ℕ) → (is_used : ℕ → Bool) → (key : List ℕ) → Type 0
-HaveKey v c is_used key = (p attribute : ℕ) → IsTrue (is_used p) → IsTrue (has_stream v c p) → Has attribute key → IsTrue (meets (bit_of attribute) (port_attrs v c p).bits)
 
 -- so timesteps of records that were sent are keyed by the usable dependencies, and by each key that the used ports with a stream have
 abbrev pub KeyedLaw : Type 0

@@ -1,4 +1,4 @@
--- Histories of a valid topology, and the records that streams send to the ports of a component.
+-- A history is what legal steps reach, and what comes to a port was sent there by a stream.
 use Rattle.std.specs.Prelude.{ℕ, ◌≡◌, ◌<◌, IsTrue, Ok, List, length}
 use Rattle.blz_value.specs.Members.{Has}
 use Rattle.blz_value.specs.Record.{Row}

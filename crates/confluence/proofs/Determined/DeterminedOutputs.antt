@@ -43,8 +43,8 @@ use Rattle.inbox.proofs.WiringLemmas.{instance-ports, port_of-feed}
 use Rattle.inbox.proofs.Timesteps.Entries.{Has-rows_in, Has-from_rows_in}
 use Rattle.inbox.specs.Executions.{Execution, emitted_list, contents}
 use Rattle.inbox.specs.Completeness.{IsComplete}
-use Rattle.stream_deps.specs.Laws.{HaveKey}
 use Rattle.stream_deps.specs.Sent.{IsHistory}
+use Rattle.stream_deps.specs.Agreement.{HaveKey}
 use Rattle.stream_deps.proofs.Streams.IntoPorts.{end_there}
 use Rattle.stream_deps.proofs.Columns.Attributes.{within-small, numbers_are_roots}
 use Rattle.stream_deps.proofs.Records.ArrivingLaw.{arrivals_law}

@@ -82,7 +82,7 @@ pub record IsPart (v : View) (program : Program) (output : ℕ) (rows : Sets →
   -- the note of a path covers what the port is given
   pub covered : (port : ℕ) → IsCovered (note_of v.attributes program port output) (given port)
   pub gated : (port : ℕ) → IfSome (given port) (λ note. IfSome (own_gate note) (λ own. own.bits ≡ gate))
-  -- Partition of a life
+  -- of a partition the rows are none, or those of one timestep with all of it
   pub partitions : (d : Data) (x : Execution) (c j : ℕ) (key : Attrs) (batches : List Batch) (value : Row) → IsSealing v d x c j key batches → program_of v c ≡ Some program → AreCarrying v c key given
       → IsWaiting v d x c j key program batches value (rows_over program rows) ⊎ IsAtOnce v d x c j key program batches value (rows_over program rows)
 

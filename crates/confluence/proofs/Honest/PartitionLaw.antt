@@ -1,4 +1,4 @@
--- Partition of a life, of rules and of outputs.
+-- Of each partition the rows of a rule, and of an output, are none or those of one timestep with all of it.
 use Rattle.std.proofs.Common.{◌≡◌, refl, ap, sym, subst, ◌∙◌, ℕ, ◌<◌, ◌⊎◌, true, false, List, [], length, inl, inr, Option, Some}
 use Rattle.std.proofs.lemmas.Bool.{true≢false}
 use Rattle.fd_closure.specs.declared.attrs.Attrs.{Attrs}

@@ -1,4 +1,4 @@
--- Partition of a life: over the records of one partition that stand in the timesteps of a life, rows are those of one timestep with all of them.
+-- Over the records of one partition that stand in the timesteps of a life, rows are those of one timestep with all of them.
 use Rattle.std.proofs.Common.{◌≡◌, refl, ap, sym, subst, ◌∙◌, ℕ, ◌<◌, ◌≤◌, ◌⊎◌, true, false, List, [], ◌∷◌, ◌++◌, length, map, append_assoc, inl, inr, Option, Some}
 use Rattle.std.specs.Prelude.{◌↔◌, is_some}
 use Rattle.std.specs.Option.{option_map_or}
@@ -84,7 +84,7 @@ module _ (w : Wiring) (given : Data) (x : Execution) (i : Instance) (mode_key : 
   pub stands_whole : (port : ℕ) (r : Row) → key_of_entry i (port, r) ≡ Some key → Stands (timesteps i batches) (port, r) → is_whole i (all_pairs batches) key ≡ true
   stands_whole port r is s = sym (ap (λ k. option_map_or (is_whole i (all_pairs batches)) k true) is) ∙ (seal_timesteps-go i mode_key is_seal batches (port, r) s).due
 
-  -- (a) of a partition that isn't whole nothing stands in any timestep
+  -- of a partition that isn't whole nothing stands in any timestep
   pub nothing_of : is_whole i (all_pairs batches) key ≡ false → (now : Sets) → Has now (map of (timesteps i batches)) → (port : ℕ) → set_at now port ≡ []
   nothing_of waits = none_chosen program i ports of key only (timesteps i batches) (λ port r is s. let no : true ≡ false = sym (stands_whole port r is s) ∙ waits in cc)
 
@@ -96,7 +96,7 @@ module _ (w : Wiring) (given : Data) (x : Execution) (i : Instance) (mode_key : 
         due = ap (λ k. option_map_or (is_whole i (all_pairs batches)) k true) is ∙ whole;
       })
 
-  -- (b) of a whole one carrying ports have all records that feeds have emitted
+  -- of a whole one carrying ports have all records that feeds have emitted
   pub carried : is_whole i (all_pairs batches) key ≡ true → (port : ℕ) (r : Row) → port < length i.ports → is_carrying i port ≡ true
       → Has r (set_at (at_once program (map of (timesteps i batches))) port) ↔ (IsFed w given x i port r × (key_of_entry i (port, r) ≡ Some key))
   carried whole port r within carries = (

@@ -1,4 +1,4 @@
--- Rows of a list: an emitted list has the rows that its output had in the timesteps of its lives, and no others.
+-- An emitted list has the rows that its output had in the timesteps of its lives, and no others.
 use Rattle.std.proofs.Common.{◌≡◌, refl, ap, sym, subst, ◌∙◌, ℕ, ◌<◌, Bool, true, false, List, [], ◌∷◌, ◌++◌, length, map, get_or, append_assoc, append-nil, inl, inr, Option, None, Some, zero, suc}
 use Rattle.std.specs.Prelude.{if◌then◌else◌}
 use Rattle.std.specs.List.{fold, list_any, flat_map}

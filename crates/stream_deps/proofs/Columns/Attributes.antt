@@ -109,7 +109,7 @@ module _ (names : List Name) where
   pub value_of_place : (columns : List Name) → repeats columns ≡ false → (r : Row) (n a : ℕ) → root_at (attribute_roots names columns) n ≡ Some a → value_at (attribute_roots names columns) r a ≡ cell r n
   value_of_place columns distinct r n a is = ap (cell r) (one_place columns distinct (place_of_attribute (attribute_roots names columns) a) n a (first_place (attribute_roots names columns) a n is).1 is)
 
-  -- ---- the values of row_laws
+  -- ---- values by the names of attributes
 
   module _ (distinct : AllPairs (λ a b. a ≢ b) names) where
     one_name : (n k : ℕ) → n < length names → k < length names → get_or names n [] ≡ get_or names k [] → n ≡ k

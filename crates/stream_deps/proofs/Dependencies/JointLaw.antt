@@ -122,7 +122,7 @@ joint_law v d x c p q fd a b h holds usable sent_a sent_b both_a both_b same att
     let to : agree_on fd.to.bits left s.origin right t.origin ≡ true = sym holds_there ∙ to_agree fd.from.bits left s.origin right t.origin sources in
     s.same_to attribute at ∙ from_agree fd.to.bits left s.origin right t.origin to attribute at ∙ sym (t.same_to attribute at)
 
--- ---- as row_laws has it
+-- ---- by the names of attributes
 
 module _ (v : View) (valid : IsValid v) (c : ℕ) (there : c < length v.components) (program : Program) (has : program_of v c ≡ Some program) where
   abbrev columns : ℕ → List Name

@@ -15,12 +15,14 @@ use Rattle.topo_types.specs.Sets.{below}
 use Rattle.topo_types.specs.Valid.{IsValid, IsCovered}
 use Rattle.topo_types.specs.View.{View, component_at, output_at, has_stream, note_at, port_attrs, port_numbers, program_of, ports_towards, streams_to}
 use Rattle.topo_types.proofs.Spreading.{in_below}
-use Rattle.stream_deps.specs.Laws.{HaveKey, OutputKeyedLaw}
-use Rattle.stream_deps.proofs.Streams.CarriedKeys.{stream_key_law, gate_key_law, may_carry-is}
+use Rattle.stream_deps.specs.Laws.{OutputKeyedLaw}
+use Rattle.stream_deps.specs.Agreement.{HaveKey}
+use Rattle.stream_deps.proofs.Streams.CarriedKeys.{stream_key_law, may_carry-is}
 use Rattle.stream_deps.proofs.Dependencies.JointLaw.{keyed_law}
 use Rattle.stream_deps.proofs.Columns.Viewed.{runs}
 use Rattle.stream_deps.proofs.Streams.IntoPorts.{end_there, some_stream, into_port, attrs_into}
 use Rattle.fd_closure.proofs.Members.{member_small}
+use Rattle.fd_closure.proofs.MembersInOrder.{members_within}
 use Rattle.fd_closure.specs.Bits.{members}
 
 used_is : (used derived : Option Note) → IsCovered used derived → is_some derived ≡ true → is_some used ≡ true
@@ -47,5 +49,5 @@ output_keyed_law v d x c o key program nows h holds within_components within_out
     in-within a key (port_attrs v c p).bits (member_small a key in_key) in_key (keys_towards v h.valid c o key program within_components within_outputs has carries p used streams) in
     let gate : (output_at v c o).gate.bits ≡ gate_of_output v.attributes program o = (runs v h.valid c within_components program has).gates o within_outputs in (
       keyed_law v d x c program nows (λ port. is_some (note_of v.attributes program port o)) (members key) h holds within_components has sent have,
-      gate_key_law key (gate_of_output v.attributes program o) (usable_fds v c) (subst (λ (g : ℕ). within key (closure g (usable_fds v c)) ≡ true) gate (may_carry-is v key c o may).closed),
+      members_within key (closure (gate_of_output v.attributes program o) (usable_fds v c)) (subst (λ (g : ℕ). within key (closure g (usable_fds v c)) ≡ true) gate (may_carry-is v key c o may).closed),
     )

@@ -5,11 +5,9 @@ use Rattle.std.specs.Option.{option_map, option_and_then, unwrap_or}
 use Rattle.std.proofs.lemmas.Bool.{eqb-true, or_cases, true≢false, and_from}
 use Rattle.std.proofs.lemmas.Option.{slice_get-get_or}
 use Rattle.blz_value.specs.Members.{Has}
-use Rattle.blz_value.proofs.Membership.{Has-flat_map, all_member, all_from, Has-get_or, Has-from_filter}
+use Rattle.blz_value.proofs.Membership.{Has-flat_map, all_member, all_from, Has-get_or}
 use Rattle.fd_closure.specs.declared.attrs.Attrs.{Attrs}
 use Rattle.fd_closure.specs.Closure.{within, closure}
-use Rattle.fd_closure.specs.Bits.{bit_of, meets}
-use Rattle.fd_closure.proofs.Members.{in-within, member_small}
 use Rattle.fd_closure.proofs.Within.{within-trans}
 use Rattle.path_annotate.specs.Gates.{set_of_roots}
 use Rattle.path_annotate.specs.Roots.{Roots}
@@ -23,14 +21,13 @@ use Rattle.topo_types.specs.Laws.{carries_next}
 use Rattle.topo_types.specs.Regions.{region_of, is_in_cycle}
 use Rattle.topo_types.specs.Valid.{IsValid}
 use Rattle.topo_types.specs.View.{View, End, origin_of, stream_at, port_at, output_at, own_attrs, component_at, mode_of, mode_key, is_order, is_order_mode, has_body, has_stream, goes_to, streams_to, ports_towards, stream_of, Output, own_root, stream_attrs}
-use Rattle.topo_types.specs.Sets.{below}
 use Rattle.topo_types.proofs.Spreading.{both_true}
 use Rattle.topo_types.proofs.OneLevel.{carries_law}
 use Rattle.topo_types.proofs.Lower.{feeds_edge, lower_outside}
 use Rattle.inbox.specs.Emission.{output_key}
 use Rattle.inbox.specs.Wiring.{carried_places, instance_for}
 use Rattle.inbox.proofs.WiringLemmas.{get_or-below, length-below}
-use Rattle.stream_deps.specs.Laws.{StreamKeyLaw, PortKeyLaw, CarriedLaw, GateKeyLaw}
+use Rattle.stream_deps.specs.Laws.{StreamKeyLaw, PortKeyLaw, CarriedLaw}
 use Rattle.stream_deps.specs.Agreement.{IsCarriedBy}
 use Rattle.stream_deps.proofs.Columns.Attributes.{root_within, roots_within, own_column}
 use Rattle.stream_deps.proofs.Streams.IntoPorts.{goes_is, own_stream, stream_into, attrs_into, into_port, some_stream}
@@ -211,16 +208,11 @@ port_key_law v key c p valid carries =
     let own = all_member (carries_key v key) (streams_to v c p) one.0 both.1 (into_port v c p one.0 one.1.stands one.1.goes) in
     (both.0, subst (λ (n : ℕ). within key n ≡ true) (sym (attrs_into v valid c p one.0 one.1.stands one.1.goes)) (stream_key_law v key one.0 valid one.1.stands own))
 
-pub gate_key_law : GateKeyLaw
-gate_key_law key gate fds inside a h =
-    let member = (Has-from_filter (λ n. meets (bit_of n) key) a (below 64) h).1 in
-    in-within a key (closure gate fds) (member_small a key member) member inside
-
 -- the places of a key in the columns of a stream
 abbrev places_of : View → (stream : ℕ) → Option Attrs → Option (List ℕ)
 places_of v s = option_map (λ (key : Attrs). key_places (stream_at v s).columns key.bits)
 
--- the stream of an output carries a key as Carried seals says
+-- the key that the stream of an output carries
 pub carried_law : CarriedLaw
 carried_law v s c o places valid lt from h = by_key (carries v s) refl
   where

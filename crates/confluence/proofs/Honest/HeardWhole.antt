@@ -106,4 +106,4 @@ heard_whole w given x i heard key feed places comes whole carrying has_key hones
     let m = Has-from_map (λ e. e.1) r there (Has-from_set_of r some back) in
     let kept = Has-from_filter (is_of_key i key) m.0 (entries_of i (from_feed feed heard)) m.1 in
     let f = from_feed-entry i heard feed m.0 kept.0 in
-    entry_heard i heard feed r (subst (λ z. Has (feed, row z) heard) m.2 f.pair_heard)
+    entry_heard i heard feed r (subst (λ z. Has (feed, row z) heard) {x = m.0.1} m.2 f.pair_heard)

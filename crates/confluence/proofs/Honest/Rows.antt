@@ -201,7 +201,7 @@ module _ (v : View) (d : Data) (x : Execution) (history : IsHistory v d x) (hold
         let among : Has copy.now nows = arrived_up program (output_rows program o) nows p.earlier p.later p.now p.are copy.now copy.came in
         let f = from_chosen program i many (of k) k (only k) (timesteps i batches) copy.port copy.copied (record { now = copy.now; among = among; there = copy.arrived }) in
         let m = Has-from_map (of k) copy.now (timesteps i batches) among in
-        let a = from_class names program attributes (λ values. values) k m.0 copy.port copy.copied (subst (λ now. Has copy.copied (set_at now copy.port)) (sym m.2) copy.arrived) in
+        let a = from_class names program attributes (λ values. values) k m.0 copy.port copy.copied (subst (λ now. Has copy.copied (set_at now copy.port)) {y = of k m.0} (sym {a = of k m.0} m.2) copy.arrived) in
         let inside : within key.bits (port_attrs v c copy.port).bits ≡ true = within-trans key.bits (own_attrs (output_at v c o)) (port_attrs v c copy.port).bits may.own copy.has_all in
         let same = same_keys key.bits (output_at v c o).columns r (port_roots v c copy.port) copy.copied (λ n h. copy.same n (meets_more (bit_of n) key.bits (own_attrs (output_at v c o)) h may.own)) in
         let at_port : Some (key_value (port_roots v c copy.port) key.bits copy.copied) ≡ Some k = sym (key_here v c j key mode copy.port copy.copied (port_there copy.port (port_in copy.port a.within)) inside) ∙ f.2 in

@@ -3,7 +3,7 @@ pub mod SmallSets
 pub mod HeardWhole
 pub mod FromFeeds
 pub mod Partitions
-pub mod KeysAtPorts
+pub mod PartitionRecords
 pub mod Runs
 pub mod LivesHeard
 pub mod Rows

@@ -4,6 +4,5 @@ pub mod ByEmission
 pub mod Acyclic
 pub mod Cyclic
 pub mod Induction
-pub mod Corollaries
 pub mod RegionLaw
 pub mod ValidatedLaw

@@ -1,4 +1,4 @@
--- The tests for equal records, messages, pairs and entries, and lists with each element once.
+-- The tests of messages, pairs and entries are equality, and each element of a list stands once among its firsts.
 use Rattle.std.proofs.Common.{◌≡◌, refl, ap, sym, subst, ◌∙◌, ℕ, ◌==◌, Bool, true, false, List, [], ◌∷◌, ◌++◌, inl, inr, ◌⊎◌}
 use Rattle.std.specs.Prelude.{if◌then◌else◌}
 use Rattle.std.specs.List.{fold, list_any}

@@ -1,4 +1,4 @@
--- What the wiring of a topology has: its instances, its streams, and feeds in range.
+-- The wiring of a topology has its streams, its instances, and feeds in range.
 use Rattle.std.proofs.Common.{◌≡◌, ap, sym, subst, ◌∙◌, ℕ, ◌+◌, ◌<◌, nat_lt, Bool, true, false, List, [], length, map, get_or, arith, inl, inr, Some, slice_get, zero, suc}
 use Rattle.std.specs.Prelude.{if◌then◌else◌}
 use Rattle.std.specs.List.{range_with_len, flat_map}

@@ -1,4 +1,4 @@
--- Worked cases.
+-- Worked cases, computed.
 pub mod Programs
 pub mod Tally
 pub mod Batches

@@ -1,4 +1,4 @@
--- What arrives at an instance of a component with a body, in timesteps and in all.
+-- What arrives at an instance in all was sent by streams, and what arrives in its timesteps is among it.
 use Rattle.std.proofs.Common.{◌≡◌, ◌<◌, ℕ, true, false, Option, Some, List, [], ◌∷◌, length, ap, ◌∙◌, sym, subst, inl, inr, refl}
 use Rattle.std.proofs.lemmas.Bool.{cases_lt}
 use Rattle.std.proofs.lemmas.List.{get_or_past, length-map}

@@ -1,4 +1,4 @@
--- The contents of a stream of a component that isn't Order: the rows of its output over the lives of the instance that emits them.
+-- The contents of a stream of a component that isn't Order are the rows of its output over the lives of its instance.
 use Rattle.std.proofs.Common.{◌≡◌, ◌<◌, ℕ, true, false, Some, [], ◌∷◌, length, refl, ap, ◌∙◌, sym, subst, inl, arith}
 use Rattle.std.proofs.lemmas.Bool.{lt-ltb}
 use Rattle.blz_value.specs.Members.{Has, IsWithin}

@@ -53,7 +53,7 @@ use Rattle.confluence.specs.Complete.{contents_into}
 use Rattle.confluence.specs.LabelMeaning.{HasConfluentPaths, IsPath, IsGuarded}
 use Rattle.confluence.specs.Partitions.{IsFed, IsSealing, AreCarrying, IsAtOnce}
 use Rattle.confluence.proofs.Contents.Heard.{at_place, in_into, from_into}
-use Rattle.confluence.proofs.Honest.KeysAtPorts.{restricts}
+use Rattle.confluence.proofs.Honest.PartitionRecords.{restricts}
 use Rattle.confluence.proofs.Honest.Partitions.{IsRestriction}
 use Rattle.confluence.proofs.Determined.Parts.{IsPart, by_parts}
 use Rattle.confluence.proofs.Determined.Rows.{AreInside, IsDetermined, from_once, once_inside, confluent_part, silent_part, IsOpen, apart_part}
@@ -63,6 +63,12 @@ use Rattle.confluence.proofs.Contents.Arriving.{runs, ports_same, output_column,
 use Rattle.path_annotate.specs.Given.{AreAllC, is_o, is_w}
 use Rattle.path_annotate.specs.Note.{own_gate}
 use Rattle.fd_closure.specs.Bits.{members}
+
+-- The plan: the contents are the rows over the lives of an instance. Of each life the rows of a part have
+-- to be among those of all at once, and of the last life, which heard all, they have to be these. Where
+-- all that a part is given is C, the confluent law says so. Where it is O and nothing arrives at O ports,
+-- there are no rows. Else the output is protected: its rows go by the values of the key, of each value
+-- nothing or all at once, and the records of one value agree on what comes at carrying ports.
 
 -- a key in the closure of a gate is in that of a larger one
 key_closed : (key gate own : ℕ) (fds : List Fd) → within gate own ≡ true → within key (closure gate fds) ≡ true → IsInClosure (members key) own fds

@@ -1,4 +1,4 @@
--- What a note that covers what a port is given says of it.
+-- A note that covers what a port is given is O where that is, and its gate lies in that one's.
 use Rattle.std.proofs.Common.{◌≡◌, Bool, true, false, Option, None, Some, refl}
 use Rattle.std.proofs.lemmas.Bool.{and_parts}
 use Rattle.std.specs.Prelude.{is_some}

@@ -1,4 +1,4 @@
--- The rules of an output, and the outputs of stock bodies, as one: what the laws on rows say of each.
+-- An output is made of parts, the rules of a module or a stock body as one, and the laws on rows hold of each.
 use Rattle.std.proofs.Common.{◌⊎◌, ◌≡◌, ◌<◌, ◌==◌, ℕ, Bool, true, false, Option, None, Some, IfSome, List, [], ◌∷◌, length, map, refl, subst, inl, inr}
 use Rattle.std.specs.Prelude.{is_some, if◌then◌else◌}
 use Rattle.blz_value.specs.Members.{Has, IsWithin}

@@ -1,4 +1,4 @@
--- The rows of a part over timesteps, where all that arrives in them is among what arrives in all.
+-- Where what arrives in timesteps is among what arrives in all, the rows of a part are among those of all at once; and they are these where all arrives.
 use Rattle.std.proofs.Common.{◌≡◌, ◌<◌, ℕ, Bool, true, Option, None, Some, List, [], ◌∷◌, length, map, refl, ◌∙◌, sym, subst, inl, inr, ◌⊎◌, arith}
 use Rattle.std.specs.Prelude.{is_some}
 use Rattle.std.proofs.lemmas.Bool.{cases_lt}

@@ -1,4 +1,4 @@
--- Records that the feeds of a port have emitted: each record that was heard is one, and of a whole partition carrying ports heard all.
+-- A record that was heard was emitted by a feed of its port, and of a whole partition a carrying port has heard all.
 use Rattle.std.proofs.Common.{◌≡◌, refl, ap, subst, ◌∙◌, ℕ, ◌<◌, true, List, length, Option, None, Some}
 use Rattle.std.specs.Option.{option_map, unwrap_or}
 use Rattle.blz_value.specs.Members.{Has}

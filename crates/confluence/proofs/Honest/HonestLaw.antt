@@ -1,4 +1,4 @@
--- The honest law: by induction on the region of a stream's component.
+-- Seals tell the truth, by induction on the region of a stream's component.
 use Rattle.std.proofs.Common.{◌≡◌, refl, ap, sym, subst, ◌∙◌, ℕ, zero, suc, ◌<◌, true, false, List, [], ◌∷◌, ◌++◌, length, append-nil, inr, Option, None, Some, arith}
 use Rattle.std.proofs.lemmas.Bool.{false_from_ne_true}
 use Rattle.std.specs.Prelude.{is_some}

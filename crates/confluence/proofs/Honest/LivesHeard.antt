@@ -1,4 +1,4 @@
--- What an instance in mode Pass or Seal hears with the first batches of a life, and what stands in their timesteps: records that streams have sent to its ports.
+-- What an instance in mode Pass or Seal hears in a life, streams have sent to its ports.
 use Rattle.std.proofs.Common.{◌≡◌, ap, sym, subst, ◌∙◌, ℕ, ◌<◌, ◌⊎◌, List, ◌++◌, length, inl, inr, Some, refl}
 use Rattle.std.proofs.lemmas.Grind.{flat_map-append}
 use Rattle.fd_closure.specs.declared.attrs.Attrs.{Attrs}

@@ -33,7 +33,7 @@ use Rattle.inbox.proofs.WiringLemmas.{instance-feeds, instance-ports, port_of-fe
 use Rattle.confluence.specs.Partitions.{IsFed, IsWaiting, IsAtOnce, AreCarrying, IsSealing, of_partition}
 use Rattle.confluence.specs.Laws.{RulesLaw, OutputsLaw}
 use Rattle.confluence.proofs.Honest.HonestLaw.{feeds_honest}
-use Rattle.confluence.proofs.Honest.KeysAtPorts.{restricts}
+use Rattle.confluence.proofs.Honest.PartitionRecords.{restricts}
 use Rattle.confluence.proofs.Honest.LivesHeard.{all_come, all_arrive}
 use Rattle.confluence.proofs.Honest.Partitions.{IsRestriction, none_there, nothing_of, one_timestep, carried}
 use Rattle.confluence.proofs.Honest.Runs.{no_rows_of_nothing}

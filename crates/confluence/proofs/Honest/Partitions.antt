@@ -1,4 +1,4 @@
--- Over the records of one partition that stand in the timesteps of a life, rows are those of one timestep with all of them.
+-- Over the records of one partition that stand in the timesteps of a life, there are no rows, or those of one timestep with all of them.
 use Rattle.std.proofs.Common.{◌≡◌, refl, ap, sym, subst, ◌∙◌, ℕ, ◌<◌, ◌≤◌, ◌⊎◌, true, false, List, [], ◌∷◌, ◌++◌, length, map, append_assoc, inl, inr, Option, Some}
 use Rattle.std.specs.Prelude.{◌↔◌, is_some}
 use Rattle.std.specs.Option.{option_map_or}

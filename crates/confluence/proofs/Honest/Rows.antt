@@ -1,4 +1,4 @@
--- The rows of one partition that an output with the key puts out: in a life in which the partition is whole all of them are put out.
+-- A row of a partition that one life of an instance puts out, each life puts out in which the partition is whole.
 use Rattle.std.proofs.Common.{◌≡◌, refl, ap, sym, subst, ◌∙◌, ℕ, ◌<◌, ◌^◌, ◌⊎◌, true, false, List, [], ◌∷◌, ◌++◌, length, map, inl, inr, Option, None, Some}
 use Rattle.std.specs.Prelude.{is_some, IfSome}
 use Rattle.std.specs.List.{list_all, zip}
@@ -56,12 +56,17 @@ use Rattle.confluence.proofs.Honest.LivesHeard.{by_mode, all_come, heard_standin
 use Rattle.confluence.specs.Partitions.{IsLived, IsFed}
 use Rattle.confluence.proofs.Honest.FromFeeds.{AllCome, IsFedHonestly, heard_fed, whole_heard}
 use Rattle.confluence.proofs.Honest.Partitions.{IsRestriction, at_once_port, at_once_from, at_once_in, from_chosen, stands_whole, carried, one_timestep}
-use Rattle.confluence.proofs.Honest.KeysAtPorts.{restricts}
+use Rattle.confluence.proofs.Honest.PartitionRecords.{restricts}
 use Rattle.confluence.proofs.Honest.Runs.{to_over, from_over}
 use Rattle.inbox.specs.Folds.{rows_from}
 use Rattle.bloom_ast.specs.Steps.{AreArrivals}
 use Rattle.path_annotate.specs.Given.{AreAllC, is_w}
 use Rattle.fd_closure.specs.Bits.{members}
+
+-- The plan: take two lives of one instance. By the split law a row is one over the records of its own key,
+-- since its columns are copies. In mode Pass all notes are C: what the second life has of the partition
+-- the first has too, since it is whole there, so no row is lost. In mode Seal the partition is whole in
+-- both, so both have all of it in one timestep, and what they have is the same.
 
 -- ---- notes that are used
 

@@ -1,4 +1,4 @@
--- Rows over timesteps, as emission goes through them and as the laws on rows see them; and the step of a run in which a row is put out.
+-- Where each row comes from a record that has arrived, and none arrives, there are no rows.
 use Rattle.std.proofs.Common.{◌≡◌, subst, ℕ, List, [], ◌∷◌, ◌++◌}
 use Rattle.blz_value.specs.Members.{Has}
 use Rattle.blz_value.specs.Record.{Row}

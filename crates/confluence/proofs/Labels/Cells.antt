@@ -1,4 +1,4 @@
--- What a cell of the table of paths tells of the label and the note that it stands for.
+-- A cell of the table of paths tells of the label and the note that it stands for.
 use Rattle.std.proofs.Common.{◌≡◌, ◌<◌, ◌≤◌, ◌⊎◌, inl, inr, ℕ, Bool, true, false, ◌&&◌, nat_eq, if◌then◌else◌, None, Some, List, refl, arith, ap, sym, ◌∙◌}
 use Rattle.std.proofs.lemmas.Bool.{eqb-true, true≢false}
 use Rattle.fd_closure.specs.declared.attrs.Attrs.{Attrs}

@@ -1,4 +1,4 @@
--- Induction over emission: what holds of all records that come into a region, and of what its members emit of such, holds of all that members hear.
+-- What holds of all records that come into a region, and of what its members emit of such, holds of all that members hear.
 use Rattle.std.proofs.Common.{◌≡◌, ◌<◌, ◌==◌, ◌&&◌, not, ℕ, Bool, true, false, Option, None, Some, List, [], ◌∷◌, length, refl, ap, ◌∙◌, sym, subst, inl, inr, ◌⊎◌}
 use Rattle.std.specs.Prelude.{Ok, if◌then◌else◌}
 use Rattle.std.specs.Option.{option_map_or}

@@ -1,4 +1,4 @@
--- A cyclic region: where all notes of its members are C, what members emit in one execution they emit in another that hears the same from outside; and where nothing comes from outside they emit nothing.
+-- In a cyclic region without O notes members emit in one execution what they emit in another that hears the same from outside; and where nothing comes from outside they emit nothing.
 use Rattle.std.proofs.Common.{◌≡◌, ◌<◌, ℕ, true, false, Option, None, Some, List, [], ◌∷◌, length, map, filter, get_or, refl, ap, ◌∙◌, sym, subst, inl, inr, arith}
 use Rattle.std.specs.List.{filter_map}
 use Rattle.std.specs.Option.{option_map_or}

@@ -1,4 +1,4 @@
--- The region law: parts 1 and 3 region by region, and part 2 of each stream.
+-- Contents are equal region by region: from those of lower regions to those of the next.
 use Rattle.std.proofs.Common.{if◌then◌else◌, ◌≡◌, ◌<◌, ◌≤◌, not, ℕ, zero, suc, Bool, true, false, Option, None, Some, List, [], length, refl, ap, ◌∙◌, sym, subst, inl, inr, ◌⊎◌, arith}
 use Rattle.std.specs.Prelude.{MatchBool}
 use Rattle.std.specs.Option.{option_map_or, unwrap_or}
@@ -44,6 +44,11 @@ use Rattle.confluence.proofs.Labels.CyclicLaw.{inputs_of_async, inputs_of_run}
 use Rattle.confluence.proofs.Labels.GoodPathsLaw.{good_of_async, good_of_run}
 use Rattle.confluence.proofs.Labels.ProtectedLaw.{protected_guarded}
 use Rattle.fd_closure.specs.Bits.{members}
+
+-- The plan: one claim for each stream, over any two complete histories: equal contents where it is Seal or
+-- Async, and for one history alone where it is Run. A source has its contents whatever happens. A stream
+-- of an Order component goes by the log. Outside cycles an output with good paths is determined by what
+-- its feeds hold, which is equal by the claim of lower streams. In a cycle the same goes by emission.
 
 -- ---- labels
 

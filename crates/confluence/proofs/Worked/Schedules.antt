@@ -31,9 +31,8 @@ use Rattle.confluence.specs.Complete.{IsRun, IsCompleted, contents_into}
 use Rattle.confluence.specs.Honest.{IsHonest}
 use Rattle.confluence.specs.Sound.{Reaches, itself, onward, IsBodied, IsSteady}
 use Rattle.confluence.proofs.Honest.HonestLaw.{honest_law}
-use Rattle.confluence.proofs.Regions.RegionLaw.{region_law}
+use Rattle.confluence.proofs.Regions.RegionLaw.{region_law, completed_run}
 use Rattle.confluence.proofs.Worked.WordCount.{v, valid, labels, are_labels, tweets, is_data, holds, int, text}
-use Rattle.confluence.proofs.Regions.Corollaries.{completed_run}
 use Rattle.confluence.proofs.Regions.Induction.{strong_law}
 
 -- ---- the instances

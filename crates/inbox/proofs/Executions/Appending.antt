@@ -1,4 +1,4 @@
--- What one batch, one entry, one forget and one step more make: the lemmas that append one event.
+-- One batch, one entry, one forget and one step more: what each adds to what was there.
 use Rattle.std.proofs.Common.{◌≡◌, refl, ap, sym, ◌∙◌, ◌+◌, ◌<◌, Bool, true, false, List, [], ◌∷◌, ◌++◌, length, map, take, get_or, append_assoc, append-nil, arith, suc}
 use Rattle.std.specs.Prelude.{Ok, if◌then◌else◌}
 use Rattle.std.specs.List.{fold, flat_map}

@@ -1,4 +1,4 @@
--- What completeness gives: each feed has delivered all, each log has all, each replica took its whole log.
+-- In a complete execution each feed has delivered all, each log has all, and each replica took its whole log.
 use Rattle.std.proofs.Common.{◌≡◌, refl, ap, sym, subst, ◌∙◌, ℕ, ◌+◌, ◌<◌, ◌≤◌, Bool, true, false, not, List, [], ◌∷◌, length, filter, get_or, arith, inl, inr}
 use Rattle.std.specs.Prelude.{if◌then◌else◌}
 use Rattle.std.specs.List.{list_any, sum_by, enumerate_from, range_with_len}

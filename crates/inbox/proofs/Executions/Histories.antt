@@ -1,4 +1,4 @@
--- Histories: their induction, and how each step lengthens emitted lists and logs.
+-- What holds at the beginning and is kept by each legal step holds of every history; and a legal step is of one of four kinds.
 use Rattle.std.proofs.Common.{◌≡◌, refl, subst, ℕ, ◌&&◌, nat_lt, true, List, [], ◌∷◌, length}
 use Rattle.std.specs.Prelude.{Result, Ok, Err}
 use Rattle.std.specs.List.{fold}

@@ -1,4 +1,4 @@
--- What an answer without refusal says of its parts.
+-- An answer without refusal comes of answers without refusal.
 use Rattle.std.proofs.Common.{◌≡◌, refl, ap, sym, ◌∙◌, Bool, true, false}
 use Rattle.std.specs.Prelude.{Result, Ok, Err, if◌then◌else◌}
 use Rattle.std.specs.Result.{result_unwrap_or}

@@ -1,4 +1,4 @@
--- The emitted list of a stream, by the stream's origin.
+-- A source emits its messages, and the stream of an output what its instance emits there.
 use Rattle.std.proofs.Common.{◌≡◌, ◌<◌, ℕ, ap, ◌∙◌, Option, None, Some, [], length, slice_get}
 use Rattle.std.specs.Option.{option_map_or}
 use Rattle.topo_types.specs.Data.{Data, source_data}

@@ -1,4 +1,4 @@
--- Seals of emitted lists: each counts the records of its partition before it, and stands after all rows of the timesteps up to the batch with which its partition was whole.
+-- Each seal of an emitted list counts the records of its partition before it, and stands after all rows of the timesteps up to a batch with which its partition was whole.
 use Rattle.std.proofs.Common.{◌≡◌, refl, ap, sym, subst, ◌∙◌, ℕ, ◌<◌, Bool, true, false, List, [], ◌∷◌, ◌++◌, length, map, take, get_or, append_assoc, append-nil, inl, inr, ◌⊎◌, Option, Some, zero, suc}
 use Rattle.std.specs.Prelude.{if◌then◌else◌}
 use Rattle.std.specs.List.{fold, list_any}
@@ -24,6 +24,10 @@ use Rattle.inbox.specs.Folds.{rows_from}
 use Rattle.inbox.proofs.Lists.Rows.{rows-with_seal, rows-with_seals, rows-emit_steps, rows_from-append, tables-emit_steps}
 use Rattle.inbox.proofs.Timesteps.UnderSeal.{by_end, all_pairs-more}
 use Rattle.inbox.proofs.Timesteps.Whole.{newly-becomes}
+
+-- The plan: what is asked of a seal is asked where it is appended. Rows append no seal. After the
+-- timesteps of a batch the seals of that batch are appended, to a list that has all rows of the
+-- timesteps so far. So it goes batch by batch within a life, then life by life.
 
 -- ---- a list with one element more
 

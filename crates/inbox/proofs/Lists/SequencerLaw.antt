@@ -1,4 +1,4 @@
--- The contents of a replica of an Order component: those of the first entries of the log.
+-- A replica of an Order component has put out what its program does over the first entries of the log.
 use Rattle.std.proofs.Common.{◌≡◌, refl, ap, sym, subst, ◌∙◌, ℕ, zero, suc, ◌<◌, ◌≤◌, max, true, List, [], ◌∷◌, ◌++◌, length, map, take, arith, inl, inr, ◌⊎◌, Some}
 use Rattle.std.specs.List.{fold, flat_map}
 use Rattle.std.proofs.Math.Nat.{le-max_left, le-max_right}

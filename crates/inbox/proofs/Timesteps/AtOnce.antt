@@ -1,4 +1,4 @@
--- Timesteps outside sealing: what is heard stands in the timestep of its batch.
+-- Outside Seal what is heard stands in the timestep of its batch.
 use Rattle.std.proofs.Common.{◌≡◌, refl, ap, sym, subst, ◌∙◌, ◌<◌, List, [], ◌∷◌, ◌++◌, length, inl, inr}
 use Rattle.blz_value.specs.Members.{Has}
 use Rattle.blz_value.proofs.Membership.{Has-append_left, Has-append_right, Has-append_cases}

@@ -1,4 +1,4 @@
--- What is held: outside sealing nothing, under Seal the records whose partition isn't whole.
+-- Outside Seal nothing is held, and under Seal the records whose partition isn't whole.
 use Rattle.std.proofs.Common.{◌≡◌, refl, ap, ◌∙◌, ◌<◌, Bool, true, false, not, cond, List, [], ◌∷◌, length, filter, arith, inl, inr}
 use Rattle.std.specs.List.{list_any}
 use Rattle.std.proofs.lemmas.Bool.{not_from_false}

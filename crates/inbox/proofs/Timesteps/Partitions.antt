@@ -1,4 +1,4 @@
--- The course of one partition in a life under Seal: nothing of it before the batch with which it becomes whole, then one timestep with all that carrying ports heard of it, and later only what was heard later.
+-- Under Seal nothing of a partition stands in a timestep before the batch with which it becomes whole; then one timestep has all that carrying ports heard of it, and later ones have what was heard later.
 use Rattle.std.proofs.Common.{◌≡◌, refl, ap, sym, subst, ◌∙◌, ◌<◌, ◌&&◌, Bool, true, false, not, List, [], ◌∷◌, ◌++◌, length, filter, append_assoc, append-nil, inl, inr, Option, Some}
 use Rattle.std.specs.List.{list_any, flat_map}
 use Rattle.std.specs.Option.{option_map_or, unwrap_or}

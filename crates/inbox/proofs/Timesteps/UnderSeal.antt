@@ -1,4 +1,4 @@
--- Timesteps under Seal: which records stand in them, and when.
+-- Under Seal a record stands in a timestep exactly where it was heard and waits for nothing.
 use Rattle.std.proofs.Common.{◌≡◌, refl, ap, sym, subst, ◌∙◌, ◌<◌, ◌&&◌, Bool, true, false, not, List, [], ◌∷◌, ◌++◌, length, filter, append_assoc, append-nil, inl, inr, ◌⊎◌, Option, None, Some}
 use Rattle.std.specs.List.{list_any}
 use Rattle.std.specs.Option.{option_map_or}

@@ -1,4 +1,4 @@
--- Whole partitions: they stay whole, and a seal of each was heard.
+-- A whole partition stays whole, and from each carrying feed a seal of it was heard and as many records as it counts.
 use Rattle.std.proofs.Common.{◌≡◌, refl, ap, sym, subst, ◌∙◌, ℕ, ◌≤◌, ◌==◌, ◌&&◌, nat_le, Bool, true, false, not, List, [], ◌∷◌, ◌++◌, length, map, filter, arith, inl, inr, ◌⊎◌, Option, None, Some}
 use Rattle.std.specs.List.{list_all, filter_map, cons_option}
 use Rattle.std.specs.Option.{unwrap_or}

@@ -1,4 +1,4 @@
--- Worked rows of campaign and latest: two partitions in one batch, an empty partition, two orders, and a batch of latest.
+-- Two partitions in one batch come in the order of their keys, an empty partition is whole at once, and Latest depends on the order of puts.
 use Rattle.std.proofs.Common.{◌≡◌, refl, ℕ, List, [], ◌∷◌, codes, Some, None}
 use Rattle.std.specs.Prelude.{Result, Ok}
 use Rattle.blz_value.specs.declared.value.Value.{Value}

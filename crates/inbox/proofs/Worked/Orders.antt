@@ -1,4 +1,4 @@
--- Worked rows of numbers: two orders of one log, and refusals.
+-- Another order of one log gives other contents, equal in all replicas; and what isn't legal is refused.
 use Rattle.std.proofs.Common.{◌≡◌, refl, ℕ, ◌++◌, List, [], ◌∷◌, Some, None}
 use Rattle.std.specs.Prelude.{Result, Ok, Err}
 use Rattle.blz_value.specs.Record.{Row}

@@ -1,4 +1,4 @@
--- Worked rows of tally: sealed, restarted, and in one batch.
+-- A tally waits for its seal and for as many clicks as it counts, and after a forget puts nothing out twice.
 use Rattle.std.proofs.Common.{◌≡◌, refl, ℕ, ◌++◌, map, List, [], ◌∷◌, Option, Some, None, length}
 use Rattle.std.specs.Prelude.{Result, Ok}
 use Rattle.blz_value.specs.Record.{Row}

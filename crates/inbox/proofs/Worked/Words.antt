@@ -1,4 +1,4 @@
--- The worked row of word count: what is emitted, and in which order.
+-- Word count, planned, puts its words, counts and commits out batch by batch, whatever comes first.
 use Rattle.std.proofs.Common.{◌≡◌, refl, ℕ, ◌++◌, List, [], ◌∷◌, codes, Some}
 use Rattle.std.specs.Prelude.{Result, Ok}
 use Rattle.std.specs.List.{flat_map}

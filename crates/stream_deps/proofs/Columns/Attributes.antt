@@ -1,4 +1,4 @@
--- Columns by their attributes: the first place of an attribute, distinct columns, and sets of attributes.
+-- An attribute has a first place among columns, and one place among distinct columns; the value of a record in it is the value there.
 use Rattle.std.proofs.Common.{◌≡◌, ◌≢◌, ◌<◌, ◌≤◌, ◌+◌, ℕ, zero, suc, Bool, true, false, cond, bit_or, Option, None, Some, IfSome, IsNone, List, [], ◌∷◌, length, map, get_or, slice_get, refl, ap, ◌∙◌, sym, subst, inl, inr, ◌⊎◌, arith, ◌^◌}
 use Rattle.std.specs.Prelude.{unwrap_or}
 use Rattle.std.specs.List.{AllPairs, position_from, zip}

@@ -1,4 +1,4 @@
--- What instances hear and what stands in timesteps, by now.
+-- What instances have heard, and what stands in timesteps, was sent by streams; so timesteps are arrivals.
 use Rattle.std.proofs.Common.{ap, subst, ◌∙◌, [], length, get_or}
 use Rattle.std.proofs.lemmas.List.{length-map}
 use Rattle.bloom_ast.specs.Program.{port_columns}

@@ -1,4 +1,4 @@
--- Induction on the number of steps: what holds of the records of sources, and of each row of an output over arrivals of which it holds, holds of all emitted records.
+-- What holds of the records of sources, and of each row of an output over arrivals of which it holds, holds of all emitted records.
 use Rattle.std.proofs.Common.{◌≡◌, refl, ap, sym, subst, ◌∙◌, ℕ, ◌<◌, true, List, [], ◌∷◌, ◌++◌, length, inl, inr, Option, None, Some, not, map}
 use Rattle.std.specs.Prelude.{Ok}
 use Rattle.std.specs.Option.{option_map_or, unwrap_or}
@@ -31,6 +31,10 @@ use Rattle.stream_deps.proofs.Records.Sending.{timestep_sent}
 use Rattle.stream_deps.proofs.Records.PutOut.{emitted_in_step}
 use Rattle.bloom_ast.specs.Steps.{tables_after_steps}
 use Rattle.path_annotate.specs.Roots.{Roots}
+
+-- The plan: what a step finds in lives and logs stood in emitted lists before it. So if the fact holds
+-- of all that was emitted after some steps, it holds of all that arrives after one more, and then of
+-- all rows that are put out over that. It speaks of no execution, so it needn't be carried on.
 
 -- ---- records of sources
 

@@ -1,4 +1,4 @@
--- Widths of emitted records, and traced values: by induction on the number of steps.
+-- An emitted record is as wide as its stream, and has the values of a record of a source where the stream keeps to a dependency.
 use Rattle.std.proofs.Common.{◌≡◌, ◌<◌, ◌≤◌, ℕ, Bool, true, not, ◌&&◌, ◌||◌, bit_or, Option, Some, List, [], ◌∷◌, ◌++◌, length, get_or, refl, ap, ◌∙◌, sym, subst, arith}
 use Rattle.std.specs.Prelude.{is_none}
 use Rattle.std.specs.List.{list_all}

@@ -1,4 +1,4 @@
--- Streams that carry a key, and ports that do: one level, the columns of the key, and the regions from which they come.
+-- A stream carries a key one level at a time; a stream or a port that carries it has its columns, and it comes from lower regions.
 use Rattle.std.proofs.Common.{if◌then◌else◌, ◌≡◌, refl, ap, sym, subst, ◌∙◌, ℕ, ◌<◌, ◌&&◌, nat_lt, true, false, List, length, map, inl, inr, Option, None, Some, arith}
 use Rattle.std.specs.List.{list_all, zip}
 use Rattle.std.specs.Option.{option_map, option_and_then, unwrap_or}

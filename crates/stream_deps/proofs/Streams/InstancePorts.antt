@@ -1,4 +1,4 @@
--- The ports of an instance: the places of the key in their columns, and which of them carry it.
+-- The ports of an instance have the places of the key in their columns, and carry it where the view says so.
 use Rattle.std.proofs.Common.{◌≡◌, refl, ap, sym, subst, ◌∙◌, ℕ, ◌<◌, Bool, true, false, List, length, map, slice_get, None, Some}
 use Rattle.std.specs.Prelude.{if◌then◌else◌}
 use Rattle.std.specs.Option.{option_map, option_map_or, option_and_then}

@@ -1,6 +1,7 @@
 -- A label speaks of the paths behind it: how bad they are, and how their ports wait for a key.
 use Rattle.std.specs.Prelude.{ℕ, ◌≡◌, ◌≤◌, ◌<◌, ◌⊎◌, IsTrue, IsFalse, Bool, true, false, Some, List, length}
 use Rattle.blz_value.specs.Members.{Has}
+use Rattle.fd_closure.specs.Bits.{members}
 use Rattle.fd_closure.specs.declared.attrs.Attrs.{Attrs}
 use Rattle.fd_closure.specs.Closure.{within, closure}
 use Rattle.path_annotate.specs.declared.note.Note.{Note}
@@ -15,7 +16,6 @@ use Rattle.label_rules.specs.declared.label.Label.{Label}
 use Rattle.label_rules.specs.Label.{severity}
 use Rattle.label_rules.specs.Reconciliation.{is_protected}
 use Rattle.label_walk.specs.Paths.{label_at, output_paths, notes_in, region_inputs}
-use Rattle.fd_closure.specs.Bits.{members}
 
 -- ---- outputs outside cycles
 
@@ -46,6 +46,7 @@ pub record HasGoodPaths (v : View) (labels : List Label) (output : End) (worst :
 
 -- ---- protected outputs
 
+-- a note OR, which asks no key of its port
 abbrev pub is_ordered_read : Note → Bool
 is_ordered_read CR = false
 is_ordered_read CW = false

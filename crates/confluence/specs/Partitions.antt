@@ -62,11 +62,12 @@ module _ (v : View) (d : Data) (x : Execution) (c j : ℕ) (key : Attrs) (progra
 abbrev pub AreCarrying : View → (c : ℕ) → (key : Attrs) → (given : ℕ → Option Note) → Type 0
 AreCarrying v c key given = (port : ℕ) → IsTrue (is_w (given port)) → IsTrue (has_stream v c port) → IsTrue (port_carries v key.bits c port)
 
--- one of the two holds, of the rules of a module and of the outputs of all programs
+-- one of the two holds of each rule of a module whose ports carry the key
 abbrev pub RulesByPartitions : View → Data → Execution → (c j : ℕ) → (key : Attrs) → Accepted → List Batch → Row → Type 0
 RulesByPartitions v d x c j key a batches value = (rule : RuleForm) → Has rule a.form.rules → AreCarrying v c key (rule_use v.attributes a rule)
     → IsWaiting v d x c j key (Module a) batches value (query_over a rule.1) ⊎ IsAtOnce v d x c j key (Module a) batches value (query_over a rule.1)
 
+-- one of the two holds of each output of a program whose ports carry the key
 abbrev pub OutputsByPartitions : View → Data → Execution → (c j : ℕ) → (key : Attrs) → Program → List Batch → Row → Type 0
 OutputsByPartitions v d x c j key program batches value = (output : ℕ) → AreCarrying v c key (λ port. note_of v.attributes program port output)
     → IsWaiting v d x c j key program batches value (output_over program output) ⊎ IsAtOnce v d x c j key program batches value (output_over program output)

@@ -2,7 +2,7 @@
 use Rattle.std.proofs.Common.{◌≡◌, ap, sym, subst, ◌∙◌, ℕ, ◌+◌, ◌<◌, nat_lt, Bool, true, false, List, [], length, map, get_or, arith, inl, inr, Some, slice_get, zero, suc}
 use Rattle.std.specs.Prelude.{if◌then◌else◌}
 use Rattle.std.specs.List.{range_with_len, flat_map}
-use Rattle.std.specs.Option.{option_map, option_map_or, unwrap_or}
+use Rattle.std.specs.Option.{option_map_or}
 use Rattle.std.proofs.lemmas.List.FromFn.{get_or-map-range_with_len, length-map-range_with_len}
 use Rattle.std.proofs.lemmas.Option.{slice_get-get_or}
 use Rattle.blz_value.specs.Members.{Has}
@@ -10,11 +10,10 @@ use Rattle.blz_value.proofs.Membership.{Has-get_or, Has-from_map, Has-from_flat_
 use Rattle.topo_types.specs.View.{View, no_stream, replicas_of, port_numbers, streams_to, stream_replicas, component_at, goes_to, is_order, mode_of, mode_key, stream_at, stream_numbers}
 use Rattle.topo_types.specs.Feeds.{Feed, no_feed, feeds, log_feeds, feeds_at, feeds_from, paired_senders}
 use Rattle.topo_types.specs.Sets.{below}
-use Rattle.topo_types.specs.Messages.{Message, row, seal, row_in}
-use Rattle.inbox.specs.Messages.{Pair, Batch, Entry, all_pairs}
-use Rattle.inbox.specs.Instances.{Instance, port_of_feed, entry_of}
+use Rattle.topo_types.specs.Messages.{row}
+use Rattle.inbox.specs.Messages.{Pair, Batch, all_pairs}
+use Rattle.inbox.specs.Instances.{Instance, port_of_feed}
 use Rattle.inbox.specs.Growth.{feed_numbered}
-use Rattle.inbox.proofs.Timesteps.Whole.{Has-from_filter_map}
 use Rattle.inbox.proofs.Timesteps.Held.{ComesAtPorts}
 use Rattle.inbox.proofs.Timesteps.Entries.{heard_entry}
 use Rattle.inbox.specs.Wiring.{nobody, instances_at, instance_at, is_there, port_for, instance_for, wiring_of}

@@ -98,10 +98,11 @@ EntryKeyLaw = (v : View) (c j : ℕ) (key : Attrs) (entry : Entry) → c < lengt
 
 -- ---- carried keys
 
--- a stream that carries a key has its columns, and so has a port that does
+-- a stream that carries a key has its columns
 abbrev pub StreamKeyLaw : Type 0
 StreamKeyLaw = (v : View) (key s : ℕ) → IsValid v → s < length v.streams → IsTrue (carries_key v key s) → IsTrue (within key (stream_attrs v s).bits)
 
+-- a port that carries a key has a stream and the columns of the key
 abbrev pub PortKeyLaw : Type 0
 PortKeyLaw = (v : View) (key c p : ℕ) → IsValid v → IsTrue (port_carries v key c p) → IsTrue (has_stream v c p) × IsTrue (within key (port_attrs v c p).bits)
 

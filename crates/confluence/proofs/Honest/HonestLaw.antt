@@ -21,7 +21,7 @@ use Rattle.topo_types.proofs.Spreading.{both_true}
 use Rattle.inbox.specs.Instances.{Instance, is_carrying}
 use Rattle.inbox.specs.Timesteps.{timesteps}
 use Rattle.inbox.specs.Wiring.{Wiring, wiring_of, instance_for, carried_places}
-use Rattle.inbox.specs.Lives.{Life, all_lives, emitted_by}
+use Rattle.inbox.specs.Lives.{Life, all_lives, life_timesteps, emitted_by}
 use Rattle.inbox.specs.Executions.{Execution, list_from, emitted_list}
 use Rattle.inbox.specs.Growth.{feed_numbered, NoRepeats}
 use Rattle.inbox.proofs.Lists.Repeats.{no_repeats-emitted_by}
@@ -133,7 +133,7 @@ module _ (v : View) (d : Data) (x : Execution) (history : IsHistory v d x) (hold
               let is : cells (key_places (output_at v c o).columns key.bits) r ≡ k = ap (λ ps. cells ps r) (sym at) ∙ is_same_row-is (cells places r) k t in
               let in_list : Has r (rows_in list) = Has-rows_in r list (subst (λ l. Has (row r) l) (sym cut_at) (Has-append_right (row r) before (seal k count ∷ after) (inr h))) in
               let lived = Has-from_flat_map (life_rows program i (x.logs c) o) r all ((rows_of_list program i body.1 (x.logs c) (x.lives c j) o long).0 r in_list) in
-              let there_too : Has r (rows_from program (empty_tables program) (timesteps i lived.0.heard) o) = subst (λ nows. Has r (rows_from program (empty_tables program) nows o)) (life_timesteps-hearing i (x.logs c) lived.0 hears) lived.2 in
+              let there_too : Has r (rows_from program (empty_tables program) (timesteps i lived.0.heard) o) = subst (λ nows. Has r (rows_from program (empty_tables program) nows o)) {x = life_timesteps i (x.logs c) lived.0} {y = timesteps i lived.0.heard} (life_timesteps-hearing i (x.logs c) lived.0 hears) lived.2 in
               let here = same_rows v d x history holds c o j there replica out program body.1 key mode both.0 both.1 (fed_honestly c there key mode (λ port u u_lt goes. any_stream port u u_lt key mode goes) j)
               sealed.heard lived.0.heard
               (record { life = sealed.life; lived = sealed.lived; first = sealed.first })

@@ -11,15 +11,13 @@ use Rattle.bloom_ast.specs.Query.{Name}
 use Rattle.path_annotate.specs.Attributes.{has_attribute}
 use Rattle.row_laws.specs.Classes.{columns_at, has_key, of_class}
 use Rattle.row_laws.proofs.Split.ClassesLemmas.{from_class, in_class}
-use Rattle.topo_types.specs.Data.{key_value}
 use Rattle.topo_types.specs.Valid.{IsValid, Runs}
 use Rattle.topo_types.specs.View.{View, component_at, port_attrs, program_of, mode_of, mode_key}
 use Rattle.inbox.specs.Instances.{Instance}
 use Rattle.inbox.specs.Wiring.{instance_for}
 use Rattle.inbox.proofs.WiringLemmas.{instance-ports}
-use Rattle.stream_deps.specs.Agreement.{port_roots}
 use Rattle.stream_deps.proofs.Dependencies.KeyLaw.{key_law}
-use Rattle.stream_deps.proofs.Streams.InstancePorts.{as_many, key_here, has_columns}
+use Rattle.stream_deps.proofs.Streams.InstancePorts.{as_many, key_here, key_given, has_columns}
 use Rattle.stream_deps.proofs.Dependencies.JointLaw.{has_attribute_is, is_has_attribute}
 use Rattle.confluence.proofs.Honest.Partitions.{IsRestriction}
 
@@ -57,11 +55,10 @@ module _ (v : View) (c j : ℕ) (key : Attrs) (mode : mode_key (mode_of v c) ≡
     kept = λ now port r of_instance h is.
         let within_ports : port < length (component_at v c).ports = subst (λ n. port < n) (instance-ports v c j) of_instance in
         let inside = has_columns v c j key mode port r k within_ports is in
-        let same : key_value (port_roots v c port) key.bits r ≡ k = let e : Some (key_value (port_roots v c port) key.bits r) ≡ Some k = sym (key_here v c j key mode port r within_ports inside) ∙ is in cc in
         in_class names program attributes (λ values. values) k now port r (record {
           within = subst (λ n. port < n) (as_many v c j key mode program runs) within_ports;
           stands = h;
           keyed = key_named port inside;
-          is = key_law v c port key.bits program r valid there body inside ∙ same;
+          is = key_law v c port key.bits program r valid there body inside ∙ key_given v c j key mode port r k within_ports is;
         });
   }

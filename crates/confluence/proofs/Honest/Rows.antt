@@ -5,9 +5,7 @@ use Rattle.std.specs.List.{list_all, zip}
 use Rattle.std.specs.Option.{option_map_or}
 use Rattle.fd_closure.specs.declared.attrs.Attrs.{Attrs}
 use Rattle.fd_closure.specs.Bits.{bit_of}
-use Rattle.fd_closure.specs.Closure.{within}
 use Rattle.fd_closure.proofs.Members.{meets_more}
-use Rattle.fd_closure.proofs.Within.{within-trans}
 use Rattle.blz_value.specs.Members.{Has}
 use Rattle.blz_value.specs.Record.{Row}
 use Rattle.blz_value.specs.Operators.{cells}
@@ -34,7 +32,7 @@ use Rattle.topo_types.specs.Data.{Data, Holds, key_places, key_value}
 use Rattle.topo_types.specs.Dependencies.{usable_fds}
 use Rattle.topo_types.specs.Valid.{IsValid, Runs, IsCovered}
 use Rattle.topo_types.specs.ViewOf.{derived_note}
-use Rattle.topo_types.specs.View.{View, component_at, output_at, own_attrs, own_root, note_at, program_of, mode_of, mode_key, replicas_of, ports_towards, port_numbers, port_attrs}
+use Rattle.topo_types.specs.View.{View, component_at, output_at, own_attrs, own_root, note_at, program_of, mode_of, mode_key, replicas_of, ports_towards, port_numbers}
 use Rattle.topo_types.proofs.Spreading.{in_below, both_true}
 use Rattle.inbox.specs.Messages.{Batch, Entry, all_pairs}
 use Rattle.inbox.specs.Instances.{Instance, is_carrying, key_of_entry, entries_of}
@@ -48,7 +46,7 @@ use Rattle.stream_deps.specs.Agreement.{port_roots}
 use Rattle.stream_deps.proofs.Dependencies.JointLaw.{same_keys}
 use Rattle.stream_deps.proofs.Records.PutOut.{put_out_over, arrived_up, arrivals_up}
 use Rattle.stream_deps.proofs.Streams.CarriedKeys.{MayCarry, may_carry-is, towards_carries}
-use Rattle.stream_deps.proofs.Streams.InstancePorts.{carrying_is, ports_same, key_here}
+use Rattle.stream_deps.proofs.Streams.InstancePorts.{carrying_is, ports_same, key_given}
 use Rattle.stream_deps.proofs.Columns.Attributes.{within-small}
 use Rattle.stream_deps.proofs.Dependencies.KeyedOutputs.{output_keyed_law}
 use Rattle.stream_deps.proofs.Records.CopiedLaw.{copied_law}
@@ -207,11 +205,9 @@ module _ (v : View) (d : Data) (x : Execution) (history : IsHistory v d x) (hold
         let f = from_chosen program i many (of k) k (only k) (timesteps i batches) copy.port copy.copied (record { now = copy.now; among = among; there = copy.arrived }) in
         let m = Has-from_map (of k) copy.now (timesteps i batches) among in
         let a = from_class names program attributes (λ values. values) k m.0 copy.port copy.copied (subst (λ now. Has copy.copied (set_at now copy.port)) {y = of k m.0} (sym {a = of k m.0} m.2) copy.arrived) in
-        let inside : within key.bits (port_attrs v c copy.port).bits ≡ true = within-trans key.bits (own_attrs (output_at v c o)) (port_attrs v c copy.port).bits may.own copy.has_all in
         let same = same_keys key.bits (output_at v c o).columns r (port_roots v c copy.port) copy.copied (λ n h. copy.same n (meets_more (bit_of n) key.bits (own_attrs (output_at v c o)) h may.own)) in
-        let at_port : Some (key_value (port_roots v c copy.port) key.bits copy.copied) ≡ Some k = sym (key_here v c j key mode copy.port copy.copied (port_there copy.port (port_in copy.port a.within)) inside) ∙ f.2 in
         record {
-          is = same ∙ (let e : key_value (port_roots v c copy.port) key.bits copy.copied ≡ k = cc in e);
+          is = ◌∙◌ {b = key_value (port_roots v c copy.port) key.bits copy.copied} same (key_given v c j key mode copy.port copy.copied k (port_there copy.port (port_in copy.port a.within)) f.2);
           port = copy.port;
           copied = copy.copied;
           of_key = f.2;

@@ -55,6 +55,12 @@ module _ (v : View) (c j : ℕ) (key : Attrs) (mode : mode_key (mode_of v c) ≡
         | false ↦ λ lacks. let none : option_map (λ places. cells places r) None ≡ Some k = sym (ap (option_map (λ places. cells places r)) (places_are port there ∙ places_cases port false lacks)) ∙ e in cc
       ] refl
 
+  -- so the key that it gives is that by the places of columns
+  pub key_given : (port : ℕ) (r k : Row) → port < length (component_at v c).ports → key_of_entry i (port, r) ≡ Some k → cells (key_places (port_roots v c port) key.bits) r ≡ k
+  key_given port r k there is =
+      let e : Some (cells (key_places (port_roots v c port) key.bits) r) ≡ Some k = sym (key_here port r there (has_columns port r k there is)) ∙ is in
+      cc
+
   -- the places of the key at a port are those in its columns
   pub places_only : (port : ℕ) (places : List ℕ) → port < length (component_at v c).ports → key_places_at i port ≡ Some places → places ≡ key_places (port_roots v c port) key.bits
   places_only port places there e =

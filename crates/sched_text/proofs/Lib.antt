@@ -7,3 +7,4 @@ pub mod ReadingLemmas
 pub mod PlainFields
 pub mod PrintedEvents
 pub mod PrintedLines
+pub mod PrintableLemmas

@@ -1,7 +1,8 @@
 //! Reading events, lines and schedules.
-ghost use Rattle.std.specs.Prelude.{◌≡◌};
+ghost use Rattle.std.specs.Prelude.{◌≡◌, true, IfOk, IfSome};
 ghost use Rattle.sched_text.specs.Kinds as spec;
 ghost use Rattle.sched_text.specs.Reading.{event_reading, GivesEntries, GivesEvent};
+ghost use Rattle.sched_text.specs.Text.{is_printable, IsPrintable};
 ghost use Rattle.sched_text.specs.Code.Given.{TakesFront, GivesAll};
 
 use crate::event::{Event, Part, Sent};
@@ -136,9 +137,10 @@ impl FromLine for Event {
 }
 
 /// The event of a line that has no LF, None exactly where it is passed over. One CR at its end is
-/// ignored. The line of the fault is 1.
+/// ignored. The line of the fault is 1. The event can be printed.
 pub fn read_line(alloc: Global, line: &[u8]) -> Result<Option<Event>, ScheduleFault>
-    ensures { GivesEvent (event_reading line.now) result }
+    ensures read { GivesEvent (event_reading line.now) result }
+    ensures printable { IfOk result (λ event. IfSome event (λ event. is_printable event ≡ true)) }
 {
     match Event::from_line(alloc, line) {
         Ok(event) => Ok(event),
@@ -147,10 +149,11 @@ pub fn read_line(alloc: Global, line: &[u8]) -> Result<Option<Event>, ScheduleFa
 }
 
 /// The events of a text, each with the number of its line, counted from 1. The fault names the first
-/// line that is neither an event nor passed over, as each line past the 1,000,000th. One pass,
-/// without a copy of the text.
+/// line that is neither an event nor passed over, as each line past the 1,000,000th. The schedule can
+/// be printed. One pass, without a copy of the text.
 pub fn read(alloc: Global, text: &[u8]) -> Result<Schedule, ScheduleFault>
-    ensures { GivesEntries (λ schedule. schedule) event_reading text.now result }
+    ensures read { GivesEntries (λ schedule. schedule) event_reading text.now result }
+    ensures printable { IfOk result IsPrintable }
 {
     Ok(Schedule::from_lines(read_lines(alloc, text)?))
 }

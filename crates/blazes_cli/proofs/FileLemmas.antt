@@ -11,8 +11,16 @@ use Rattle.blazes_cli.specs.Script.{Bytes, Ending}
 use Rattle.blazes_cli.specs.Script.Script.{gives, refuses}
 use Rattle.blazes_cli.specs.Script.Ending.{gave, refused, failed}
 use Rattle.blazes_cli.specs.Ends.{Told, Source, files_states, Came, Ends, MayGive, MayFail}
-use Rattle.blazes_cli.specs.Lines.{too_long}
+use Rattle.report_print.specs.declared.refusal.Refusal.TheVariants.{TooLong}
+use Rattle.report_print.specs.Refusals.{refusal_line}
 use Rattle.blazes_cli.specs.Checks.{file}
+use Rattle.blazes_cli.specs.Code.Ran.{IsRefused, Stopped}
+use Rattle.blazes_cli.specs.declared.stop.Stop.{Stop}
+use Rattle.blazes_cli.specs.declared.stop.Stop.TheVariants.{Refused, Failed, NoMemory}
+
+-- the line of a file above its limit
+abbrev too_long : Bytes → Bytes
+too_long name = refusal_line (TooLong name)
 
 -- what follows on bytes that are or aren't too long
 abbrev LengthEnds : Told → Bytes → Bytes → Ending Bytes → Bool → Type 0
@@ -49,6 +57,15 @@ file_longer a b most name kept quiet longer some =
       );
       counts = quiet;
     }
+
+-- the stop at such a file
+pub stop_longer : (a b : Source) (most : ℕ) (name : Bytes) (stop : Stop) → IsRefused (refusal_line (TooLong name)) stop → b.told ≡ a.told → b.faults ≡ a.faults
+    → IfSome (told_bytes a.told.held name) (λ bytes. most < length bytes) → (IsTrue a.told.steady → IsSome (told_bytes a.told.held name))
+    → Stopped (files_states a b) stop (file most name)
+stop_longer a b most name (Refused line) is kept quiet longer some =
+    subst (λ said. Came (files_states a b) (file most name) (refused said)) (sym is) (file_longer a b most name kept quiet longer some)
+stop_longer a b most name (Failed other) is kept quiet longer some = absurd is
+stop_longer a b most name NoMemory is kept quiet longer some = tt
 
 -- what is told after a read that didn't fail, where nothing told means a failure
 pub told_after : (o : Option Bytes) (end : End) → IfNone o (IsErr {T = End} {E = ReadFail} (Ok end)) → IsSome o

@@ -1,4 +1,5 @@
 pub mod CommandLemmas
+pub mod EachLemmas
 pub mod FileLemmas
 pub mod ReplyLemmas
 pub mod ScriptLemmas

@@ -1,5 +1,6 @@
 -- A script followed by another ends as the first does, or, where that gives something, as the second does.
 use Rattle.std.proofs.Common.{◌≡◌, ◌∙◌, inl, inr, Ok, Err, Result, refl, sym, subst}
+use Rattle.std.specs.Result.{IsErrAnd}
 use Rattle.blazes_cli.specs.Script.{Bytes, Script, Ending, ◌>>=◌}
 use Rattle.blazes_cli.specs.Script.Script.{gives, refuses, reads}
 use Rattle.blazes_cli.specs.Script.Ending.{gave, refused, failed}
@@ -24,7 +25,7 @@ ends_then files (reads name after) next x e (inl failing) rest = absurd (subst (
 ends_then files (reads name after) next x e (inr given) rest = inr (given.0, given.1, ends_then files (after given.0) next x e given.2 rest)
 
 -- a part that is refused, and what would have gone on
-refused_then : {A B : Type 0} (files : Told) (s : Script A) (next : A → Script B) (line : Bytes)
+pub refused_then : {A B : Type 0} (files : Told) (s : Script A) (next : A → Script B) (line : Bytes)
     → Ends files s (refused line) → Ends files (s >>= next) (refused line)
 refused_then files (gives y) next line is = absurd (cc)
 refused_then files (refuses other) next line is = cc
@@ -32,7 +33,7 @@ refused_then files (reads name after) next line (inl failing) = absurd (cc)
 refused_then files (reads name after) next line (inr given) = inr (given.0, given.1, refused_then files (after given.0) next line given.2)
 
 -- a part whose read fails, and what would have gone on
-failed_then : {A B : Type 0} (files : Told) (s : Script A) (next : A → Script B) (name : Bytes)
+pub failed_then : {A B : Type 0} (files : Told) (s : Script A) (next : A → Script B) (name : Bytes)
     → Ends files s (failed name) → Ends files (s >>= next) (failed name)
 failed_then files (gives y) next name is = absurd (cc)
 failed_then files (refuses line) next name is = absurd (cc)
@@ -40,7 +41,7 @@ failed_then files (reads other after) next name (inl failing) = inl (cc, failing
 failed_then files (reads other after) next name (inr given) = inr (given.0, given.1, failed_then files (after given.0) next name given.2)
 
 -- the counts of an ending after reads that left the count
-counts_after : {A : Type 0} (a b c : Source) (e : Ending A) → b.faults ≡ a.faults → Counts (files_states b c) e → Counts (files_states a c) e
+pub counts_after : {A : Type 0} (a b c : Source) (e : Ending A) → b.faults ≡ a.faults → Counts (files_states b c) e → Counts (files_states a c) e
 counts_after a b c (gave x) same counts = counts ∙ same
 counts_after a b c (refused line) same counts = counts ∙ same
 counts_after a b c (failed name) same counts = subst (λ n. Counts {A = Bytes} (files_states (record a { faults = n }) c) (failed name)) same counts
@@ -75,6 +76,12 @@ pub then_ran : {X A B : Type 0} (view : X → B) (a b c : Source) (s : Script A)
     → Came (files_states a b) s (gave x) → Ran view (files_states b c) result (next x) → Ran view (files_states a c) result (s >>= next)
 then_ran view a b c s next x (Ok y) first rest = came_then a b c s next x (gave (view y)) first rest
 then_ran view a b c s next x (Err stop) first rest = then_stop a b c s next x stop first rest
+
+-- a stop that is handed on
+pub stop_handed : {X A : Type 0} (view : X → A) (files : FilesStates) (s : Script A) (result : Result X Stop) (stop : Stop)
+    → IsErrAnd result (λ given. given ≡ stop) → Stopped files stop s → Ran view files result s
+stop_handed view files s (Ok x) stop is stopped = absurd is
+stop_handed view files s (Err given) stop is stopped = subst (λ given. Stopped files given s) (sym is) stopped
 
 -- a script that reads nothing leaves the source as it is
 pub came_at_once : {A : Type 0} (files : Source) (x : A) → Came (files_states files files) (gives x) (gave x)

@@ -1,4 +1,3 @@
 -- What private functions give.
 pub mod Ran
 pub mod Requests
-pub mod Texts

@@ -31,6 +31,8 @@ simple_command =
 pub data Asked : Type 0 where
   -- the labels of the topology in this file
   label : Text → Asked
+  -- how they come about
+  derive : Text → Asked
 
 -- the words of a command line, taken apart: COMMAND, the words after it, and the values of the options
 pub record Line : Type 0 where
@@ -66,7 +68,10 @@ pub record Command : Type 0 where
 
 -- the commands that are built
 abbrev pub commands : List Command
-commands = record { name = codes "label"; asks = λ line. option_map Asked.label (only_word line) } ∷ []
+commands =
+    record { name = codes "label"; asks = λ line. option_map Asked.label (only_word line) }
+    ∷ record { name = codes "derive"; asks = λ line. option_map Asked.derive (only_word line) }
+    ∷ []
 
 -- what a line asks for
 abbrev pub asked : Line → Option Asked

@@ -1,13 +1,13 @@
 //! The read of a file, and its length.
-ghost use Rattle.std.specs.Prelude.{◌≡◌};
+ghost use Rattle.std.specs.Prelude.{◌≡◌, ◌≤◌, length, IfOk};
 ghost use Rattle.blazes_cli.specs.Checks as check;
 ghost use Rattle.blazes_cli.specs.Code.Ran.{Ran};
 ghost use Rattle.blazes_cli.specs.Ends.{files_states, source};
 
-use crate::reply::name_line;
-use crate::stop::Stop;
+use crate::stop::{Stop, refused};
 use blz_outside::{End, Files, ReadFail};
 use blz_value::Str;
+use report_print::Refusal;
 use std::alloc::Global;
 
 /// The bytes of the file of this name, which may have `most` bytes.
@@ -17,15 +17,19 @@ pub fn read_file<F: Files>(
     most: usize,
     files: &mut F,
 ) -> Result<Vec<u8>, Stop>
-    ensures { Ran (λ bytes. bytes.items)
+    ensures ran { Ran (λ bytes. bytes.items)
         (files_states (source (F.held files.old) (F.steady files.old) (F.faults files.old))
         (source (F.held files.new) (F.steady files.new) (F.faults files.new)))
         result (check.file most name.now) }
+    ensures within { IfOk result (λ bytes. length bytes.items ≤ most) }
 {
     let mut bytes = Vec::new(alloc);
     match files.read(name, most, &mut bytes) {
         Ok(End::Whole) => Ok(bytes),
-        Ok(End::More) => Err(Stop::Refused(name_line(alloc, "refused TooLong ", name)?)),
+        Ok(End::More) => {
+            let file = Str::from_text(alloc, name)?;
+            Err(refused(alloc, &Refusal::TooLong { file }))
+        }
         Err(ReadFail::Failed) => Err(Stop::Failed(Str::from_text(alloc, name)?)),
         Err(ReadFail::NoMemory) => Err(Stop::NoMemory),
     }

@@ -3,13 +3,14 @@
 #![tactic(auto)]
 
 mod file;
-mod label;
-mod label_text;
+mod labelling;
+mod module_file;
 mod program;
 mod reply;
 mod status;
 mod stop;
 mod topology_file;
+mod valid_topology;
 mod words;
 
 pub use program::blazes;

@@ -2,7 +2,7 @@
 ghost use Rattle.std.specs.Prelude.{◌≡◌, ◌≢◌, ◌<◌, None, IfOk, IfSome, IsTrue, map, string_bytes};
 ghost use Rattle.blz_outside.specs.Counts.{Rose};
 ghost use Rattle.blazes_cli.specs.Answer.{IsAnswered, IsReply};
-ghost use Rattle.blazes_cli.specs.Code.Ran.{answer_of};
+ghost use Rattle.blazes_cli.specs.Code.Ran.{Replies, answer_of};
 ghost use Rattle.blazes_cli.specs.Code.Requests.{asked_by};
 ghost use Rattle.blazes_cli.specs.Commands.{script};
 ghost use Rattle.blazes_cli.specs.Ends.{files_states, source};
@@ -10,9 +10,10 @@ ghost use Rattle.blazes_cli.specs.Lines.{usage_line};
 ghost use Rattle.blazes_cli.specs.Outcome.{sink_states, IsSaid, IsOutcome, IsUsageOrLost, IsReadFaultOrLost, Misses};
 ghost use Rattle.blazes_cli.specs.Words.{request_of};
 
-use crate::label::label;
+use crate::labelling::{derive, label};
 use crate::reply::{Reply, conclusion, line};
 use crate::status::Status;
+use crate::stop::Stop;
 use crate::words::{Request, request_of};
 use blz_outside::{Files, Sink};
 use std::alloc::{AllocError, Global};
@@ -20,15 +21,25 @@ use std::alloc::{AllocError, Global};
 const USAGE: &str =
     "usage: blazes label|derive|plan TOPOLOGY | run TOPOLOGY DATA SCHEDULE | make TOPOLOGY DATA [--seed N] | soak [--seed N] [--count N] | shard TOPOLOGY COMPONENT COLUMN BOUND.. | restart TOPOLOGY DATA SCHEDULE | witness TOPOLOGY DATA SCHEDULE SCHEDULE | why TOPOLOGY DATA SCHEDULE STREAM REPLICA INDEX\n";
 
+fn outcome_of<F: Files>(alloc: Global, request: Request<'_>, files: &mut F) -> Result<Reply, Stop>
+    ensures { Replies
+        (files_states (source (F.held files.old) (F.steady files.old) (F.faults files.old))
+        (source (F.held files.new) (F.steady files.new) (F.faults files.new)))
+        result (script (asked_by request.entry)) }
+{
+    match request {
+        Request::Label { topology } => label(alloc, topology, files),
+        Request::Derive { topology } => derive(alloc, topology, files),
+    }
+}
+
 fn answer<F: Files>(alloc: Global, request: Request<'_>, files: &mut F) -> Result<Reply, AllocError>
     ensures { IfOk result (λ reply. IsAnswered (script (asked_by request.entry))
         (files_states (source (F.held files.old) (F.steady files.old) (F.faults files.old))
         (source (F.held files.new) (F.steady files.new) (F.faults files.new)))
         (answer_of reply)) }
 {
-    let outcome = match request {
-        Request::Label { topology } => label(alloc, topology, files),
-    };
+    let outcome = outcome_of(alloc, request, files);
     conclusion(alloc, outcome)
 }
 

@@ -2,6 +2,7 @@
 ghost use Rattle.std.specs.Prelude.{◌≡◌, ◌++◌, IfOk, OnOk, Ok, codes};
 ghost use Rattle.blz_value.specs.Text.{escaped};
 ghost use Rattle.blazes_cli.specs.Code.Ran.{answer_of, Concludes};
+ghost use Rattle.blazes_cli.specs.declared.status.Status.TheVariants.{Done};
 
 use crate::status::Status;
 use crate::stop::Stop;
@@ -13,6 +14,16 @@ use std::alloc::{AllocError, Global};
 pub struct Reply {
     pub status: Status,
     pub text: Vec<u8>,
+}
+
+/// The reply of a command that has done all of its work, with its text.
+pub fn done(text: Vec<u8>) -> Reply
+    ensures { answer_of result ≡ record { status = Done; text = text.items } }
+{
+    Reply {
+        status: Status::Done,
+        text,
+    }
 }
 
 /// This line, in a list of its own.

@@ -1,9 +1,12 @@
 //! Why the checks of a command stop.
 ghost use Rattle.std.specs.Prelude.{◌≡◌};
+ghost use Rattle.report_print.specs.Refusals.{refusal_line};
+ghost use Rattle.blazes_cli.specs.Code.Ran.{IsRefused};
 ghost use Rattle.blazes_cli.specs.declared.stop.Stop.TheVariants.{NoMemory};
 
 use blz_value::Str;
-use std::alloc::AllocError;
+use report_print::{Refusal, refusal_text};
+use std::alloc::{AllocError, Global};
 
 /// Why the checks of a command stop.
 #[derive(Debug, Drop)]
@@ -21,5 +24,16 @@ impl From<AllocError> for Stop {
 
     fn from(_fault: AllocError) -> Stop {
         Stop::NoMemory
+    }
+}
+
+/// The stop at a check that fails, with the line of this refusal; NoMemory where the line can't be
+/// written.
+pub fn refused(alloc: Global, refusal: &Refusal) -> Stop
+    ensures { IsRefused (refusal_line refusal.now) result }
+{
+    match refusal_text(alloc, refusal) {
+        Ok(line) => Stop::Refused(line),
+        Err(_) => Stop::NoMemory,
     }
 }

@@ -14,6 +14,8 @@ use std::alloc::{AllocError, Global};
 pub enum Request<'a> {
     /// The labels of the topology in the file of this name.
     Label { topology: &'a str },
+    /// How they come about.
+    Derive { topology: &'a str },
 }
 
 // The words of a command line, taken apart.
@@ -128,11 +130,15 @@ fn only_word<'a>(line: &Line<'_, 'a>) -> Option<&'a str>
 fn request_for<'a>(line: &Line<'_, 'a>) -> Option<Request<'a>>
     ensures { option_map asked_by result ≡ spec.asked (line_shown line.now) }
 {
-    if line.command == "label" {
-        let topology = only_word(line)?;
-        return Some(Request::Label { topology });
+    match line.command {
+        "label" => Some(Request::Label {
+            topology: only_word(line)?,
+        }),
+        "derive" => Some(Request::Derive {
+            topology: only_word(line)?,
+        }),
+        _ => None,
     }
-    None
 }
 
 // What matching words ask for.

@@ -2,21 +2,15 @@
 #![tactic(auto)]
 
 mod cycles;
-mod forward;
 mod label_list;
 mod laws;
 mod paths;
 mod region_walk;
 mod sets;
-mod small;
-mod walk;
 
 pub use cycles::{cycle_of, region_inputs, region_members, region_note};
-pub use forward::is_forward;
 pub use label_list::Labels;
-pub use laws::{labels_law, small_labels_law, upstream_law};
+pub use laws::{labels_law, upstream_law};
 pub use paths::{goes_to, is_order, output_paths, port_attrs, usable_fds};
 pub use region_walk::labels;
 pub use sets::members;
-pub use small::is_small;
-pub use walk::small_labels;

@@ -1,13 +1,11 @@
 //! The lines of a component: its paths, and its outputs behind their uses.
-ghost use Rattle.std.specs.Prelude.{◌≡◌, ◌<◌, ◌++◌, Bool, IfOk, OnOk, IfSome, codes, length, map};
-ghost use Rattle.std.specs.List.{flat_map};
-ghost use Rattle.label_walk.specs.Paths as paths;
-ghost use Rattle.label_walk.specs.Paths.{AreComponents, IsCycleOf, region_at};
-ghost use Rattle.label_rules.specs.Reconciliation as reconciliation;
-ghost use Rattle.topo_types.specs.Dependencies as dependencies;
-ghost use Rattle.topo_types.specs.Regions as regions;
+ghost use Rattle.std.specs.Prelude.{◌≡◌, ◌<◌, ◌++◌, IfOk, OnOk, IfSome, length, map};
+ghost use Rattle.topo_types.specs.Regions.{regions, region_set};
 ghost use Rattle.topo_types.specs.View as view;
+ghost use Rattle.label_walk.specs.Paths.{AreComponents, IsCycleOf, region_at};
+ghost use Rattle.report_print.specs.Code.Components as code;
 ghost use Rattle.report_print.specs.Code.Lines.{word_text};
+ghost use Rattle.report_print.specs.Code.Reports.{view_in, labels_in};
 ghost use Rattle.report_print.specs.DeriveText as spec;
 
 use crate::line::{Word, push_inner_line, push_line};
@@ -24,10 +22,10 @@ fn push_path_line(
     output: u32,
     text: &mut Vec<u8>,
 ) -> Result<(), AllocError>
-    requires component { component < length report.now.valid.now.view.components }
-    requires port { port < length (view.component_at report.now.valid.now.view component).ports }
-    requires output { output < length (view.component_at report.now.valid.now.view component).outputs }
-    ensures { OnOk result (text.new.items ≡ text.old.items ++ spec.path_line report.now.valid.now.view component port output (view.note_at report.now.valid.now.view component port output)) }
+    requires component { component < length (view_in report.now).components }
+    requires port { port < length (view.component_at (view_in report.now) component).ports }
+    requires output { output < length (view.component_at (view_in report.now) component).outputs }
+    ensures { OnOk result (text.new.items ≡ text.old.items ++ code.path_line report.now component port output) }
 {
     let valid = report.valid;
     let Some(note) = valid.note(component, port, output) else {
@@ -49,9 +47,9 @@ fn push_port_lines(
     port: u32,
     text: &mut Vec<u8>,
 ) -> Result<(), AllocError>
-    requires component { component < length report.now.valid.now.view.components }
-    requires port { port < length (view.component_at report.now.valid.now.view component).ports }
-    ensures { OnOk result (text.new.items ≡ text.old.items ++ flat_map (λ o. spec.path_line report.now.valid.now.view component port o (view.note_at report.now.valid.now.view component port o)) (view.output_numbers report.now.valid.now.view component)) }
+    requires component { component < length (view_in report.now).components }
+    requires port { port < length (view.component_at (view_in report.now) component).ports }
+    ensures { OnOk result (text.new.items ≡ text.old.items ++ code.port_lines report.now component port) }
 {
     for output in 0..report.valid.output_count(component) {
         push_path_line(report, component, port, output, text)?;
@@ -65,8 +63,8 @@ fn push_path_lines(
     component: u32,
     text: &mut Vec<u8>,
 ) -> Result<(), AllocError>
-    requires { component < length report.now.valid.now.view.components }
-    ensures { OnOk result (text.new.items ≡ text.old.items ++ spec.path_lines report.now.valid.now.view component) }
+    requires { component < length (view_in report.now).components }
+    ensures { OnOk result (text.new.items ≡ text.old.items ++ spec.path_lines (view_in report.now) component) }
 {
     for port in 0..report.valid.port_count(component) {
         push_port_lines(report, component, port, text)?;
@@ -84,9 +82,9 @@ fn push_word_if(here: bool, word: &'static str, words: &mut Vec<Word<'_>>) -> Re
 }
 
 fn is_protected_output(report: &Report<'_>, component: u32, output: u32) -> Result<bool, AllocError>
-    requires component { component < length report.now.valid.now.view.components }
-    requires output { output < length (view.component_at report.now.valid.now.view component).outputs }
-    ensures { IfOk result (λ protected. protected ≡ reconciliation.is_protected (paths.output_paths report.now.valid.now.view report.now.labels.now component output) (view.mode_of report.now.valid.now.view component) (dependencies.usable_fds report.now.valid.now.view component)) }
+    requires component { component < length (view_in report.now).components }
+    requires output { output < length (view.component_at (view_in report.now) component).outputs }
+    ensures { IfOk result (λ protected. protected ≡ code.is_protected_output report.now component output) }
 {
     let valid = report.valid;
     let fds = usable_fds(report.alloc, valid, component)?;
@@ -102,10 +100,10 @@ fn push_out_line(
     stream: u32,
     text: &mut Vec<u8>,
 ) -> Result<(), AllocError>
-    requires component { component < length report.now.valid.now.view.components }
-    requires output { output < length (view.component_at report.now.valid.now.view component).outputs }
-    requires stream { stream < length report.now.valid.now.view.streams }
-    ensures { OnOk result (text.new.items ≡ text.old.items ++ spec.out_line report.now.valid.now.view report.now.labels.now component output stream) }
+    requires component { component < length (view_in report.now).components }
+    requires output { output < length (view.component_at (view_in report.now) component).outputs }
+    requires stream { stream < length (view_in report.now).streams }
+    ensures { OnOk result (text.new.items ≡ text.old.items ++ spec.out_line (view_in report.now) (labels_in report.now) component output stream) }
 {
     let valid = report.valid;
     let name = Word::Plain(valid.stream_name(stream).as_str());
@@ -121,8 +119,8 @@ fn push_out_line(
 }
 
 fn is_stream_of(report: &Report<'_>, component: u32, output: u32, stream: u32) -> bool
-    requires { stream < length report.now.valid.now.view.streams }
-    ensures { result ≡ view.is_stream_of report.now.valid.now.view component output stream }
+    requires { stream < length (view_in report.now).streams }
+    ensures { result ≡ view.is_stream_of (view_in report.now) component output stream }
 {
     match report.valid.origin(stream) {
         Some((other, there)) => component == other && output == there,
@@ -132,8 +130,8 @@ fn is_stream_of(report: &Report<'_>, component: u32, output: u32, stream: u32) -
 
 #[tactic(auto, using(crate::proofs::Streams::none_further, crate::proofs::Streams::found_at))]
 fn stream_of(report: &Report<'_>, component: u32, output: u32) -> Option<u32>
-    ensures stream { result ≡ view.stream_of report.now.valid.now.view component output }
-    ensures within { IfSome result (λ stream. stream < length report.now.valid.now.view.streams) }
+    ensures stream { result ≡ view.stream_of (view_in report.now) component output }
+    ensures within { IfSome result (λ stream. stream < length (view_in report.now).streams) }
 {
     for stream in 0..report.valid.stream_count() {
         if is_stream_of(report, component, output, stream) {
@@ -149,9 +147,9 @@ fn push_inside_output(
     output: u32,
     text: &mut Vec<u8>,
 ) -> Result<(), AllocError>
-    requires component { component < length report.now.valid.now.view.components }
-    requires output { output < length (view.component_at report.now.valid.now.view component).outputs }
-    ensures { OnOk result (text.new.items ≡ text.old.items ++ spec.inside_lines report.now.valid.now.view report.now.labels.now component output (view.stream_of report.now.valid.now.view component output)) }
+    requires component { component < length (view_in report.now).components }
+    requires output { output < length (view.component_at (view_in report.now) component).outputs }
+    ensures { OnOk result (text.new.items ≡ text.old.items ++ code.inside_output report.now component output) }
 {
     match stream_of(report, component, output) {
         Some(stream) => push_out_line(report, component, output, stream, text),
@@ -165,9 +163,9 @@ fn push_outside_output(
     output: u32,
     text: &mut Vec<u8>,
 ) -> Result<(), AllocError>
-    requires component { component < length report.now.valid.now.view.components }
-    requires output { output < length (view.component_at report.now.valid.now.view component).outputs }
-    ensures { OnOk result (text.new.items ≡ text.old.items ++ spec.outside_lines report.now.valid.now.view report.now.labels.now component output (view.stream_of report.now.valid.now.view component output)) }
+    requires component { component < length (view_in report.now).components }
+    requires output { output < length (view.component_at (view_in report.now) component).outputs }
+    ensures { OnOk result (text.new.items ≡ text.old.items ++ code.outside_output report.now component output) }
 {
     let Some(stream) = stream_of(report, component, output) else {
         return Ok(());
@@ -182,8 +180,8 @@ fn push_inside_outputs(
     component: u32,
     text: &mut Vec<u8>,
 ) -> Result<(), AllocError>
-    requires { component < length report.now.valid.now.view.components }
-    ensures { OnOk result (text.new.items ≡ text.old.items ++ flat_map (λ o. spec.inside_lines report.now.valid.now.view report.now.labels.now component o (view.stream_of report.now.valid.now.view component o)) (view.output_numbers report.now.valid.now.view component)) }
+    requires { component < length (view_in report.now).components }
+    ensures { OnOk result (text.new.items ≡ text.old.items ++ code.inside_outputs report.now component) }
 {
     for output in 0..report.valid.output_count(component) {
         push_inside_output(report, component, output, text)?;
@@ -197,8 +195,8 @@ fn push_outside_outputs(
     component: u32,
     text: &mut Vec<u8>,
 ) -> Result<(), AllocError>
-    requires { component < length report.now.valid.now.view.components }
-    ensures { OnOk result (text.new.items ≡ text.old.items ++ flat_map (λ o. spec.outside_lines report.now.valid.now.view report.now.labels.now component o (view.stream_of report.now.valid.now.view component o)) (view.output_numbers report.now.valid.now.view component)) }
+    requires { component < length (view_in report.now).components }
+    ensures { OnOk result (text.new.items ≡ text.old.items ++ code.outside_outputs report.now component) }
 {
     for output in 0..report.valid.output_count(component) {
         push_outside_output(report, component, output, text)?;
@@ -211,8 +209,8 @@ fn push_component_names<'a>(
     components: &[u32],
     words: &mut Vec<Word<'a>>,
 ) -> Result<(), AllocError>
-    requires { AreComponents report.now.valid.now.view components.now }
-    ensures { OnOk result (map word_text words.new.items ≡ map word_text words.old.items ++ map (λ c. (view.component_at report.now.valid.now.view c).name) components.now) }
+    requires { AreComponents (view_in report.now) components.now }
+    ensures { OnOk result (map word_text words.new.items ≡ map word_text words.old.items ++ code.component_names report.now components.now) }
 {
     for component in components {
         let name = report.valid.component_name(*component);
@@ -222,8 +220,8 @@ fn push_component_names<'a>(
 }
 
 fn push_cycle_line(report: &Report<'_>, region: u32, text: &mut Vec<u8>) -> Result<(), AllocError>
-    requires { region < length (regions.regions report.now.valid.now.view) }
-    ensures { OnOk result (text.new.items ≡ text.old.items ++ spec.cycle_line report.now.valid.now.view (region_at report.now.valid.now.view region)) }
+    requires { region < length (regions (view_in report.now)) }
+    ensures { OnOk result (text.new.items ≡ text.old.items ++ spec.cycle_line (view_in report.now) (region_at (view_in report.now) region)) }
 {
     let members = region_members(report.alloc, report.valid, region)?;
     let mut words = Vec::from_slice(report.alloc, &[Word::Plain("cycle")])?;
@@ -237,9 +235,9 @@ fn push_cycle_lines(
     region: u32,
     text: &mut Vec<u8>,
 ) -> Result<(), AllocError>
-    requires component { component < length report.now.valid.now.view.components }
-    requires region { IsCycleOf report.now.valid.now.view component region }
-    ensures { OnOk result (text.new.items ≡ text.old.items ++ spec.cycle_lines report.now.valid.now.view report.now.labels.now component (regions.region_set report.now.valid.now.view component)) }
+    requires component { component < length (view_in report.now).components }
+    requires region { IsCycleOf (view_in report.now) component region }
+    ensures { OnOk result (text.new.items ≡ text.old.items ++ spec.cycle_lines (view_in report.now) (labels_in report.now) component (region_set (view_in report.now) component)) }
 {
     push_cycle_line(report, region, text)?;
     push_region_uses(report, region, text)?;
@@ -247,8 +245,8 @@ fn push_cycle_lines(
 }
 
 fn push_end_lines(report: &Report<'_>, component: u32, text: &mut Vec<u8>) -> Result<(), AllocError>
-    requires { component < length report.now.valid.now.view.components }
-    ensures { OnOk result (text.new.items ≡ text.old.items ++ spec.end_lines report.now.valid.now.view report.now.labels.now component) }
+    requires { component < length (view_in report.now).components }
+    ensures { OnOk result (text.new.items ≡ text.old.items ++ spec.end_lines (view_in report.now) (labels_in report.now) component) }
 {
     match cycle_of(report.valid, component) {
         Some(region) => push_cycle_lines(report, component, region, text),
@@ -262,8 +260,8 @@ pub(crate) fn push_component(
     component: u32,
     text: &mut Vec<u8>,
 ) -> Result<(), AllocError>
-    requires { component < length report.now.valid.now.view.components }
-    ensures { OnOk result (text.new.items ≡ text.old.items ++ spec.component_lines report.now.valid.now.view report.now.labels.now component) }
+    requires { component < length (view_in report.now).components }
+    ensures { OnOk result (text.new.items ≡ text.old.items ++ spec.component_lines (view_in report.now) (labels_in report.now) component) }
 {
     let valid = report.valid;
     let words = [

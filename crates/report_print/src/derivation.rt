@@ -3,6 +3,7 @@ ghost use Rattle.std.specs.Prelude.{◌≡◌, ◌<◌, ◌++◌, IfOk, OnOk, le
 ghost use Rattle.std.specs.List.{flat_map};
 ghost use Rattle.topo_types.specs.Sets.{below};
 ghost use Rattle.topo_types.specs.View as view;
+ghost use Rattle.report_print.specs.Code.Reports.{view_in, labels_in};
 ghost use Rattle.report_print.specs.DeriveText as spec;
 
 use crate::component::push_component;
@@ -13,8 +14,8 @@ use std::alloc::{AllocError, Global};
 use topo_types::Valid;
 
 fn push_source(report: &Report<'_>, stream: u32, text: &mut Vec<u8>) -> Result<(), AllocError>
-    requires { stream < length report.now.valid.now.view.streams }
-    ensures { OnOk result (text.new.items ≡ text.old.items ++ spec.source_line report.now.valid.now.view report.now.labels.now stream) }
+    requires { stream < length (view_in report.now).streams }
+    ensures { OnOk result (text.new.items ≡ text.old.items ++ spec.source_line (view_in report.now) (labels_in report.now) stream) }
 {
     let name = Word::Plain(report.valid.stream_name(stream).as_str());
     let label = label_word(report.valid.attr_names(), report.label(stream));
@@ -23,7 +24,7 @@ fn push_source(report: &Report<'_>, stream: u32, text: &mut Vec<u8>) -> Result<(
 
 #[tactic(auto, using(label_walk::proofs::Loops::below_steps))]
 fn push_sources(report: &Report<'_>, text: &mut Vec<u8>) -> Result<(), AllocError>
-    ensures { OnOk result (text.new.items ≡ text.old.items ++ flat_map (spec.source_line report.now.valid.now.view report.now.labels.now) (below (view.source_count report.now.valid.now.view))) }
+    ensures { OnOk result (text.new.items ≡ text.old.items ++ flat_map (spec.source_line (view_in report.now) (labels_in report.now)) (below (view.source_count (view_in report.now)))) }
 {
     for stream in 0..report.valid.source_count() {
         push_source(report, stream, text)?;
@@ -33,7 +34,7 @@ fn push_sources(report: &Report<'_>, text: &mut Vec<u8>) -> Result<(), AllocErro
 
 #[tactic(auto, using(label_walk::proofs::Loops::below_steps))]
 fn push_components(report: &Report<'_>, text: &mut Vec<u8>) -> Result<(), AllocError>
-    ensures { OnOk result (text.new.items ≡ text.old.items ++ flat_map (spec.component_lines report.now.valid.now.view report.now.labels.now) (view.component_numbers report.now.valid.now.view)) }
+    ensures { OnOk result (text.new.items ≡ text.old.items ++ flat_map (spec.component_lines (view_in report.now) (labels_in report.now)) (view.component_numbers (view_in report.now))) }
 {
     for component in 0..report.valid.component_count() {
         push_component(report, component, text)?;

@@ -1,5 +1,6 @@
 //! The text of `label`.
 ghost use Rattle.std.specs.Prelude.{◌≡◌, ◌<◌, ◌++◌, IfOk, OnOk, length};
+ghost use Rattle.report_print.specs.Code.Reports.{view_in, labels_in};
 ghost use Rattle.report_print.specs.LabelText as spec;
 
 use crate::line::{Word, push_line};
@@ -9,8 +10,8 @@ use std::alloc::{AllocError, Global};
 use topo_types::Valid;
 
 fn push_label_line(report: &Report<'_>, stream: u32, text: &mut Vec<u8>) -> Result<(), AllocError>
-    requires { stream < length report.now.valid.now.view.streams }
-    ensures { OnOk result (text.new.items ≡ text.old.items ++ spec.label_line report.now.valid.now.view report.now.labels.now stream) }
+    requires { stream < length (view_in report.now).streams }
+    ensures { OnOk result (text.new.items ≡ text.old.items ++ spec.label_line (view_in report.now) (labels_in report.now) stream) }
 {
     let name = Word::Plain(report.valid.stream_name(stream).as_str());
     let label = label_word(report.valid.attr_names(), report.label(stream));

@@ -1,10 +1,11 @@
 //! The lines of uses: what a component reads at its ports, and by which rule.
-ghost use Rattle.std.specs.Prelude.{◌≡◌, ◌<◌, ◌++◌, [], OnOk, Some, if◌then◌else◌, length};
+ghost use Rattle.std.specs.Prelude.{◌≡◌, ◌<◌, ◌++◌, OnOk, Some, length};
 ghost use Rattle.std.specs.List.{flat_map};
 ghost use Rattle.topo_types.specs.Dependencies as dependencies;
-ghost use Rattle.topo_types.specs.Regions as regions;
+ghost use Rattle.topo_types.specs.Regions.{regions};
 ghost use Rattle.topo_types.specs.View as view;
 ghost use Rattle.label_walk.specs.Paths.{AreInputs, region_at};
+ghost use Rattle.report_print.specs.Code.Reports.{view_in, labels_in};
 ghost use Rattle.report_print.specs.Code.Uses as code;
 ghost use Rattle.report_print.specs.DeriveText as spec;
 
@@ -56,9 +57,9 @@ fn push_use(
     end: (u32, u32),
     text: &mut Vec<u8>,
 ) -> Result<(), AllocError>
-    requires stream { stream < length report.now.valid.now.view.streams }
-    requires component { end.0 < length report.now.valid.now.view.components }
-    requires port { end.1 < length (view.component_at report.now.valid.now.view end.0).ports }
+    requires stream { stream < length (view_in report.now).streams }
+    requires component { end.0 < length (view_in report.now).components }
+    requires port { end.1 < length (view.component_at (view_in report.now) end.0).ports }
     ensures { OnOk result (text.new.items ≡ text.old.items ++ code.use_line report.now reading.now (stream, end)) }
 {
     let names = report.valid.attr_names();
@@ -89,9 +90,9 @@ fn push_port_uses(
     port: u32,
     text: &mut Vec<u8>,
 ) -> Result<(), AllocError>
-    requires component { component < length report.now.valid.now.view.components }
-    requires port { port < length (view.component_at report.now.valid.now.view component).ports }
-    ensures { OnOk result (text.new.items ≡ text.old.items ++ flat_map (λ s. code.use_line report.now reading.now (s, (component, port))) (view.streams_to report.now.valid.now.view component port)) }
+    requires component { component < length (view_in report.now).components }
+    requires port { port < length (view.component_at (view_in report.now) component).ports }
+    ensures { OnOk result (text.new.items ≡ text.old.items ++ code.port_uses report.now reading.now component port) }
 {
     for stream in 0..report.valid.stream_count() {
         if goes_to(report.valid, component, port, stream) {
@@ -109,10 +110,10 @@ fn push_note_uses(
     note: Note,
     text: &mut Vec<u8>,
 ) -> Result<(), AllocError>
-    requires fds { fds.now ≡ dependencies.usable_fds report.now.valid.now.view component }
-    requires component { component < length report.now.valid.now.view.components }
-    requires port { port < length (view.component_at report.now.valid.now.view component).ports }
-    ensures { OnOk result (text.new.items ≡ text.old.items ++ spec.port_uses report.now.valid.now.view report.now.labels.now component port (Some note)) }
+    requires fds { fds.now ≡ dependencies.usable_fds (view_in report.now) component }
+    requires component { component < length (view_in report.now).components }
+    requires port { port < length (view.component_at (view_in report.now) component).ports }
+    ensures { OnOk result (text.new.items ≡ text.old.items ++ spec.port_uses (view_in report.now) (labels_in report.now) component port (Some note)) }
 {
     let reading = Reading {
         note,
@@ -130,9 +131,9 @@ fn push_output_uses(
     output: u32,
     text: &mut Vec<u8>,
 ) -> Result<(), AllocError>
-    requires component { component < length report.now.valid.now.view.components }
-    requires output { output < length (view.component_at report.now.valid.now.view component).outputs }
-    ensures { OnOk result (text.new.items ≡ text.old.items ++ spec.output_uses report.now.valid.now.view report.now.labels.now component output) }
+    requires component { component < length (view_in report.now).components }
+    requires output { output < length (view.component_at (view_in report.now) component).outputs }
+    ensures { OnOk result (text.new.items ≡ text.old.items ++ spec.output_uses (view_in report.now) (labels_in report.now) component output) }
 {
     let valid = report.valid;
     let fds = usable_fds(report.alloc, valid, component)?;
@@ -151,9 +152,9 @@ pub(crate) fn push_uses(
     output: u32,
     text: &mut Vec<u8>,
 ) -> Result<(), AllocError>
-    requires component { component < length report.now.valid.now.view.components }
-    requires output { output < length (view.component_at report.now.valid.now.view component).outputs }
-    ensures { OnOk result (text.new.items ≡ text.old.items ++ (if view.is_order report.now.valid.now.view component then [] else spec.output_uses report.now.valid.now.view report.now.labels.now component output)) }
+    requires component { component < length (view_in report.now).components }
+    requires output { output < length (view.component_at (view_in report.now) component).outputs }
+    ensures { OnOk result (text.new.items ≡ text.old.items ++ code.uses_unless_ordered report.now component output) }
 {
     if is_order(report.valid, component) {
         return Ok(());
@@ -167,7 +168,7 @@ fn push_inputs(
     inputs: &[(u32, (u32, u32))],
     text: &mut Vec<u8>,
 ) -> Result<(), AllocError>
-    requires { AreInputs report.now.valid.now.view inputs.now }
+    requires { AreInputs (view_in report.now) inputs.now }
     ensures { OnOk result (text.new.items ≡ text.old.items ++ flat_map (code.use_line report.now reading.now) inputs.now) }
 {
     for (stream, end) in inputs {
@@ -182,8 +183,8 @@ pub(crate) fn push_region_uses(
     region: u32,
     text: &mut Vec<u8>,
 ) -> Result<(), AllocError>
-    requires { region < length (regions.regions report.now.valid.now.view) }
-    ensures { OnOk result (text.new.items ≡ text.old.items ++ spec.region_uses report.now.valid.now.view report.now.labels.now (region_at report.now.valid.now.view region)) }
+    requires { region < length (regions (view_in report.now)) }
+    ensures { OnOk result (text.new.items ≡ text.old.items ++ spec.region_uses (view_in report.now) (labels_in report.now) (region_at (view_in report.now) region)) }
 {
     let reading = Reading {
         note: region_note(report.alloc, report.valid, region)?,

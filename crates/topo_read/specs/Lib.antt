@@ -5,6 +5,5 @@ pub mod Fields
 pub mod Entries
 pub mod Component
 pub mod Topology
-pub mod Small
 pub mod Gives
 pub mod Reading

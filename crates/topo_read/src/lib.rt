@@ -6,9 +6,8 @@ mod entries;
 mod fault;
 mod fields;
 mod reading;
-mod small;
 mod tables;
 mod values;
 
 pub use fault::TopoTextFault;
-pub use reading::{read, read_small};
+pub use reading::read;

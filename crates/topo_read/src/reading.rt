@@ -4,7 +4,7 @@ ghost use Rattle.toml.specs.Data.{as_table};
 ghost use Rattle.toml.specs.View.{table_view, items_view};
 ghost use Rattle.topo_read.specs.Document as document;
 ghost use Rattle.topo_read.specs.Gives.{Gives, GivesValue, IsBreakAt, GivesDocument};
-ghost use Rattle.topo_read.specs.Reading.{IsReading, IsSmallReading};
+ghost use Rattle.topo_read.specs.Reading.{IsReading};
 ghost use Rattle.topo_read.specs.Topology as spec;
 ghost use Rattle.topo_read.specs.Values.{all_in};
 ghost use Rattle.topo_types.specs.Allowed.{IsAllowed};
@@ -13,7 +13,6 @@ ghost use Rattle.topo_read.specs.Tables.{list_at_key};
 use crate::entries::FromTable;
 use crate::fault::{TopoTextFault, ValueFault, break_at};
 use crate::fields::{only_keys, required};
-use crate::small::has_small_keys;
 use crate::tables::get;
 use crate::values::Format;
 use blz_value::Items;
@@ -158,17 +157,4 @@ pub fn read(alloc: Global, text: &[u8]) -> Result<Topology, TopoTextFault>
 {
     let top = document_of(alloc, text)?;
     topology_in(alloc, &top)
-}
-
-/// As `read`, but None where the document has a key that no small topology has. It serves as long as
-/// no other topology is labelled.
-pub fn read_small(alloc: Global, text: &[u8]) -> Result<Option<Topology>, TopoTextFault>
-    ensures { IsSmallReading text.now result }
-{
-    let top = document_of(alloc, text)?;
-    let topology = topology_in(alloc, &top)?;
-    if !has_small_keys(&top) {
-        return Ok(None);
-    }
-    Ok(Some(topology))
 }

@@ -7,7 +7,6 @@ mod index;
 mod kept;
 mod laws;
 mod mode;
-mod small;
 mod topology;
 mod valid;
 mod validation;
@@ -19,7 +18,6 @@ pub use fd_closure::{AttrNames, Attrs, Fd};
 pub use laws::{carried_law, other_modes_law, regions_law, valid_law, with_mode_law};
 pub use mode::Mode;
 pub use path_annotate::Note;
-pub use small::first_fault;
 pub use topology::{
     Body, ColumnType, ComponentEntry, Declared, FdEntry, ModeName, NoteName, Side, SourceEntry,
     Spot, Stock, StreamEntry, Topology,

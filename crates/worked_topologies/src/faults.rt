@@ -1,12 +1,11 @@
-//! One fault of each kind and place.
-use crate::text::topology_of;
+//! One fault of each kind and place, as the program names it.
+use crate::text::{answer, joined};
 use std::alloc::Global;
 use std::process::Abort;
 use std::test::Fail;
-use topo_types::{TopoFault, TopoKind, TopoPlace, first_fault};
 
-// A place of a fault, and the parts of the file of a topology that has it there.
-type Row = (TopoPlace, &'static [&'static str]);
+// The place of a fault, and the parts of the file of a topology that has it there.
+type Row = (&'static str, &'static [&'static str]);
 
 // Source s goes to component c, whose output goes by stream o to component d.
 const S: &str = "
@@ -87,35 +86,50 @@ columns = ['h1', 'h2', 'h3', 'h4', 'h5', 'h6', 'h7', 'h8']
 // Nine columns, and one port of nine.
 const NINE: &str = "['a', 'b', 'c', 'd', 'e', 'f', 'g', 'h', 'i']";
 
+const F: &str = "
+[[fd]]
+from = ['a']
+to = ['b']
+";
+
+// Components with so many replicas.
+const EIGHT: &str = "[[component]]\nname = 'c'\nreplicas = 8\n";
+
+const ONE: &str = "[[component]]\nname = 'c'\n";
+
+// A stock body with these, up to what makes it one.
+const LATEST: &str = "[[component]]\nname = 'c'\nstock = 'latest'\n";
+
+const SPLIT: &str = "[[component]]\nname = 'c'\nstock = 'split'\n";
+
 const P: &str = "{ name = 'p', columns = ['a'] },";
 
-// In each topology of the rows the first fault is one of this kind, at the place of the row.
-fn check_faults(rt: &impl Abort, alloc: Global, kind: TopoKind, rows: &[Row]) -> Result<(), Fail> {
-    for (i, (place, parts)) in rows.iter().enumerate() {
-        let fault = first_fault(alloc, &topology_of(alloc, *parts)?)?;
-        let expected = TopoFault {
-            kind,
-            place: *place,
-        };
-        assert_eq!(rt; fault, Some(expected), "row {i}");
+// The first fault of each topology of the rows is one of this kind, at the place of the row.
+fn check_faults(rt: &impl Abort, alloc: Global, kind: &str, rows: &[Row]) -> Result<(), Fail> {
+    for (place, parts) in rows {
+        let topology = joined(alloc, *parts)?;
+        let files = [("t.toml", topology.as_str())];
+        let (_, written) = answer(alloc, &files, &["label", "t.toml"])?;
+        let line = format!(in alloc; "refused Topology {kind} {place}\n")?;
+        assert_eq!(rt; written.as_slice(), line.as_bytes());
     }
     Ok(())
 }
 
-const TOO_WIDE: [Row; 7] = [
+const TOO_WIDE: [Row; 11] = [
     (
-        TopoPlace::Source(2),
+        "source 2",
         &[S, "[[source]]\nname = 't'\ncolumns = ", NINE, C],
     ),
     (
-        TopoPlace::Source(9),
+        "source 9",
         &[
             COLUMNS_64,
             "[[source]]\nname = 's9'\ncolumns = ['h8', 'i1']",
         ],
     ),
     (
-        TopoPlace::Component(1),
+        "component 1",
         &[
             COMPONENT_C,
             "inputs = [{ name = 'in', columns = ",
@@ -124,7 +138,7 @@ const TOO_WIDE: [Row; 7] = [
         ],
     ),
     (
-        TopoPlace::Component(1),
+        "component 1",
         &[
             COMPONENT_C,
             "outputs = [{ name = 'out', columns = ",
@@ -133,15 +147,15 @@ const TOO_WIDE: [Row; 7] = [
         ],
     ),
     (
-        TopoPlace::Component(1),
+        "component 1",
         &[COMPONENT_C, "inputs = [", P, P, P, P, P, P, P, P, P, "]"],
     ),
     (
-        TopoPlace::Component(1),
+        "component 1",
         &[COMPONENT_C, "outputs = [", P, P, P, P, P, P, P, P, P, "]"],
     ),
     (
-        TopoPlace::Component(2),
+        "component 2",
         &[
             COLUMNS_64,
             COMPONENT_C,
@@ -149,11 +163,18 @@ const TOO_WIDE: [Row; 7] = [
             D,
         ],
     ),
+    ("component 1", &["[[component]]\nname = 'c'\nreplicas = 0"]),
+    ("component 1", &["[[component]]\nname = 'c'\nreplicas = 9"]),
+    (
+        "component 9",
+        &[EIGHT, EIGHT, EIGHT, EIGHT, EIGHT, EIGHT, EIGHT, EIGHT, ONE],
+    ),
+    ("component 1", &[LATEST, "keys = ['a']\ncolumns = ", NINE]),
 ];
 
 #[test]
 fn a_width_past_its_limit_is_too_many(rt: HostRuntime) -> Result<(), Fail> {
-    check_faults(&rt, rt.alloc(), TopoKind::TooMany, &TOO_WIDE)
+    check_faults(&rt, rt.alloc(), "TooMany", &TOO_WIDE)
 }
 
 fn push_copies(text: &mut String, entry: &str, times: u32) -> Result<(), Fail> {
@@ -165,48 +186,47 @@ fn push_copies(text: &mut String, entry: &str, times: u32) -> Result<(), Fail> {
 
 #[test]
 fn an_entry_past_its_limit_is_too_many(rt: HostRuntime) -> Result<(), Fail> {
-    // The place, and how many sources, components and streams there are.
+    // The place, and how many sources, components, streams and dependencies there are.
     let rows = [
-        (TopoPlace::Source(65), 65, 0, 0),
-        (TopoPlace::Component(33), 0, 33, 0),
-        (TopoPlace::Stream(65), 0, 2, 65),
-        (TopoPlace::Stream(5), 60, 2, 5),
+        ("source 65", 65, 0, 0, 0),
+        ("component 33", 0, 33, 0, 0),
+        ("stream 65", 0, 2, 65, 0),
+        ("stream 5", 60, 2, 5, 0),
+        ("fd 65", 1, 1, 0, 65),
     ];
-    for (place, sources, components, streams) in rows {
+    for (place, sources, components, streams, fds) in rows {
         let mut text = String::new(rt.alloc());
         push_copies(&mut text, S, sources)?;
         push_copies(&mut text, C, components)?;
         push_copies(&mut text, O, streams)?;
-        let fault = first_fault(rt.alloc(), &topology_of(rt.alloc(), &[text.as_str()])?)?;
-        let kind = TopoKind::TooMany;
-        assert_eq!(rt; fault, Some(TopoFault { kind, place }), "{place:?}");
+        push_copies(&mut text, F, fds)?;
+        let parts = [text.as_str()];
+        let topology = joined(rt.alloc(), &parts)?;
+        let files = [("t.toml", topology.as_str())];
+        let (_, written) = answer(rt.alloc(), &files, &["label", "t.toml"])?;
+        let line = format!(in rt.alloc(); "refused Topology TooMany {place}\n")?;
+        assert_eq!(rt; written.as_slice(), line.as_bytes());
     }
     Ok(())
 }
 
-const TWICE: [Row; 14] = [
-    (TopoPlace::Source(2), &[S, S, C]),
+const TWICE: [Row; 22] = [
+    ("source 2", &[S, S, C]),
     (
-        TopoPlace::Source(1),
+        "source 1",
         &["[[source]]\nname = 's'\ncolumns = ['a', 'a']"],
     ),
+    ("source 1", &[SOURCE_AB, "to = ['c.in', 'c.in']", C]),
+    ("component 2", &[S, C_WITHOUT_NOTES, C_WITHOUT_NOTES]),
     (
-        TopoPlace::Source(1),
-        &[SOURCE_AB, "to = ['c.in', 'c.in']", C],
-    ),
-    (
-        TopoPlace::Component(2),
-        &[S, C_WITHOUT_NOTES, C_WITHOUT_NOTES],
-    ),
-    (
-        TopoPlace::Component(1),
+        "component 1",
         &[
             COMPONENT_C,
             "inputs = [{ name = 'in', columns = ['a'] }, { name = 'in', columns = ['b'] }]",
         ],
     ),
     (
-        TopoPlace::Component(1),
+        "component 1",
         &[
             COMPONENT_C,
             "inputs = [{ name = 'in', columns = ['a'] }]\n",
@@ -214,14 +234,14 @@ const TWICE: [Row; 14] = [
         ],
     ),
     (
-        TopoPlace::Component(1),
+        "component 1",
         &[
             COMPONENT_C,
             "inputs = [{ name = 'in', columns = ['a', 'a'] }]",
         ],
     ),
     (
-        TopoPlace::Component(1),
+        "component 1",
         &[
             COMPONENT_C,
             "inputs = [{ name = 'in', columns = ['a'] }]\n",
@@ -229,7 +249,7 @@ const TWICE: [Row; 14] = [
         ],
     ),
     (
-        TopoPlace::Component(1),
+        "component 1",
         &[
             COMPONENT_C,
             "inputs = [{ name = 'in', columns = ['a'] }]\n",
@@ -239,41 +259,67 @@ const TWICE: [Row; 14] = [
         ],
     ),
     (
-        TopoPlace::Stream(1),
+        "stream 1",
         &[S, C, D, "[[stream]]\nname = 's'\nfrom = 'c.out'"],
     ),
     (
-        TopoPlace::Stream(2),
+        "stream 2",
         &[S, C, D, FROM_C, "[[stream]]\nname = 'o'\nfrom = 'd.out'"],
     ),
     (
-        TopoPlace::Stream(2),
+        "stream 2",
         &[S, C, D, FROM_C, "[[stream]]\nname = 'p'\nfrom = 'c.out'"],
     ),
+    ("stream 1", &[S, C, D, FROM_C, "to = ['d.in', 'd.in']"]),
     (
-        TopoPlace::Stream(1),
-        &[S, C, D, FROM_C, "to = ['d.in', 'd.in']"],
-    ),
-    (
-        TopoPlace::Component(1),
+        "component 1",
         &[
             "[[source]]\nname = 's'\ncolumns = ['a']\nto = ['c.no']\n",
             COMPONENT_C,
             "inputs = [{ name = 'in', columns = ['a', 'a'] }]",
         ],
     ),
+    ("source 1", &[SOURCE_AB, "seal = ['a', 'a']"]),
+    ("component 1", &[S, ONE, "mode = 'pass'\nkey = ['a', 'a']"]),
+    (
+        "component 1",
+        &[
+            S,
+            C_WITHOUT_NOTES,
+            "notes = [{ from = 'in', to = 'out', note = 'OR', gate = ['a', 'a'] }]",
+        ],
+    ),
+    (
+        "component 1",
+        &[LATEST, "columns = ['a', 'a']\nkeys = ['a']"],
+    ),
+    (
+        "component 1",
+        &[LATEST, "columns = ['a', 'b']\nkeys = ['a', 'a']"],
+    ),
+    ("fd 1", &[S, C, "[[fd]]\nfrom = ['a', 'a']\nto = ['b']"]),
+    ("fd 1", &[S, C, "[[fd]]\nfrom = ['a']\nto = ['b', 'b']"]),
+    (
+        "fd 2",
+        &[
+            S,
+            C,
+            "[[fd]]\nfrom = ['a', 'b']\nto = ['x']\n",
+            "[[fd]]\nfrom = ['b', 'a']\nto = ['x']",
+        ],
+    ),
 ];
 
 #[test]
 fn what_stands_twice_is_found(rt: HostRuntime) -> Result<(), Fail> {
-    check_faults(&rt, rt.alloc(), TopoKind::Twice, &TWICE)
+    check_faults(&rt, rt.alloc(), "Twice", &TWICE)
 }
 
-const UNKNOWN: [Row; 8] = [
-    (TopoPlace::Source(1), &[SOURCE_AB, "to = ['c.no']", C]),
-    (TopoPlace::Source(1), &[SOURCE_AB, "to = ['no.in']", C]),
+const UNKNOWN: [Row; 14] = [
+    ("source 1", &[SOURCE_AB, "to = ['c.no']", C]),
+    ("source 1", &[SOURCE_AB, "to = ['no.in']", C]),
     (
-        TopoPlace::Component(1),
+        "component 1",
         &[
             S,
             C_WITHOUT_NOTES,
@@ -281,37 +327,53 @@ const UNKNOWN: [Row; 8] = [
         ],
     ),
     (
-        TopoPlace::Component(1),
+        "component 1",
         &[
             S,
             C_WITHOUT_NOTES,
             "notes = [{ from = 'in', to = 'no', note = 'CR' }]",
         ],
     ),
-    (TopoPlace::Stream(1), &[S, C, D, FROM_C, "to = ['d.out']"]),
+    ("stream 1", &[S, C, D, FROM_C, "to = ['d.out']"]),
     (
-        TopoPlace::Stream(1),
+        "stream 1",
         &[S, C, D, "[[stream]]\nname = 'o'\nfrom = 'c.in'"],
     ),
     (
-        TopoPlace::Stream(2),
+        "stream 2",
         &[S, C, D, O, "[[stream]]\nname = 'p'\nfrom = 'no.out'"],
     ),
     (
-        TopoPlace::Stream(1),
+        "stream 1",
         &[SOURCE_BA, C, "[[stream]]\nname = 'o'\nfrom = 'no.out'"],
     ),
+    ("source 1", &[SOURCE_AB, "seal = ['x']", C]),
+    ("component 1", &[SPLIT, "columns = ['a']\nsplit = 'b'"]),
+    ("component 1", &[LATEST, "columns = ['a']\nkeys = ['b']"]),
+    (
+        "component 1",
+        &[SOURCE_AB, ONE, "mode = 'seal'\nkey = ['x']"],
+    ),
+    (
+        "component 1",
+        &[
+            S,
+            C_WITHOUT_NOTES,
+            "notes = [{ from = 'in', to = 'out', note = 'OR', gate = ['x'] }]",
+        ],
+    ),
+    ("fd 1", &[S, C, "[[fd]]\nfrom = ['a']\nto = ['x']"]),
 ];
 
 #[test]
 fn a_name_of_nothing_is_unknown(rt: HostRuntime) -> Result<(), Fail> {
-    check_faults(&rt, rt.alloc(), TopoKind::Unknown, &UNKNOWN)
+    check_faults(&rt, rt.alloc(), "Unknown", &UNKNOWN)
 }
 
-const OTHER_COLUMNS: [Row; 4] = [
-    (TopoPlace::Source(1), &[SOURCE_BA, C]),
+const OTHER_COLUMNS: [Row; 7] = [
+    ("source 1", &[SOURCE_BA, C]),
     (
-        TopoPlace::Source(2),
+        "source 2",
         &[
             S,
             "[[source]]\nname = 't'\ncolumns = ['a']\nto = ['c.in']\n",
@@ -319,14 +381,14 @@ const OTHER_COLUMNS: [Row; 4] = [
         ],
     ),
     (
-        TopoPlace::Source(1),
+        "source 1",
         &[
             "[[source]]\nname = 's'\ncolumns = ['a', 'b', 'x']\nto = ['c.in']\n",
             C,
         ],
     ),
     (
-        TopoPlace::Stream(2),
+        "stream 2",
         &[
             S,
             C,
@@ -335,16 +397,89 @@ const OTHER_COLUMNS: [Row; 4] = [
             "[[stream]]\nname = 'p'\nfrom = 'd.out'\nto = ['c.in']",
         ],
     ),
+    (
+        "component 1",
+        &[SPLIT, "columns = ['at', 'b']\nsplit = 'b'"],
+    ),
+    (
+        "component 1",
+        &[SPLIT, "columns = ['b', 'word']\nsplit = 'b'"],
+    ),
+    (
+        "component 1",
+        &["[[component]]\nname = 'c'\nstock = 'number'\ncolumns = ['a', 'n']"],
+    ),
 ];
 
 #[test]
 fn other_columns_are_found(rt: HostRuntime) -> Result<(), Fail> {
-    check_faults(&rt, rt.alloc(), TopoKind::Columns, &OTHER_COLUMNS)
+    check_faults(&rt, rt.alloc(), "Columns", &OTHER_COLUMNS)
+}
+
+// Two components that feed each other, up to what stands at the first.
+const CYCLE: &str = "
+[[component]]
+name = 'd'
+inputs = [{ name = 'in', columns = ['a'] }]
+outputs = [{ name = 'out', columns = ['a'] }]
+notes = [{ from = 'in', to = 'out', note = 'CW' }]
+[[stream]]
+name = 'o'
+from = 'c.out'
+to = ['d.in']
+[[stream]]
+name = 'p'
+from = 'd.out'
+to = ['c.in']
+[[component]]
+name = 'c'
+inputs = [{ name = 'in', columns = ['a'] }]
+outputs = [{ name = 'out', columns = ['a'] }]
+notes = [{ from = 'in', to = 'out', note = 'CW' }]
+";
+
+const IN_CYCLE: [Row; 2] = [
+    ("component 2", &[CYCLE, "mode = 'pass'\nkey = ['a']"]),
+    ("component 2", &[CYCLE, "mode = 'seal'\nkey = ['a']"]),
+];
+
+#[test]
+fn a_seal_in_a_cycle_is_found(rt: HostRuntime) -> Result<(), Fail> {
+    check_faults(&rt, rt.alloc(), "SealInCycle", &IN_CYCLE)
+}
+
+// A component with two replicas.
+const TWO: &str = "
+[[component]]
+name = 'b'
+replicas = 2
+inputs = [{ name = 'in', columns = ['a', 'b'] }]
+outputs = [{ name = 'out', columns = ['a', 'b'] }]
+[[stream]]
+name = 'o'
+from = 'b.out'
+to = ['c.in']
+";
+
+const MISMATCHED: [Row; 1] = [("stream 1", &[TWO, C, "replicas = 3"])];
+
+#[test]
+fn replicas_that_cannot_be_paired_are_found(rt: HostRuntime) -> Result<(), Fail> {
+    check_faults(&rt, rt.alloc(), "ReplicaMismatch", &MISMATCHED)
 }
 
 #[test]
-fn a_topology_without_fault_has_none(rt: HostRuntime) -> Result<(), Fail> {
-    let topology = topology_of(rt.alloc(), &[S, C, D, O])?;
-    assert_eq!(rt; first_fault(rt.alloc(), &topology)?, None);
+fn a_topology_without_fault_is_labelled(rt: HostRuntime) -> Result<(), Fail> {
+    let table: [(&'static [&'static str], &'static str); 3] = [
+        (&[S, C, D, O], "s Async\no Async\n"),
+        (&[TWO, C, "replicas = 3\nmode = 'order'"], "o Async\n"),
+        (&[TWO, C, "replicas = 2"], "o Async\n"),
+    ];
+    for (parts, labels) in table {
+        let topology = joined(rt.alloc(), parts)?;
+        let files = [("t.toml", topology.as_str())];
+        let (_, written) = answer(rt.alloc(), &files, &["label", "t.toml"])?;
+        assert_eq!(rt; written.as_slice(), labels.as_bytes());
+    }
     Ok(())
 }

@@ -1,26 +1,9 @@
 //! Worked rows of the program, over files and a sink in memory.
-use blazes_cli::{Status, blazes};
-use blz_outside::{MemFiles, MemSink};
+use crate::text::{AMPLE, answer, answer_over, held};
+use blazes_cli::Status;
+use blz_outside::MemFiles;
 use std::alloc::Global;
 use std::test::Fail;
-
-// The status and the bytes written for these words, where `t.toml` has this text and the sink has
-// room for `most` bytes.
-fn run(alloc: Global, text: &str, given: &[&str], most: usize) -> Result<(Status, Vec<u8>), Fail> {
-    let mut held = Vec::new(alloc);
-    held.push((
-        String::from_str(alloc, "t.toml")?,
-        Vec::from_slice(alloc, text.as_bytes())?,
-    ))?;
-    let mut words = Vec::new(alloc);
-    for word in given {
-        words.push(String::from_str(alloc, *word)?)?;
-    }
-    let mut files = MemFiles::new(held, Vec::new(alloc));
-    let mut out = MemSink::new(alloc, most)?;
-    let status = blazes(alloc, &words, &mut files, &mut out);
-    Ok((status, Vec::from_slice(alloc, out.bytes())?))
-}
 
 const SOURCE_ALONE: &str = r#"
 format = 2
@@ -32,33 +15,41 @@ columns = ["id"]
 #[test]
 fn a_sink_that_is_too_small_keeps_a_front(rt: HostRuntime) -> Result<(), Fail> {
     let whole = b"tweets Async\n";
-    for most in 0..13 {
-        let (status, written) = run(rt.alloc(), SOURCE_ALONE, &["label", "t.toml"], most)?;
-        assert_eq!(rt; status, Status::WriteFault);
+    for most in 0..14 {
+        let files = MemFiles::new(
+            held(rt.alloc(), &[("t.toml", SOURCE_ALONE)])?,
+            Vec::new(rt.alloc()),
+        );
+        let (status, written) = answer_over(rt.alloc(), files, &["label", "t.toml"], most)?;
+        let expected = if most < 13 {
+            Status::WriteFault
+        } else {
+            Status::Done
+        };
+        assert_eq!(rt; status, expected);
         assert!(rt;
             written.len() == most && whole.starts_with(&written),
             "{most} bytes"
         );
     }
-    let (status, written) = run(rt.alloc(), SOURCE_ALONE, &["label", "t.toml"], 13)?;
-    assert_eq!(rt; status, Status::Done);
-    assert_eq!(rt; written.as_slice(), whole.as_slice());
     Ok(())
 }
 
 #[test]
 fn words_that_ask_for_nothing_get_the_usage_line(rt: HostRuntime) -> Result<(), Fail> {
-    let table: [&'static [&'static str]; 7] = [
+    let table: [&'static [&'static str]; 9] = [
         &[],
         &["label"],
         &["label", "a", "b"],
+        &["derive"],
+        &["derive", "a", "--count", "1"],
         &["frob", "a"],
         &["soak", "--count", "0"],
         &["label", "a", "--seed", "1"],
         &["--help"],
     ];
     for words in table {
-        let (status, written) = run(rt.alloc(), "", words, 10_000)?;
+        let (status, written) = answer(rt.alloc(), &[], words)?;
         assert_eq!(rt; status, Status::Usage);
         assert!(rt; written.starts_with(b"usage: blazes label|derive|plan TOPOLOGY | run "));
         assert!(rt; written.ends_with(b" STREAM REPLICA INDEX\n"));
@@ -68,15 +59,15 @@ fn words_that_ask_for_nothing_get_the_usage_line(rt: HostRuntime) -> Result<(), 
 
 #[test]
 fn a_missing_file_is_named_on_one_line(rt: HostRuntime) -> Result<(), Fail> {
-    let (status, written) = run(rt.alloc(), "", &["label", "a\nb"], 10_000)?;
+    let (status, written) = answer(rt.alloc(), &[], &["label", "a\nb"])?;
     assert_eq!(rt; status, Status::ReadFault);
     assert_eq!(rt; written.as_slice(), b"cannot read a\\x0ab\n".as_slice());
     Ok(())
 }
 
-// A topology text of this many bytes that has nothing but a comment.
-fn comment(alloc: Global, length: usize) -> Result<String, Fail> {
-    let mut text = String::from_str(alloc, "format = 1\n#")?;
+// A text of this many bytes that begins so and goes on with letters.
+fn padded(alloc: Global, front: &str, length: usize) -> Result<String, Fail> {
+    let mut text = String::from_str(alloc, front)?;
     for _ in text.len()..length {
         text.push('a')?;
     }
@@ -89,64 +80,244 @@ fn the_limit_of_a_topology_file_is_exact(rt: HostRuntime) -> Result<(), Fail> {
         (262_144, Status::Done, ""),
         (262_145, Status::Refused, "refused TooLong t.toml\n"),
     ] {
-        let topology = comment(rt.alloc(), length)?;
-        let (given, written) = run(rt.alloc(), &topology, &["label", "t.toml"], 10_000)?;
+        let topology = padded(rt.alloc(), "format = 1\n#", length)?;
+        let (given, written) = answer(
+            rt.alloc(),
+            &[("t.toml", topology.as_str())],
+            &["label", "t.toml"],
+        )?;
         assert_eq!(rt; given, status);
         assert_eq!(rt; written.as_slice(), text.as_bytes());
     }
     Ok(())
 }
 
-const BACKWARD: &str = r#"
-format = 1
-[[source]]
-name = "a"
-columns = ["x"]
-to = ["c.in"]
-[[component]]
-name = "d"
-inputs = [{ name = "in", columns = ["x"] }]
-outputs = [{ name = "out", columns = ["x"] }]
-notes = [{ from = "in", to = "out", note = "CR" }]
+// A component with a module, which nothing feeds.
+const WITH_MODULE: &str = r#"
+format = 2
 [[component]]
 name = "c"
-inputs = [{ name = "in", columns = ["x"] }]
-outputs = [{ name = "out", columns = ["x"] }]
-notes = [{ from = "in", to = "out", note = "OW" }]
-[[stream]]
-name = "b"
-from = "c.out"
-to = ["d.in"]
-[[stream]]
-name = "e"
-from = "d.out"
-"#;
-
-const WITH_REPLICAS: &str = r#"
-format = 1
-[[source]]
-name = "a"
-columns = ["x"]
-to = ["c.in"]
-[[component]]
-name = "c"
-inputs = [{ name = "in", columns = ["x"] }]
-outputs = [{ name = "out", columns = ["x"] }]
-notes = [{ from = "in", to = "out", note = "OW" }]
-replicas = 1
+module = "m.bloom"
 "#;
 
 #[test]
-fn what_is_no_small_topology_is_refused(rt: HostRuntime) -> Result<(), Fail> {
-    for (text, line) in [
-        (BACKWARD, "refused NotBuilt\n"),
-        (WITH_REPLICAS, "refused NotBuilt\n"),
-        ("", "refused NotBuilt\n"),
-        ("format = ", "refused NotToml\n"),
+fn the_limit_of_a_module_file_is_exact(rt: HostRuntime) -> Result<(), Fail> {
+    for (length, status, text) in [
+        (65_536, Status::Done, ""),
+        (65_537, Status::Refused, "refused TooLong m.bloom\n"),
     ] {
-        let (status, written) = run(rt.alloc(), text, &["label", "t.toml"], 10_000)?;
+        let module = padded(rt.alloc(), "module m; #", length)?;
+        let files = [("t.toml", WITH_MODULE), ("m.bloom", module.as_str())];
+        let (given, written) = answer(rt.alloc(), &files, &["label", "t.toml"])?;
+        assert_eq!(rt; given, status);
+        assert_eq!(rt; written.as_slice(), text.as_bytes());
+    }
+    Ok(())
+}
+
+const COUNT: &str = "module count_words;
+input words(id, batch, at, word);
+output counts(word, batch, n);
+table seen(id, batch, at, word);
+seen <= words;
+counts <= group(seen, [word, batch], count as n);
+";
+
+const COMMIT: &str = "module commit;
+input counts(word, batch, n);
+output commits(word, batch, n);
+table committed(word, batch, n);
+committed <= counts;
+commits <= committed;
+";
+
+// The word count of two files of modules, in parts: what a source goes to, what stands at count and
+// what stands at commit come between them.
+const TO_SOURCE: &str = r#"
+format = 1
+[[source]]
+name = "tweets"
+columns = ["id", "text", "batch"]
+seal = ["batch"]
+to = ["#;
+
+const TO_COUNT: &str = r#"]
+[[component]]
+name = "split"
+stock = "split"
+columns = ["id", "text", "batch"]
+split = "text"
+[[component]]
+name = "count"
+module = "count.bloom"
+"#;
+
+const TO_COMMIT: &str = r#"
+[[component]]
+name = "commit"
+module = "commit.bloom"
+"#;
+
+const TO_END: &str = r#"
+[[stream]]
+name = "words"
+from = "split.out"
+to = ["count.words"]
+[[stream]]
+name = "counts"
+from = "count.counts"
+to = ["commit.counts"]
+[[stream]]
+name = "commits"
+from = "commit.commits"
+"#;
+
+// What the program says to the word count with these at the three places.
+fn word_count(
+    alloc: Global,
+    command: &str,
+    source: &str,
+    count: &str,
+    commit: &str,
+) -> Result<(Status, Vec<u8>), Fail> {
+    let mut text = String::new(alloc);
+    for part in [
+        TO_SOURCE, source, TO_COUNT, count, TO_COMMIT, commit, TO_END,
+    ] {
+        text.push_str(part)?;
+    }
+    let files = [
+        ("wc.toml", text.as_str()),
+        ("count.bloom", COUNT),
+        ("commit.bloom", COMMIT),
+    ];
+    answer(alloc, &files, &[command, "wc.toml"])
+}
+
+#[test]
+fn a_fault_of_the_word_count_is_named_at_its_place(rt: HostRuntime) -> Result<(), Fail> {
+    let table = [
+        (
+            r#""split.inn""#,
+            "",
+            "",
+            "refused Topology Unknown source 1\n",
+        ),
+        (
+            r#""split.in""#,
+            "replicas = 2\n",
+            "replicas = 3\n",
+            "refused Topology ReplicaMismatch stream 2\n",
+        ),
+        (
+            r#""split.in""#,
+            "notes = [{ from = 'words', to = 'counts', note = 'CW' }]\n",
+            "",
+            "refused Topology Understated component 2\n",
+        ),
+    ];
+    for (source, count, commit, line) in table {
+        let (status, written) = word_count(rt.alloc(), "label", source, count, commit)?;
         assert_eq!(rt; status, Status::Refused);
         assert_eq!(rt; written.as_slice(), line.as_bytes());
     }
+    Ok(())
+}
+
+#[test]
+fn a_note_that_covers_the_derived_one_is_used(rt: HostRuntime) -> Result<(), Fail> {
+    let note = "notes = [{ from = 'words', to = 'counts', note = 'OW', gate = ['batch'] }]\n";
+    let (status, written) = word_count(rt.alloc(), "derive", r#""split.in""#, note, "")?;
+    assert_eq!(rt; status, Status::Done);
+    let text = "source tweets Seal[batch]
+component split free 1
+  path in out CR
+  use tweets Seal[batch] in CR kept
+  out words Async
+component count free 1
+  path words counts OW[batch]
+  use words Async words OW[batch] rule 2
+  out counts Run
+component commit free 1
+  path counts commits CW
+  use counts Run counts CW kept
+  out commits Run
+";
+    assert_eq!(rt; written.as_slice(), text.as_bytes());
+    Ok(())
+}
+
+#[test]
+fn the_first_file_that_fails_is_named(rt: HostRuntime) -> Result<(), Fail> {
+    let mut text = String::new(rt.alloc());
+    for part in [TO_SOURCE, r#""split.in""#, TO_COUNT, TO_COMMIT, TO_END] {
+        text.push_str(part)?;
+    }
+    for (call, name) in [(1, "wc.toml"), (2, "count.bloom"), (3, "commit.bloom")] {
+        let files = [
+            ("wc.toml", text.as_str()),
+            ("count.bloom", COUNT),
+            ("commit.bloom", COMMIT),
+        ];
+        let failing = vec![in rt.alloc(); call]?;
+        let files = MemFiles::new(held(rt.alloc(), &files)?, failing);
+        let (status, written) = answer_over(rt.alloc(), files, &["derive", "wc.toml"], AMPLE)?;
+        let line = format!(in rt.alloc(); "cannot read {name}\n")?;
+        assert_eq!(rt; status, Status::ReadFault);
+        assert_eq!(rt; written.as_slice(), line.as_bytes());
+    }
+    Ok(())
+}
+
+#[test]
+fn a_file_that_is_refused_gives_its_line(rt: HostRuntime) -> Result<(), Fail> {
+    let table = [
+        ("format =", "", "refused NotToml\n"),
+        ("format = 3", "", "refused Form format\n"),
+        ("format = 99999999999999999999", "", "refused NotToml\n"),
+        ("format = 1\n\"a\\nb\" = 1", "", "refused Form a\\x0ab\n"),
+        (
+            "format = 1\n[[fd]]\nfrom = ['name']\nto = 'a'",
+            "",
+            "refused Form fd[1].from\n",
+        ),
+        (
+            WITH_MODULE,
+            "module m; input a(x) output",
+            "refused ModuleText m.bloom 1 22\n",
+        ),
+        (
+            WITH_MODULE,
+            "module m; table t(x); t <= t;",
+            "refused Module m.bloom Recursive rule 1\n",
+        ),
+        (
+            WITH_MODULE,
+            "module m; input a(b, c, d, e, f, g, h, i); table t(a, b, c, d, e, f, g, h, i);",
+            "refused Module m.bloom TooMany collection 2\n",
+        ),
+    ];
+    for (topology, module, line) in table {
+        let files = [("t.toml", topology), ("m.bloom", module)];
+        let (status, written) = answer(rt.alloc(), &files, &["label", "t.toml"])?;
+        assert_eq!(rt; status, Status::Refused);
+        assert_eq!(rt; written.as_slice(), line.as_bytes());
+    }
+    Ok(())
+}
+
+#[test]
+fn brackets_without_end_are_no_topology(rt: HostRuntime) -> Result<(), Fail> {
+    let mut text = String::from_str(rt.alloc(), "a = ")?;
+    for _ in 0..100_000 {
+        text.push('[')?;
+    }
+    let (status, written) = answer(
+        rt.alloc(),
+        &[("t.toml", text.as_str())],
+        &["label", "t.toml"],
+    )?;
+    assert_eq!(rt; status, Status::Refused);
+    assert_eq!(rt; written.as_slice(), b"refused NotToml\n".as_slice());
     Ok(())
 }

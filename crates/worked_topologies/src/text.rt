@@ -1,14 +1,56 @@
-//! Topologies from the texts of their files.
+//! What the program answers to files that are given as texts.
+use blazes_cli::{Status, blazes};
+use blz_outside::{MemFiles, MemSink};
 use std::alloc::Global;
 use std::test::Fail;
-use topo_read::read;
-use topo_types::Topology;
 
-/// The topology whose file has these parts behind the line of its format.
-pub fn topology_of(alloc: Global, parts: &[&str]) -> Result<Topology, Fail> {
+/// A sink as large as this takes every text of these tests.
+pub const AMPLE: usize = 10_000;
+
+/// The names and texts of some files.
+pub fn held(alloc: Global, files: &[(&str, &str)]) -> Result<Vec<(String, Vec<u8>)>, Fail> {
+    let mut held = Vec::new(alloc);
+    for (name, text) in files {
+        held.push((
+            String::from_str(alloc, *name)?,
+            Vec::from_slice(alloc, text.as_bytes())?,
+        ))?;
+    }
+    Ok(held)
+}
+
+/// The status and the bytes written for these words over these files, into a sink with room for `most`
+/// bytes.
+pub fn answer_over(
+    alloc: Global,
+    mut files: MemFiles,
+    given: &[&str],
+    most: usize,
+) -> Result<(Status, Vec<u8>), Fail> {
+    let mut words = Vec::new(alloc);
+    for word in given {
+        words.push(String::from_str(alloc, *word)?)?;
+    }
+    let mut out = MemSink::new(alloc, most)?;
+    let status = blazes(alloc, &words, &mut files, &mut out);
+    Ok((status, Vec::from_slice(alloc, out.bytes())?))
+}
+
+/// The same over files that never fail, into an ample sink.
+pub fn answer(
+    alloc: Global,
+    files: &[(&str, &str)],
+    words: &[&str],
+) -> Result<(Status, Vec<u8>), Fail> {
+    let files = MemFiles::new(held(alloc, files)?, Vec::new(alloc));
+    answer_over(alloc, files, words, AMPLE)
+}
+
+/// The text of these parts behind the line of format 2.
+pub fn joined(alloc: Global, parts: &[&str]) -> Result<String, Fail> {
     let mut text = String::from_str(alloc, "format = 2\n")?;
     for part in parts {
         text.push_str(*part)?;
     }
-    Ok(read(alloc, text.as_bytes())?)
+    Ok(text)
 }

@@ -16,6 +16,12 @@ ending_of (Refused line) = Some (Ending.refused line.items)
 ending_of (Failed name) = Some (Ending.failed name)
 ending_of NoMemory = None
 
+-- the stop of a check that fails with this line, unless memory ran out
+abbrev pub IsRefused : Bytes → Stop → Type 0
+IsRefused said (Refused line) = line.items ≡ said
+IsRefused said (Failed name) = ⊥
+IsRefused said NoMemory = Unit {0}
+
 -- the script ends as this stop says
 abbrev pub Stopped : {A : Type 0} → FilesStates → Stop → Script A → Type 0
 Stopped files stop script = IfSome (ending_of stop) (Came files script)

@@ -7,7 +7,7 @@ use Rattle.blazes_cli.specs.Words.{Asked, simple_command}
 use Rattle.blazes_cli.specs.Words as spec
 use Rattle.blazes_cli.specs.declared.words.Line.{Line}
 use Rattle.blazes_cli.specs.declared.words.Request.{Request}
-use Rattle.blazes_cli.specs.declared.words.Request.TheVariants.{Label}
+use Rattle.blazes_cli.specs.declared.words.Request.TheVariants.{Label, Derive}
 
 -- the words match the simple command
 abbrev pub Match : List Text → Type 0
@@ -30,3 +30,4 @@ line_shown line = record {
 -- what a request asks for
 abbrev pub asked_by : Request → Asked
 asked_by (Label topology) = Asked.label topology.now
+asked_by (Derive topology) = Asked.derive topology.now

@@ -1,0 +1,43 @@
+//! A topology with its modules, validated.
+ghost use Rattle.std.specs.Prelude.{◌≡◌, length};
+ghost use Rattle.std.specs.List.{filter_map};
+ghost use Rattle.topo_types.specs.Allowed.{IsAllowed};
+ghost use Rattle.topo_types.specs.Valid.{needs_module};
+ghost use Rattle.topo_types.specs.Validity.{fault_of};
+ghost use Rattle.blazes_cli.specs.Checks as check;
+ghost use Rattle.blazes_cli.specs.Code.Ran.{Gives, Ran};
+ghost use Rattle.blazes_cli.specs.Ends.{files_states, source};
+
+use crate::module_file::module_files;
+use crate::stop::{Stop, refused};
+use crate::topology_file::topology_file;
+use bloom_ast::Checked;
+use blz_outside::Files;
+use report_print::Refusal;
+use std::alloc::Global;
+use topo_types::{Topology, Valid, ValidFault, validate};
+
+// The topology, where it is valid with these modules.
+fn validated(alloc: Global, topology: &Topology, modules: &[Checked]) -> Result<Valid, Stop>
+    requires each { length modules.now ≡ length (filter_map needs_module topology.now.components) }
+    requires allowed { IsAllowed topology.now }
+    ensures { Gives (λ valid. valid) result (check.valid_with topology.now modules.now (fault_of topology.now modules.now)) }
+{
+    match validate(alloc, topology, modules) {
+        Ok(valid) => Ok(valid),
+        Err(ValidFault::Bad(fault)) => Err(refused(alloc, &Refusal::Topology(fault))),
+        Err(ValidFault::NoMemory) => Err(Stop::NoMemory),
+    }
+}
+
+/// The topology in the file of this name, with the modules that it names, each in a file of its own.
+pub fn valid_topology<F: Files>(alloc: Global, name: &str, files: &mut F) -> Result<Valid, Stop>
+    ensures { Ran (λ valid. valid)
+        (files_states (source (F.held files.old) (F.steady files.old) (F.faults files.old))
+        (source (F.held files.new) (F.steady files.new) (F.faults files.new)))
+        result (check.valid_topology name.now) }
+{
+    let topology = topology_file(alloc, name, files)?;
+    let modules = module_files(alloc, topology.components.as_slice(), files)?;
+    validated(alloc, &topology, &modules)
+}

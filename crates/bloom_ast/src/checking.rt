@@ -11,11 +11,17 @@ ghost use Rattle.bloom_ast.specs.Reads.{facts_of as facts_in};
 ghost use Rattle.bloom_ast.specs.Reserved.{HasOwnNames};
 ghost use Rattle.bloom_ast.specs.declared.fault.ModuleKind.TheVariants.{TooMany};
 
+pub(crate) mod bounds;
+pub(crate) mod faults;
+pub(crate) mod fits;
+pub(crate) mod reads;
+pub(crate) mod reserved;
+
 use crate::checked::Checked;
+use crate::checking::faults::{is_bad_collection, is_bad_rule};
+use crate::checking::reads::{Facts, facts_of, keys, no_facts};
 use crate::fault::{CheckFault, ModuleFault, ModuleKind, ModulePlace};
-use crate::faults::{is_bad_collection, is_bad_rule};
 use crate::module::{Collection, Kind, Module, Rule};
-use crate::reads::{Facts, facts_of, keys, no_facts};
 use std::alloc::{AllocError, Global};
 
 fn first_collection(

@@ -13,8 +13,8 @@ ghost use Rattle.bloom_ast.specs.Rows as rows;
 ghost use Rattle.bloom_ast.specs.Tests.{TermFits, FormulaFits, IsOperandOf, IsTestOf};
 ghost use Rattle.bloom_ast.specs.declared.module.Collection.{Collection};
 
+use crate::checking::fits;
 use crate::expr::{Expr, NamedAgg, Pred, Term};
-use crate::fits;
 use crate::lookup::{collection_number, declared};
 use crate::module::{Collection, Rule};
 use crate::numbered::{NumberedExpr, NumberedRule};
@@ -92,7 +92,7 @@ fn row_bound(bound: i64) -> u64
     if bound < 0 { 0 } else { bound as u64 }
 }
 
-#[tactic(auto, using(crate::proofs::NameNumbers::number_below))]
+#[tactic(auto, using(crate::proofs::Collections::NameNumbers::number_below))]
 fn operand(columns: &[&Str], term: &Term) -> Result<Operand, AllocError>
     requires few { length columns.now ≤ 8 }
     requires fits { TermFits (names_in columns.now) term.now }

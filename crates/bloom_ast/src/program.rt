@@ -76,7 +76,7 @@ fn width_at(collections: &[Collection], kind: Kind, place: u32) -> u32
 }
 
 // How many keys there are.
-#[tactic(auto, using(crate::proofs::Keys::count_of_keys, crate::proofs::Keys::few_keys))]
+#[tactic(auto, using(crate::proofs::Collections::Keys::count_of_keys, crate::proofs::Collections::Keys::few_keys))]
 fn key_count(columns: &[Str], keys: &[u32]) -> u32
     requires few { length columns.now ≤ 8 }
     requires below { All (λ key. key < length columns.now) keys.now }
@@ -88,7 +88,7 @@ fn key_count(columns: &[Str], keys: &[u32]) -> u32
 
 impl Program {
     /// The number of ports.
-    #[tactic(auto, using(crate::proofs::Small::few, crate::proofs::Small::small))]
+    #[tactic(auto, using(crate::proofs::Collections::Small::few, crate::proofs::Collections::Small::small))]
     pub fn port_count(&self) -> u32
         requires stock { IsStock self.now }
         ensures { result ≡ length (port_columns self.now) }
@@ -103,7 +103,7 @@ impl Program {
     }
 
     /// The number of outputs.
-    #[tactic(auto, using(crate::proofs::Small::few, crate::proofs::Small::small))]
+    #[tactic(auto, using(crate::proofs::Collections::Small::few, crate::proofs::Collections::Small::small))]
     pub fn output_count(&self) -> u32
         requires stock { IsStock self.now }
         ensures { result ≡ length (output_columns self.now) }
@@ -117,7 +117,7 @@ impl Program {
     }
 
     /// The number of tables.
-    #[tactic(auto, using(crate::proofs::Small::few, crate::proofs::Small::small))]
+    #[tactic(auto, using(crate::proofs::Collections::Small::few, crate::proofs::Collections::Small::small))]
     pub fn table_count(&self) -> u32
         requires stock { IsStock self.now }
         ensures { result ≡ length (table_columns self.now) }
@@ -132,7 +132,7 @@ impl Program {
     }
 
     /// How many columns a port has. Ports are numbered from 0 in declared order.
-    #[tactic(auto, using(crate::proofs::Small::few, crate::proofs::Small::small))]
+    #[tactic(auto, using(crate::proofs::Collections::Small::few, crate::proofs::Collections::Small::small))]
     pub fn port_width(&self, port: u32) -> u32
         requires stock { IsStock self.now }
         requires within { port < length (port_columns self.now) }
@@ -152,7 +152,7 @@ impl Program {
     }
 
     /// How many columns an output has. Outputs are numbered from 0 in declared order.
-    #[tactic(auto, using(crate::proofs::Small::few, crate::proofs::Small::small))]
+    #[tactic(auto, using(crate::proofs::Collections::Small::few, crate::proofs::Collections::Small::small))]
     pub fn output_width(&self, output: u32) -> u32
         requires stock { IsStock self.now }
         requires within { output < length (output_columns self.now) }

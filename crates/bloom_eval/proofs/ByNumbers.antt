@@ -18,7 +18,7 @@ use Rattle.bloom_ast.specs.Step.{Sets, set_at, rows_named}
 use Rattle.bloom_ast.specs.Widths.{AreWide}
 use Rattle.bloom_eval.specs.Code.NumberedRows.{numbered_rows, numbered_sets, TestsFit}
 use Rattle.bloom_eval.specs.StepAnswers.{parts_of, part_sets}
-use Rattle.bloom_ast.proofs.Wide.{wide_rows}
+use Rattle.bloom_ast.proofs.Ends.Wide.{wide_rows}
 
 module _ (cs : List Collection) (sets : Sets) where
   pub same_rows : (q : Query) (e : NumberedExpr) → IsNumbered cs q e → numbered_rows sets e ≡ rows_of (declared cs) (rows_named cs sets) q

@@ -7,7 +7,7 @@ use Rattle.bloom_ast.specs.Heads.{IsOrdered}
 use Rattle.bloom_ast.specs.Laws.{with_heads}
 use Rattle.bloom_ast.specs.Lookup.{declared}
 use Rattle.bloom_ast.specs.Step.{Sets, set_at, rows_named, at_end}
-use Rattle.bloom_ast.proofs.OverTables.{one_end}
+use Rattle.bloom_ast.proofs.Ends.OverTables.{one_end}
 use Rattle.bloom_eval.specs.Laws.{CountsSame}
 use Rattle.bloom_eval.specs.StepAnswers.{rule_sets, counted_at, counted_sets}
 

@@ -13,6 +13,7 @@ use Rattle.bloom_eval.specs.Code.Held.{rows_in}
 use Rattle.bloom_eval.specs.Code.NumberedRows.{numbered_rows, numbered_sets}
 use Rattle.bloom_eval.specs.Code.Evaluates.{GivesRows, Evaluates}
 use Rattle.bloom_eval.specs.StepAnswers.{AllFit}
+use Rattle.blz_set.proofs.Unions.{handed_on}
 
 -- rows that were given
 pub gives_rows : (rows : List Row) (r : Result (List Row) SetFault) (set : List Row) (held : Rows) → r ≡ Ok set → rows_in held ≡ set → Gives rows r → GivesRows rows (Ok held)
@@ -31,11 +32,6 @@ with_own own sets (Err NoMemory) fit gives = tt
 
 both_fit : (left right : Sets) → AllFit left → AllFit right → AllFit (left ++ right)
 both_fit left right fit also rows h = elim (Has-append_cases rows left right h) [ inl l ↦ fit rows l | inr r ↦ also rows r ]
-
--- a fault that is handed on
-pub handed_on : (X : Type 0) (r : Result X SetFault) (fault : SetFault) → IsErrAnd r (λ d. d ≡ fault) → r ≡ Err fault
-handed_on X (Ok x) fault h = absurd h
-handed_on X (Err d) fault h = ap Err h
 
 -- ---- an operator, given what the evaluation of its parts answered
 

@@ -10,7 +10,7 @@ use Rattle.bloom_ast.specs.Heads.{IsDerived}
 use Rattle.bloom_ast.specs.Kinds.{has_kind, is_head}
 use Rattle.bloom_ast.specs.Lookup.{collection_named, collection_number}
 use Rattle.bloom_ast.specs.Query.{Name}
-use Rattle.bloom_ast.proofs.Numbers.{get-number}
+use Rattle.bloom_ast.proofs.Collections.Numbers.{get-number}
 use Rattle.bloom_eval.specs.StepAnswers.{IsGoodRule, IsRunnable}
 
 -- a head that a rule may have is the name of a collection that is no input

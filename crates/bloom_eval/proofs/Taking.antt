@@ -23,13 +23,13 @@ use Rattle.bloom_ast.specs.Lookup.{collection_number, declared}
 use Rattle.bloom_ast.specs.Rows.{rows_of}
 use Rattle.bloom_ast.specs.Step.{Sets, set_at, rows_named, ended, rules_at, union_of, ruled_at, with_head}
 use Rattle.bloom_ast.specs.Equations.{Env}
-use Rattle.bloom_ast.proofs.Numbers.{get-within, derived-some, derived-no_port}
-use Rattle.bloom_ast.proofs.Equated.{same_rows, same_union, names_none, untouched}
+use Rattle.bloom_ast.proofs.Collections.Numbers.{get-within, derived-some, derived-no_port}
+use Rattle.bloom_ast.proofs.Ends.Equated.{same_rows, same_union, names_none, untouched}
 use Rattle.bloom_ast.specs.Widths.{AreWide}
 use Rattle.bloom_eval.specs.StepAnswers.{parts_of, part_sets, AllFit, SomeIsOver, rule_sets, IsRunnable, counted_at}
 use Rattle.bloom_eval.specs.Code.Counted.{TakesHead}
 use Rattle.bloom_eval.specs.Code.Taken.{AreSetsOfAll, AreBegun, all_taken, TakesHeads}
-use Rattle.bloom_ast.proofs.Wide.{wide_rows}
+use Rattle.bloom_ast.proofs.Ends.Wide.{wide_rows}
 use Rattle.bloom_eval.proofs.Widths.{columns_at, columns-number, length-sets_of_all, wide_at, set_wide, wide_named}
 
 -- ---- what an expression names decides the rows of its parts

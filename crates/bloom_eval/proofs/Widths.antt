@@ -13,8 +13,8 @@ use Rattle.bloom_ast.specs.Kinds.{same_kind, of_kind, kind_at, place_in_kind}
 use Rattle.bloom_ast.specs.Lookup.{collection_number, declared}
 use Rattle.bloom_ast.specs.Program.{columns_of_kind}
 use Rattle.bloom_ast.specs.Step.{Sets, set_at, rows_named, begun, begun_at, at_start, sets_of_kind}
-use Rattle.bloom_ast.proofs.Numbers.{get-number, derived-no_port}
-use Rattle.bloom_ast.proofs.Equated.{starts}
+use Rattle.bloom_ast.proofs.Collections.Numbers.{get-number, derived-no_port}
+use Rattle.bloom_ast.proofs.Ends.Equated.{starts}
 use Rattle.bloom_eval.specs.Code.Begin.{AreLeft}
 use Rattle.bloom_ast.specs.Widths.{AreWide}
 use Rattle.bloom_ast.specs.Widths.{AreSetsOf}

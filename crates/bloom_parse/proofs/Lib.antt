@@ -1,33 +1,4 @@
-mod Machine
-mod MachineLemmas
-mod SingleCorrect
-mod PredicateCorrect
-mod PredicateComplete
-mod RepeatLemmas
-mod TreesLemmas
-mod ListLemmas
-mod ExprCorrect
-mod ExprComplete
-mod ModuleCorrect
-mod ModuleComplete
-mod PlacesCorrect
-mod PlainEndLaw
-mod RunLemmas
-mod ByteLemmas
-mod NumberLemmas
-mod ShorterLemmas
-mod TokensLemmas
-mod PrintLemmas
-mod SpelledLemmas
-mod LaidLemmas
-mod ApartLemmas
-mod PrintLaw
-mod BoundsLemmas
-mod TerminalLemmas
-mod NameTokens
-mod NameLemmas
-mod PrintableLemmas
-mod ParsingLemmas
-mod LiteralLaw
-mod ReadingLaw
-mod BoundsLaw
+pub mod Machine
+pub mod Reading
+pub mod Printed
+pub mod Tokens

@@ -5,7 +5,7 @@ use Rattle.bloom_ast.specs.Query.{Name}
 use Rattle.bloom_ast.specs.Step.{Sets, set_at}
 use Rattle.bloom_ast.specs.StockSteps.{latest_kept, number_kept}
 use Rattle.bloom_ast.specs.Widths.{AreWide, AreSetsOf}
-use Rattle.bloom_ast.proofs.StockWidths.{latest_kept-wide, number_kept-wide}
+use Rattle.bloom_ast.proofs.Ends.StockWidths.{latest_kept-wide, number_kept-wide}
 
 -- the first of some sets
 pub first_wide : (names : List Name) (columns : List (List Name)) (sets : Sets) → AreSetsOf (names ∷ columns) sets → AreWide (length names) (set_at sets 0)

@@ -12,7 +12,7 @@ use Rattle.bloom_ast.specs.Program.{columns_of_kind, table_columns}
 use Rattle.bloom_ast.specs.ProgramStep.{tables_after_step}
 use Rattle.bloom_ast.specs.Query.{Name}
 use Rattle.bloom_ast.specs.Step.{Sets, sets_of_kind, at_end}
-use Rattle.bloom_ast.proofs.Equated.{length-at_end}
+use Rattle.bloom_ast.proofs.Ends.Equated.{length-at_end}
 use Rattle.std.proofs.lemmas.List.{length-map}
 use Rattle.bloom_ast.specs.Widths.{AreSetsOf}
 use Rattle.blz_boxes.specs.Step.{tables_next, nothing_kept}

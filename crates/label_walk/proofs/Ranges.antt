@@ -7,8 +7,8 @@ use Rattle.topo_types.specs.Regions.{regions, region_members}
 use Rattle.topo_types.specs.Valid.{IsValid}
 use Rattle.topo_types.specs.Sets.{below}
 use Rattle.topo_types.specs.View.{View, End, component_at, ends_of, origin_of, stream_numbers}
-use Rattle.topo_types.proofs.Spreading.{from_below}
-use Rattle.topo_types.proofs.RegionSets.{member_within}
+use Rattle.topo_types.proofs.Regions.Spreading.{from_below}
+use Rattle.topo_types.proofs.Regions.RegionSets.{member_within}
 use Rattle.label_walk.specs.Paths.{AreComponents, AreInputs, IsInput, region_at, region_inputs, ends_in, is_from_outside}
 
 pub component_within : (v : View) → IsValid v → (s c o : ℕ) → s < length v.streams → origin_of v s ≡ Some (c, o) → c < length v.components

@@ -86,7 +86,7 @@ pub fn region_members(alloc: Global, valid: &Valid, region: u32) -> Result<Vec<u
 }
 
 /// The number of the region of a component that is in a cycle, None where it is in none.
-#[tactic(auto, using(crate::proofs::RegionNumbers::number_within, crate::proofs::RegionNumbers::is_cycle_of, crate::proofs::RegionNumbers::no_cycle))]
+#[tactic(auto, using(crate::proofs::Labelling::RegionNumbers::number_within, crate::proofs::Labelling::RegionNumbers::is_cycle_of, crate::proofs::Labelling::RegionNumbers::no_cycle))]
 pub fn cycle_of(valid: &Valid, component: u32) -> Option<u32>
     requires { component < length valid.now.view.components }
     ensures { MatchOption result (regions.is_in_cycle valid.now.view component ≡ false) (λ region. IsCycleOf valid.now.view component region) }

@@ -15,7 +15,7 @@ use label_rules::{Label, reconcile};
 use std::alloc::{AllocError, Global};
 use topo_types::{Attrs, Mode, Valid, carries};
 
-#[tactic(auto, using(crate::proofs::SourceLemmas::source_carries))]
+#[tactic(auto, using(crate::proofs::Labelling::SourceLemmas::source_carries))]
 fn source_label(valid: &Valid, stream: u32) -> Label
     requires stream { stream < length valid.now.view.streams }
     requires source { view.origin_of valid.now.view stream ≡ None }
@@ -145,7 +145,7 @@ fn remade_labels(
 }
 
 // The labels, those of the streams from a region's members made anew.
-#[tactic(auto, using(crate::proofs::RemadeLemmas::remade_all))]
+#[tactic(auto, using(crate::proofs::Labelling::RemadeLemmas::remade_all))]
 fn with_region(
     alloc: Global,
     valid: &Valid,

@@ -65,7 +65,7 @@ fn numbers_of_kind(
 }
 
 /// The numbers of a module's collections of a kind, in declared order.
-#[tactic(auto, using(crate::proofs::NumbersLemmas::length_numbers_of_kind))]
+#[tactic(auto, using(crate::proofs::ByNumber::NumbersLemmas::length_numbers_of_kind))]
 pub(crate) fn module_numbers(
     alloc: Global,
     checked: &Checked,

@@ -32,7 +32,7 @@ use Rattle.topo_types.specs.Feeds.{Feed, no_feed}
 use Rattle.topo_types.specs.Messages.{row, rows_in}
 use Rattle.topo_types.specs.Valid.{IsCovered}
 use Rattle.topo_types.specs.View.{View, origin_of, program_of, is_order, mode_key, replicas_of, component_at, note_at, has_stream, goes_to, port_at, port_attrs, stream_numbers}
-use Rattle.topo_types.proofs.Spreading.{from_below, in_below, both_true, and_true}
+use Rattle.topo_types.proofs.Regions.Spreading.{from_below, in_below, both_true, and_true}
 use Rattle.inbox.specs.Instances.{Instance}
 use Rattle.inbox.specs.Timesteps.{timesteps}
 use Rattle.inbox.specs.Lives.{Life, all_lives}

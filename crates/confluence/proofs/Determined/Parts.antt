@@ -17,8 +17,8 @@ use Rattle.path_annotate.specs.Annotation.{note_of, gate_of_output, key_set, lat
 use Rattle.path_annotate.specs.Good.{good_tables}
 use Rattle.bloom_ast.specs.KindNumbers.{number_in_kind}
 use Rattle.path_annotate.specs.Uses.{both_uses, all_uses}
-use Rattle.path_annotate.proofs.Using.{uses_have_gate}
-use Rattle.path_annotate.proofs.CoversLaw.{covers_law, combine_law}
+use Rattle.path_annotate.proofs.Notes.Using.{uses_have_gate}
+use Rattle.path_annotate.proofs.Notes.CoversLaw.{covers_law, combine_law}
 use Rattle.fd_closure.specs.declared.attrs.Attrs.{Attrs}
 use Rattle.topo_types.specs.Data.{Data}
 use Rattle.topo_types.specs.Valid.{IsCovered}
@@ -37,7 +37,7 @@ use Rattle.row_laws.proofs.Ports.Rules.{rules_see}
 use Rattle.row_laws.proofs.Ports.PortsLaw.{outputs_see, stock_silent}
 use Rattle.row_laws.proofs.Split.SplitLaw.{all_rules_split, all_split}
 use Rattle.row_laws.proofs.Rows.Outputs.{number}
-use Rattle.bloom_ast.proofs.ReadsLemmas.{rule_stands}
+use Rattle.bloom_ast.proofs.Reach.ReadsLemmas.{rule_stands}
 use Rattle.bloom_ast.specs.Proper.{IsProper}
 use Rattle.path_annotate.specs.Given.{AreAllC}
 use Rattle.path_annotate.specs.Annotation.{rule_gate, rule_use}

@@ -8,7 +8,7 @@ use Rattle.blz_value.proofs.Membership.{Has-filter}
 use Rattle.topo_types.specs.Data.{Data}
 use Rattle.topo_types.specs.Messages.{row, is_same_row}
 use Rattle.topo_types.specs.Sets.{below}
-use Rattle.topo_types.proofs.Spreading.{in_below}
+use Rattle.topo_types.proofs.Regions.Spreading.{in_below}
 use Rattle.inbox.specs.Messages.{Pair, Entry}
 use Rattle.inbox.specs.Instances.{Instance, port_of_feed, key_places_at, is_carrying, entries_of, key_of_entry}
 use Rattle.inbox.specs.Timesteps.{is_whole}

@@ -17,7 +17,7 @@ use Rattle.topo_types.specs.Messages.{Message, row, seal, rows_in, is_same_row, 
 use Rattle.topo_types.specs.Regions.{region_of}
 use Rattle.topo_types.specs.Valid.{IsValid}
 use Rattle.topo_types.specs.View.{View, End, origin_of, stream_at, stream_replicas, component_at, output_at, mode_of, mode_key, program_of, replicas_of, has_stream, goes_to, senders_of, stream_of, streams_to, is_order_mode}
-use Rattle.topo_types.proofs.Spreading.{both_true}
+use Rattle.topo_types.proofs.Regions.Spreading.{both_true}
 use Rattle.inbox.specs.Instances.{Instance, is_carrying}
 use Rattle.inbox.specs.Timesteps.{timesteps}
 use Rattle.inbox.specs.Wiring.{Wiring, wiring_of, instance_for, carried_places}

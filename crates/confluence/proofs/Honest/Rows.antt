@@ -33,7 +33,7 @@ use Rattle.topo_types.specs.Dependencies.{usable_fds}
 use Rattle.topo_types.specs.Valid.{IsValid, Runs, IsCovered}
 use Rattle.topo_types.specs.ViewOf.{derived_note}
 use Rattle.topo_types.specs.View.{View, component_at, output_at, own_attrs, own_root, note_at, program_of, mode_of, mode_key, replicas_of, ports_towards, port_numbers}
-use Rattle.topo_types.proofs.Spreading.{in_below, both_true}
+use Rattle.topo_types.proofs.Regions.Spreading.{in_below, both_true}
 use Rattle.inbox.specs.Messages.{Batch, Entry, all_pairs}
 use Rattle.inbox.specs.Instances.{Instance, is_carrying, key_of_entry, entries_of}
 use Rattle.inbox.specs.Timesteps.{is_whole, timesteps, Stands}

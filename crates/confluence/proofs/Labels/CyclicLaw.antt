@@ -24,7 +24,7 @@ use Rattle.label_walk.specs.Paths.{label_at, notes_in, without_gate, region_note
 use Rattle.confluence.specs.LabelMeaning.{IsInCycle, HasGoodInputs}
 use Rattle.confluence.specs.Laws.{GoodInputsOfAsync, GoodInputsOfRun}
 use Rattle.confluence.proofs.Labels.Cells.{Tells, unprotected, two_less, three_less, path_tells}
-use Rattle.topo_types.proofs.OrderAlone.{order_acyclic}
+use Rattle.topo_types.proofs.Regions.OrderAlone.{order_acyclic}
 use Rattle.confluence.proofs.Labels.Settling.{settled_below, comes_of_path}
 use Rattle.fd_closure.specs.Bits.{members}
 

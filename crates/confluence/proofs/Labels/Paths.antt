@@ -7,7 +7,7 @@ use Rattle.path_annotate.specs.declared.note.Note.{Note}
 use Rattle.topo_types.specs.Regions.{region_set, is_in_cycle}
 use Rattle.topo_types.specs.Valid.{IsValid}
 use Rattle.topo_types.specs.View.{View, End, note_at, component_at, port_numbers, streams_to}
-use Rattle.topo_types.proofs.Spreading.{in_below}
+use Rattle.topo_types.proofs.Regions.Spreading.{in_below}
 use Rattle.label_rules.specs.declared.label.Label.{Label}
 use Rattle.label_rules.specs.declared.label.Label.TheVariants.{Run}
 use Rattle.label_walk.specs.Labels.{AreLabels, IsLabel, IsRegionLabel, IsOutsideLabel}

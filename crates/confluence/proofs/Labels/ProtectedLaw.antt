@@ -15,7 +15,7 @@ use Rattle.topo_types.specs.Carried.{carries_key}
 use Rattle.topo_types.specs.Dependencies.{usable_fds}
 use Rattle.topo_types.specs.Valid.{IsValid}
 use Rattle.topo_types.specs.View.{View, End, no_attrs, mode_of, note_at, has_stream, port_attrs, streams_to}
-use Rattle.topo_types.proofs.Spreading.{both_true, and_true}
+use Rattle.topo_types.proofs.Regions.Spreading.{both_true, and_true}
 use Rattle.label_rules.specs.declared.label.Label.{Label}
 use Rattle.label_rules.specs.declared.label.Label.TheVariants.{Seal}
 use Rattle.label_rules.specs.declared.label.PathLabel.{PathLabel}

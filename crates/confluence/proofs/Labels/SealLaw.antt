@@ -11,7 +11,7 @@ use Rattle.topo_types.specs.Laws.{carries_next}
 use Rattle.topo_types.specs.Regions.{region_set, is_in_cycle}
 use Rattle.topo_types.specs.Valid.{IsValid}
 use Rattle.topo_types.specs.View.{View, End, stream_at, origin_of, is_order, no_attrs}
-use Rattle.topo_types.proofs.OneLevel.{carries_law}
+use Rattle.topo_types.proofs.Found.OneLevel.{carries_law}
 use Rattle.label_rules.specs.declared.label.Label.{Label}
 use Rattle.label_rules.specs.declared.label.Label.TheVariants.{Seal, Async, Run, Inst, Diverge}
 use Rattle.label_rules.specs.PathTable.{pass_path}

@@ -16,7 +16,7 @@ use Rattle.row_laws.proofs.Ports.PortsLaw.{outputs_see}
 use Rattle.topo_types.specs.Data.{Data}
 use Rattle.topo_types.specs.Messages.{rows_in}
 use Rattle.topo_types.specs.View.{View, origin_of, program_of, is_order, replicas_of, component_at, note_at, goes_to, streams_to, stream_numbers}
-use Rattle.topo_types.proofs.Spreading.{in_below}
+use Rattle.topo_types.proofs.Regions.Spreading.{in_below}
 use Rattle.inbox.specs.Wiring.{wiring_of}
 use Rattle.inbox.specs.Executions.{Execution, emitted_list, contents}
 use Rattle.inbox.proofs.Timesteps.Entries.{Has-rows_in}

@@ -24,7 +24,7 @@ use Rattle.topo_types.specs.Regions.{region_set, is_in_cycle}
 use Rattle.topo_types.specs.Sets.{below}
 use Rattle.topo_types.specs.Valid.{IsValid}
 use Rattle.topo_types.specs.View.{View, End, origin_of, ends_of, program_of, is_order, replicas_of, component_at, note_at, senders_of, stream_replicas, goes_to, stream_numbers}
-use Rattle.topo_types.proofs.Spreading.{in_below}
+use Rattle.topo_types.proofs.Regions.Spreading.{in_below}
 use Rattle.label_walk.specs.Paths.{notes_in, is_from_outside, ends_in, region_inputs}
 use Rattle.inbox.specs.Messages.{all_pairs}
 use Rattle.inbox.specs.Instances.{Instance, port_of_feed}

@@ -18,8 +18,8 @@ use Rattle.topo_types.specs.Regions.{region_of, region_set, is_in_cycle}
 use Rattle.topo_types.specs.Sets.{below}
 use Rattle.topo_types.specs.Valid.{IsValid}
 use Rattle.topo_types.specs.View.{View, End, origin_of, program_of, is_order, is_replicated, replicas_of, senders_of, goes_to, stream_numbers}
-use Rattle.topo_types.proofs.Spreading.{from_below, in_below}
-use Rattle.topo_types.proofs.OrderAlone.{order_acyclic}
+use Rattle.topo_types.proofs.Regions.Spreading.{from_below, in_below}
+use Rattle.topo_types.proofs.Regions.OrderAlone.{order_acyclic}
 use Rattle.label_rules.specs.declared.label.Label.{Label}
 use Rattle.label_rules.specs.declared.label.Label.TheVariants.{Seal, Async, Run, Inst, Diverge}
 use Rattle.label_rules.specs.Label.{severity}

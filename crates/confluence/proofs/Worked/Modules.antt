@@ -11,9 +11,9 @@ use Rattle.bloom_ast.specs.Form.{RuleForm, Form}
 use Rattle.bloom_ast.specs.HeadOrder.{heads_of}
 use Rattle.bloom_ast.specs.Reads.{facts_of}
 use Rattle.bloom_ast.specs.Reserved.{HasOwnNames}
-use Rattle.bloom_ast.proofs.Firsts.{are_few, each_collection, distinct_names}
-use Rattle.bloom_ast.proofs.Ordering.{ordered}
-use Rattle.topo_types.proofs.WordCount.{count_module, commit_module}
+use Rattle.bloom_ast.proofs.Faults.Firsts.{are_few, each_collection, distinct_names}
+use Rattle.bloom_ast.proofs.Faults.Ordering.{ordered}
+use Rattle.topo_types.proofs.Worked.WordCount.{count_module, commit_module}
 
 -- a module without a fault of size and with no name twice, whose rules are as they should be, is checked
 module _ (m : Form) (names : HasOwnNames m) (clean : first_fault m ≡ None)

@@ -18,8 +18,8 @@ use Rattle.topo_types.specs.Dependencies.{usable_fds}
 use Rattle.topo_types.specs.Feeds.{Feed}
 use Rattle.topo_types.specs.Messages.{row, seal}
 use Rattle.topo_types.specs.View.{comes_from, has_body, End, origin_of, stream_numbers, stream_replicas}
-use Rattle.topo_types.proofs.WordCount.{batch, count_module, commit_module}
-use Rattle.topo_types.proofs.Spreading.{from_below}
+use Rattle.topo_types.proofs.Worked.WordCount.{batch, count_module, commit_module}
+use Rattle.topo_types.proofs.Regions.Spreading.{from_below}
 use Rattle.label_walk.specs.Paths.{label_at}
 use Rattle.inbox.specs.Instances.{Instance}
 use Rattle.inbox.specs.Wiring.{Wiring, wiring_of, is_there, carried_places}

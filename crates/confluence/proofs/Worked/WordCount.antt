@@ -20,12 +20,12 @@ use Rattle.topo_types.specs.Valid.{IsValid, AreModules}
 use Rattle.topo_types.specs.Validity.{fault_of}
 use Rattle.topo_types.specs.View.{View, stream_at}
 use Rattle.topo_types.specs.ViewOf.{view_of}
-use Rattle.topo_types.proofs.ValidViews.{valid_law}
-use Rattle.topo_types.proofs.WordCount.{word_count, word_count_with, sealed_at, batch, count_module, commit_module, splitting, bodied, spot}
+use Rattle.topo_types.proofs.Views.ValidViews.{valid_law}
+use Rattle.topo_types.proofs.Worked.WordCount.{word_count, word_count_with, sealed_at, batch, count_module, commit_module, splitting, bodied, spot}
 use Rattle.label_rules.specs.declared.label.Label.{Label}
 use Rattle.label_rules.specs.declared.label.Label.TheVariants.{Seal}
 use Rattle.label_walk.specs.Labels.{AreLabels, labels_of}
-use Rattle.label_walk.proofs.RegionByRegion.{has_labels}
+use Rattle.label_walk.proofs.Labelling.RegionByRegion.{has_labels}
 use Rattle.confluence.proofs.Worked.Modules.{count_checked, commit_checked}
 
 abbrev pub modules : List Accepted

@@ -8,7 +8,7 @@ use Rattle.bloom_ast.specs.Step.{Sets, set_at}
 use Rattle.fd_closure.specs.declared.attrs.Attrs.{Attrs}
 use Rattle.topo_types.specs.declared.mode.Mode.TheVariants.{Seal}
 use Rattle.topo_types.specs.Messages.{is_same_row}
-use Rattle.topo_types.proofs.Spreading.{same_truth}
+use Rattle.topo_types.proofs.Regions.Spreading.{same_truth}
 use Rattle.inbox.specs.Messages.{Batch, Entry, is_same_entry, all_pairs, firsts}
 use Rattle.inbox.specs.Instances.{Instance, entries_of}
 use Rattle.inbox.specs.Timesteps.{is_due, timesteps, is_in_some, held_entries, held_count}

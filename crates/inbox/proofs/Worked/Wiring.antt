@@ -4,7 +4,7 @@ use Rattle.fd_closure.specs.Bits.{bit_of, meets}
 use Rattle.fd_closure.specs.Closure.{within, closure, step}
 use Rattle.topo_types.specs.Carried.{carries, carriers}
 use Rattle.topo_types.specs.Dependencies.{usable_fds}
-use Rattle.topo_types.proofs.WordCount.{word_count_with, sealed_at}
+use Rattle.topo_types.proofs.Worked.WordCount.{word_count_with, sealed_at}
 use Rattle.inbox.specs.Wiring.{wiring_of}
 use Rattle.inbox.proofs.Worked.Words.{word_count}
 

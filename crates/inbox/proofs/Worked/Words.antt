@@ -10,7 +10,7 @@ use Rattle.topo_types.specs.declared.mode.Mode.TheVariants.{Pass, Seal}
 use Rattle.bloom_ast.specs.declared.program.Program.{Program}
 use Rattle.topo_types.specs.Data.{Data}
 use Rattle.topo_types.specs.Messages.{Message, row, seal}
-use Rattle.topo_types.proofs.WordCount.{word_count_with, sealed_at}
+use Rattle.topo_types.proofs.Worked.WordCount.{word_count_with, sealed_at}
 use Rattle.inbox.specs.Instances.{Instance}
 use Rattle.inbox.specs.Wiring.{Wiring}
 use Rattle.inbox.specs.Executions.{result_and_then, execution_of_events, emitted_list}

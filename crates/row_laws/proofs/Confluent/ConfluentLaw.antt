@@ -17,12 +17,12 @@ use Rattle.bloom_ast.specs.Query.{Name}
 use Rattle.bloom_ast.specs.Step.{Sets, set_at, rules_at}
 use Rattle.bloom_ast.specs.StockSteps.{split_row, keys_in_order, latest_kept, numbered}
 use Rattle.bloom_ast.specs.Proper.{IsProper}
-use Rattle.bloom_ast.proofs.MomentaryLemmas.{now}
-use Rattle.bloom_ast.proofs.ReadsLemmas.{rule_stands}
-use Rattle.bloom_ast.proofs.StepsLemmas.{StepOf, before, arrives}
+use Rattle.bloom_ast.proofs.Reach.MomentaryLemmas.{now}
+use Rattle.bloom_ast.proofs.Reach.ReadsLemmas.{rule_stands}
+use Rattle.bloom_ast.proofs.Ends.StepsLemmas.{StepOf, before, arrives}
 use Rattle.path_annotate.specs.Annotation.{rule_use}
 use Rattle.path_annotate.specs.Given.{AreAllC}
-use Rattle.path_annotate.proofs.ConfluentUses.{each_c, linear_c, growing_c}
+use Rattle.path_annotate.proofs.Notes.ConfluentUses.{each_c, linear_c, growing_c}
 use Rattle.row_laws.specs.Confluence.{ConfluentRules, ConfluentOutputs}
 use Rattle.row_laws.specs.Runs.{query_rows, output_rows, OneStepAnswers}
 use Rattle.row_laws.proofs.Rows.Fed.{fed}

@@ -19,16 +19,16 @@ use Rattle.bloom_ast.specs.Query.{Name, Query}
 use Rattle.bloom_ast.specs.Reads.{direct}
 use Rattle.bloom_ast.specs.Step.{Sets, set_at}
 use Rattle.bloom_ast.specs.Plain.{is_free}
-use Rattle.bloom_ast.proofs.KindSets.{in_kind_set}
-use Rattle.bloom_ast.proofs.ByCones.{IsBelow, read_below, by_cones}
-use Rattle.bloom_ast.proofs.EquationsLemmas.{IsEnd, is_end, port_end, from_table, table_ruled}
-use Rattle.bloom_ast.proofs.MomentaryLemmas.{now, port_now}
-use Rattle.bloom_ast.proofs.ReadsLemmas.{number_of, small_number, rules_named, rule_stands, IsIn}
-use Rattle.bloom_ast.proofs.StepsLemmas.{StepOf, before, arrives, env_of, table_rows, nothing_kept, held_at, held_from, ended_run}
-use Rattle.bloom_ast.proofs.KindNumbersLemmas.{place_within}
+use Rattle.bloom_ast.proofs.Collections.KindSets.{in_kind_set}
+use Rattle.bloom_ast.proofs.Reach.ByCones.{IsBelow, read_below, by_cones}
+use Rattle.bloom_ast.proofs.Ends.EquationsLemmas.{IsEnd, is_end, port_end, from_table, table_ruled}
+use Rattle.bloom_ast.proofs.Reach.MomentaryLemmas.{now, port_now}
+use Rattle.bloom_ast.proofs.Reach.ReadsLemmas.{number_of, small_number, rules_named, rule_stands, IsIn}
+use Rattle.bloom_ast.proofs.Ends.StepsLemmas.{StepOf, before, arrives, env_of, table_rows, nothing_kept, held_at, held_from, ended_run}
+use Rattle.bloom_ast.proofs.Collections.KindNumbersLemmas.{place_within}
 use Rattle.path_annotate.specs.Good.{all_tables, tables_read, reads_table, reads_good, is_good_rule, good_tables}
-use Rattle.path_annotate.proofs.Behind.{in_tables_read}
-use Rattle.path_annotate.proofs.GoodTables.{good_by_rules}
+use Rattle.path_annotate.proofs.Reach.Behind.{in_tables_read}
+use Rattle.path_annotate.proofs.Reach.GoodTables.{good_by_rules}
 use Rattle.row_laws.specs.Runs.{query_rows}
 use Rattle.row_laws.proofs.Rows.Linear.{IsUnionOf}
 use Rattle.row_laws.proofs.Rows.Through.{free_grows, rule_linear, has_leaf}

@@ -12,7 +12,7 @@ use Rattle.bloom_ast.specs.declared.program.Program.{Program}
 use Rattle.bloom_ast.specs.Program.{port_columns}
 use Rattle.bloom_ast.specs.ProgramStep.{empty_tables}
 use Rattle.bloom_ast.specs.Step.{Sets, set_at}
-use Rattle.bloom_ast.proofs.StepsLemmas.{StepOf, before, arrives, arrives_in, step_with}
+use Rattle.bloom_ast.proofs.Ends.StepsLemmas.{StepOf, before, arrives, arrives_in, step_with}
 use Rattle.row_laws.specs.Confluence.{AreAmong, IsConfluent}
 use Rattle.row_laws.specs.Runs.{over_steps, arriving_at, at_once}
 use Rattle.row_laws.proofs.Rows.Linear.{IsUnionOf}

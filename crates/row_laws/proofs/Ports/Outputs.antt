@@ -16,8 +16,8 @@ use Rattle.bloom_ast.specs.Form.{RuleForm, Accepted}
 use Rattle.bloom_ast.specs.ProgramStep.{empty_tables}
 use Rattle.bloom_ast.specs.Query.{Name}
 use Rattle.bloom_ast.specs.Step.{Sets, rules_at}
-use Rattle.bloom_ast.proofs.ReadsLemmas.{rule_stands}
-use Rattle.bloom_ast.proofs.StepsLemmas.{before, arrives}
+use Rattle.bloom_ast.proofs.Reach.ReadsLemmas.{rule_stands}
+use Rattle.bloom_ast.proofs.Ends.StepsLemmas.{before, arrives}
 use Rattle.path_annotate.specs.declared.note.Note.{Note}
 use Rattle.path_annotate.specs.Annotation.{note_of, rule_use}
 use Rattle.path_annotate.specs.Note as notes

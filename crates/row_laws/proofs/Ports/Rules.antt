@@ -26,19 +26,19 @@ use Rattle.bloom_ast.specs.ProgramStep.{tables_after_step, empty_tables}
 use Rattle.bloom_ast.specs.Query.{Name}
 use Rattle.bloom_ast.specs.Reads.{named, arrows, cone}
 use Rattle.bloom_ast.specs.Step.{Sets, set_at}
-use Rattle.bloom_ast.proofs.ByCones.{IsBelow, read_below}
-use Rattle.bloom_ast.proofs.EquationsLemmas.{is_end, port_end, next_table}
-use Rattle.bloom_ast.proofs.MomentaryLemmas.{now}
-use Rattle.bloom_ast.proofs.ReadsLemmas.{number_of, small_number}
-use Rattle.bloom_ast.proofs.StepsLemmas.{StepOf, before, arrives, arrives_in, step_with, env_of, table_rows, nothing_kept}
-use Rattle.bloom_ast.proofs.KindNumbersLemmas.{place_within}
+use Rattle.bloom_ast.proofs.Reach.ByCones.{IsBelow, read_below}
+use Rattle.bloom_ast.proofs.Ends.EquationsLemmas.{is_end, port_end, next_table}
+use Rattle.bloom_ast.proofs.Reach.MomentaryLemmas.{now}
+use Rattle.bloom_ast.proofs.Reach.ReadsLemmas.{number_of, small_number}
+use Rattle.bloom_ast.proofs.Ends.StepsLemmas.{StepOf, before, arrives, arrives_in, step_with, env_of, table_rows, nothing_kept}
+use Rattle.bloom_ast.proofs.Collections.KindNumbersLemmas.{place_within}
 use Rattle.path_annotate.specs.declared.note.Note.{Note}
 use Rattle.path_annotate.specs.ClosedForms.{behind}
 use Rattle.path_annotate.specs.Good.{tables_read}
 use Rattle.path_annotate.specs.Annotation.{rule_use}
 use Rattle.path_annotate.specs.Given.{is_o, is_w}
-use Rattle.path_annotate.proofs.Behind.{behind-cone, table-behind}
-use Rattle.path_annotate.proofs.GivenLemmas.{used_below, w_behind, o_read, o_below}
+use Rattle.path_annotate.proofs.Reach.Behind.{behind-cone, table-behind}
+use Rattle.path_annotate.proofs.Notes.GivenLemmas.{used_below, w_behind, o_read, o_below}
 use Rattle.row_laws.specs.Ports.{AreSilentAt, AreSameAt, SeesItsPorts, IsSilent, RulesSeePorts}
 use Rattle.row_laws.specs.Runs.{query_rows, query_over, over_steps, arriving_at, at_once}
 use Rattle.row_laws.proofs.Rows.Closed.{IsInSet, ReadsSet, none_is, KeepsNothing, IsQuiet, rule_nothing, next_nothing, KeepSame, ArriveSame, ended_same, rule_same, next_same, KeepsEnd, still_end, next_end}

@@ -10,8 +10,8 @@ use Rattle.bloom_ast.specs.Form.{Accepted}
 use Rattle.bloom_ast.specs.Kinds.{kind_at, place_in_kind}
 use Rattle.bloom_ast.specs.Query.{Name}
 use Rattle.bloom_ast.specs.Step.{Sets, set_at}
-use Rattle.bloom_ast.proofs.KindNumbersLemmas.{place_within}
-use Rattle.bloom_ast.proofs.ReadsLemmas.{number_of}
+use Rattle.bloom_ast.proofs.Collections.KindNumbersLemmas.{place_within}
+use Rattle.bloom_ast.proofs.Reach.ReadsLemmas.{number_of}
 use Rattle.row_laws.specs.Ports.{AreSilentAt}
 
 module _ (a : Accepted) (checked : IsChecked a.form a.heads) where

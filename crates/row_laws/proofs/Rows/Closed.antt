@@ -24,12 +24,12 @@ use Rattle.bloom_ast.specs.ProgramStep.{tables_after_step}
 use Rattle.bloom_ast.specs.Query.{Name}
 use Rattle.bloom_ast.specs.Reads.{named, arrow, arrows, cone}
 use Rattle.bloom_ast.specs.Step.{Sets, set_at, union_of}
-use Rattle.bloom_ast.proofs.Ordering.{in_named}
-use Rattle.bloom_ast.proofs.ByCones.{IsBelow, read_below, by_cones}
-use Rattle.bloom_ast.proofs.EquationsLemmas.{FromRule, is_end, from_union, in_union, port_end, table_end, scratch_end, from_table, table_kept, table_ruled, next_table}
-use Rattle.bloom_ast.proofs.MomentaryLemmas.{now, port_now}
-use Rattle.bloom_ast.proofs.ReadsLemmas.{number_of, small_number, rules_named, rule_stands, by_names, IsRead, reads, IsIn}
-use Rattle.bloom_ast.proofs.StepsLemmas.{table_rows}
+use Rattle.bloom_ast.proofs.Faults.Ordering.{in_named}
+use Rattle.bloom_ast.proofs.Reach.ByCones.{IsBelow, read_below, by_cones}
+use Rattle.bloom_ast.proofs.Ends.EquationsLemmas.{FromRule, is_end, from_union, in_union, port_end, table_end, scratch_end, from_table, table_kept, table_ruled, next_table}
+use Rattle.bloom_ast.proofs.Reach.MomentaryLemmas.{now, port_now}
+use Rattle.bloom_ast.proofs.Reach.ReadsLemmas.{number_of, small_number, rules_named, rule_stands, by_names, IsRead, reads, IsIn}
+use Rattle.bloom_ast.proofs.Ends.StepsLemmas.{table_rows}
 use Rattle.row_laws.specs.Runs.{query_rows}
 use Rattle.row_laws.proofs.Rows.Linear.{IsLinear}
 use Rattle.row_laws.proofs.Rows.Through.{has_source, rule_linear}

@@ -18,12 +18,12 @@ use Rattle.bloom_ast.specs.ProgramStep.{tables_after_step, empty_tables}
 use Rattle.bloom_ast.specs.Query.{Name}
 use Rattle.bloom_ast.specs.Reads.{named, arrows}
 use Rattle.bloom_ast.specs.Step.{Sets, rules_at, union_of}
-use Rattle.bloom_ast.proofs.Ordering.{in_named}
-use Rattle.bloom_ast.proofs.EquationsLemmas.{FromRule, from_union, from_table, scratch_end, next_table}
-use Rattle.bloom_ast.proofs.ReadsLemmas.{number_of, small_number, rules_named, rule_stands, by_names, IsRead, reads}
-use Rattle.bloom_ast.proofs.StepsLemmas.{StepOf, before, arrives, table_rows, nothing_kept}
-use Rattle.bloom_ast.proofs.ByCones.{IsFed}
-use Rattle.bloom_ast.proofs.Cones.{in_head, in_closure}
+use Rattle.bloom_ast.proofs.Faults.Ordering.{in_named}
+use Rattle.bloom_ast.proofs.Ends.EquationsLemmas.{FromRule, from_union, from_table, scratch_end, next_table}
+use Rattle.bloom_ast.proofs.Reach.ReadsLemmas.{number_of, small_number, rules_named, rule_stands, by_names, IsRead, reads}
+use Rattle.bloom_ast.proofs.Ends.StepsLemmas.{StepOf, before, arrives, table_rows, nothing_kept}
+use Rattle.bloom_ast.proofs.Reach.ByCones.{IsFed}
+use Rattle.bloom_ast.proofs.Reach.Cones.{in_head, in_closure}
 use Rattle.row_laws.specs.Runs.{query_rows}
 use Rattle.row_laws.proofs.Rows.Through.{has_source}
 

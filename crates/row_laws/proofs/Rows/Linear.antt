@@ -19,8 +19,8 @@ use Rattle.bloom_ast.specs.Query.{Name, Query}
 use Rattle.bloom_ast.specs.Query.Query.{base, select, project, join, notin, group, at_least}
 use Rattle.bloom_ast.specs.Reads.{facts_of}
 use Rattle.bloom_ast.specs.Rows.{formula_holds, item_numbers, column_numbers, numbered_agg, row_bound, rows_of}
-use Rattle.bloom_ast.proofs.MomentaryLemmas.{now, join_now, left_now, right_now}
-use Rattle.bloom_ast.proofs.Levels.{neither}
+use Rattle.bloom_ast.proofs.Reach.MomentaryLemmas.{now, join_now, left_now, right_now}
+use Rattle.bloom_ast.proofs.Faults.Levels.{neither}
 
 -- a list has the members of all lists of a family
 pub record IsUnionOf {J : Type 0} (each : J → List Row) (whole : List Row) : Type 0 where

@@ -16,10 +16,10 @@ use Rattle.bloom_ast.specs.Lookup.{declared}
 use Rattle.bloom_ast.specs.Program.{columns_of_kind}
 use Rattle.bloom_ast.specs.Step.{Sets, set_at, union_of, rules_at, at_end, sets_of_kind}
 use Rattle.bloom_ast.specs.KindNumbers.{number_in_kind}
-use Rattle.bloom_ast.proofs.Equated.{length-at_end}
-use Rattle.bloom_ast.proofs.Numbers.{set-of_kind}
-use Rattle.bloom_ast.proofs.KindNumbersLemmas.{number_at_place, at_place, length-sets_of_kind}
-use Rattle.bloom_ast.proofs.EquationsLemmas.{FromRule, from_union, in_union, output_end}
+use Rattle.bloom_ast.proofs.Ends.Equated.{length-at_end}
+use Rattle.bloom_ast.proofs.Collections.Numbers.{set-of_kind}
+use Rattle.bloom_ast.proofs.Collections.KindNumbersLemmas.{number_at_place, at_place, length-sets_of_kind}
+use Rattle.bloom_ast.proofs.Ends.EquationsLemmas.{FromRule, from_union, in_union, output_end}
 use Rattle.row_laws.specs.Runs.{output_rows}
 
 module _ (a : Accepted) (checked : IsChecked a.form a.heads) (output : ℕ) where

@@ -6,7 +6,7 @@ use Rattle.blz_value.proofs.Membership.{Has-append_left, Has-append_right, Has-a
 use Rattle.bloom_ast.specs.declared.program.Program.{Program}
 use Rattle.bloom_ast.specs.ProgramStep.{tables_after_step}
 use Rattle.bloom_ast.specs.Step.{Sets}
-use Rattle.bloom_ast.proofs.StepsLemmas.{StepOf, before, arrives}
+use Rattle.bloom_ast.proofs.Ends.StepsLemmas.{StepOf, before, arrives}
 use Rattle.row_laws.specs.Runs.{over_steps}
 
 module _ (program : Program) where

@@ -24,11 +24,11 @@ use Rattle.bloom_ast.specs.Reads.{set_of_name, direct}
 use Rattle.bloom_ast.specs.Rows.{formula_holds, item_numbers, column_numbers, numbered_agg, row_bound, rows_of}
 use Rattle.bloom_ast.specs.Step.{union_of}
 use Rattle.bloom_ast.specs.Plain.{is_plain, is_free, scratch_rules_read}
-use Rattle.bloom_ast.proofs.KindSets.{named-kind}
-use Rattle.bloom_ast.proofs.EquationsLemmas.{IsEnd, from_union, in_union}
-use Rattle.bloom_ast.proofs.PlainLemmas.{grows}
-use Rattle.bloom_ast.proofs.MomentaryLemmas.{now, port_now, table_later, scratch_now}
-use Rattle.bloom_ast.proofs.ReadsLemmas.{number_of, rules_named, rule_stands, IsRead, reads, IsIn, named_in, scratch_in, through_scratches}
+use Rattle.bloom_ast.proofs.Collections.KindSets.{named-kind}
+use Rattle.bloom_ast.proofs.Ends.EquationsLemmas.{IsEnd, from_union, in_union}
+use Rattle.bloom_ast.proofs.Reach.PlainLemmas.{grows}
+use Rattle.bloom_ast.proofs.Reach.MomentaryLemmas.{now, port_now, table_later, scratch_now}
+use Rattle.bloom_ast.proofs.Reach.ReadsLemmas.{number_of, rules_named, rule_stands, IsRead, reads, IsIn, named_in, scratch_in, through_scratches}
 use Rattle.row_laws.proofs.Rows.Linear.{IsUnionOf, IsLinear, linear}
 
 -- How the proof goes.

@@ -32,9 +32,9 @@ use Rattle.bloom_ast.specs.Query.Query.{base, select, project, join, notin, grou
 use Rattle.bloom_ast.specs.Rows.{formula_holds, item_numbers, column_numbers, numbered_agg, row_bound, rows_of}
 use Rattle.bloom_ast.specs.Step.{Sets, set_at, ended, rules_at, union_of, ruled_at, at_end, sets_of_kind}
 use Rattle.bloom_ast.specs.KindNumbers.{number_in_kind}
-use Rattle.bloom_ast.proofs.Equated.{ends, end_solves, one_solution, length-at_end}
-use Rattle.bloom_ast.proofs.Numbers.{get-number, kind-number, derived_or, set-of_kind}
-use Rattle.bloom_ast.proofs.KindNumbersLemmas.{columns-of_kind, place_within, number_at_place, kind_self, at_place, output_within}
+use Rattle.bloom_ast.proofs.Ends.Equated.{ends, end_solves, one_solution, length-at_end}
+use Rattle.bloom_ast.proofs.Collections.Numbers.{get-number, kind-number, derived_or, set-of_kind}
+use Rattle.bloom_ast.proofs.Collections.KindNumbersLemmas.{columns-of_kind, place_within, number_at_place, kind_self, at_place, output_within}
 use Rattle.row_laws.specs.Classes.{columns_at}
 use Rattle.row_laws.specs.Runs.{output_rows}
 use Rattle.row_laws.specs.Shards.{over_bucket, copied_rule, copied}

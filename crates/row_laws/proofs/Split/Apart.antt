@@ -42,24 +42,24 @@ use Rattle.bloom_ast.specs.Step.{Sets, set_at, union_of}
 use Rattle.bloom_ast.specs.Widths.{AreSetsOf}
 use Rattle.bloom_ast.specs.KindNumbers.{number_in_kind}
 use Rattle.bloom_ast.specs.Steps.{tables_after_steps, AreArrivals}
-use Rattle.bloom_ast.proofs.Ordering.{in_named}
-use Rattle.bloom_ast.proofs.ByCones.{IsBelow}
-use Rattle.bloom_ast.proofs.EquationsLemmas.{IsEnd, is_end}
-use Rattle.bloom_ast.proofs.PlainLemmas.{sorted_rows}
-use Rattle.bloom_ast.proofs.MomentaryLemmas.{now, port_now}
-use Rattle.bloom_ast.proofs.ReadsLemmas.{number_of, small_number, rules_named, rule_stands, IsRead, named_in}
-use Rattle.bloom_ast.proofs.KindNumbersLemmas.{number_at_place, at_place}
-use Rattle.bloom_ast.proofs.Levels.{neither}
+use Rattle.bloom_ast.proofs.Faults.Ordering.{in_named}
+use Rattle.bloom_ast.proofs.Reach.ByCones.{IsBelow}
+use Rattle.bloom_ast.proofs.Ends.EquationsLemmas.{IsEnd, is_end}
+use Rattle.bloom_ast.proofs.Reach.PlainLemmas.{sorted_rows}
+use Rattle.bloom_ast.proofs.Reach.MomentaryLemmas.{now, port_now}
+use Rattle.bloom_ast.proofs.Reach.ReadsLemmas.{number_of, small_number, rules_named, rule_stands, IsRead, named_in}
+use Rattle.bloom_ast.proofs.Collections.KindNumbersLemmas.{number_at_place, at_place}
+use Rattle.bloom_ast.proofs.Faults.Levels.{neither}
 use Rattle.path_annotate.specs.Copies.{IsCopyOf}
 use Rattle.path_annotate.specs.CopiesLaw.{query_roots}
 use Rattle.path_annotate.specs.Good.{good_tables}
 use Rattle.path_annotate.specs.Gates.{set_of_roots}
 use Rattle.path_annotate.specs.Roots.{Roots, root_at, roots_at}
 use Rattle.path_annotate.specs.Annotation.{rule_gate, rule_use}
-use Rattle.path_annotate.proofs.ModuleOrigins.{module_expressions}
-use Rattle.path_annotate.proofs.Using.{uses_by_cone}
-use Rattle.path_annotate.proofs.AttributesLemmas.{has_root, value_is, in_pairs, in_keys}
-use Rattle.path_annotate.proofs.GateSets.{sets_of, IsGated}
+use Rattle.path_annotate.proofs.Roots.ModuleOrigins.{module_expressions}
+use Rattle.path_annotate.proofs.Notes.Using.{uses_by_cone}
+use Rattle.path_annotate.proofs.Roots.AttributesLemmas.{has_root, value_is, in_pairs, in_keys}
+use Rattle.path_annotate.proofs.Notes.GateSets.{sets_of, IsGated}
 use Rattle.row_laws.specs.Classes.{columns_at, key_of, IsInClosure, Arriving, HasAll, AgreeOn, AreKeyed, of_class}
 use Rattle.row_laws.specs.Runs.{query_rows}
 use Rattle.row_laws.proofs.Split.Agreeing.{one_key}

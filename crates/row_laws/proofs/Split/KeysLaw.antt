@@ -19,13 +19,13 @@ use Rattle.bloom_ast.specs.ProgramStep.{empty_tables}
 use Rattle.bloom_ast.specs.Widths.{AreSetsOf}
 use Rattle.bloom_ast.specs.Steps.{tables_after_steps, AreArrivals}
 use Rattle.bloom_ast.specs.Proper.{IsProper, HasOwnColumns}
-use Rattle.bloom_ast.proofs.ProperLemmas.{module_own_columns, own_columns}
+use Rattle.bloom_ast.proofs.Reach.ProperLemmas.{module_own_columns, own_columns}
 use Rattle.path_annotate.specs.Copies.{IsCopyOf, HasOrigin}
 use Rattle.path_annotate.specs.Roots.{Roots}
 use Rattle.path_annotate.specs.Attributes.{value_in}
-use Rattle.path_annotate.proofs.AllOrigins.{outputs_origins}
-use Rattle.path_annotate.proofs.ModuleOrigins.{module_rules}
-use Rattle.path_annotate.proofs.AttributesLemmas.{value_is}
+use Rattle.path_annotate.proofs.Roots.AllOrigins.{outputs_origins}
+use Rattle.path_annotate.proofs.Roots.ModuleOrigins.{module_rules}
+use Rattle.path_annotate.proofs.Roots.AttributesLemmas.{value_is}
 use Rattle.row_laws.specs.Classes.{columns_at, key_of, of_class}
 use Rattle.row_laws.specs.Runs.{over_steps, rows_over}
 use Rattle.row_laws.specs.Splitting.{AreKeyColumns, RowsHaveKey, RulesKeepKeys, OutputsKeepKeys}

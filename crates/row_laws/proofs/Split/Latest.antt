@@ -25,12 +25,12 @@ use Rattle.bloom_ast.specs.Step.{Sets, set_at}
 use Rattle.bloom_ast.specs.StockSteps.{keys_in_order, has_key, is_latest, latest_kept, latest_out}
 use Rattle.bloom_ast.specs.Steps.{tables_after_steps}
 use Rattle.bloom_ast.specs.Proper.{HasOwnColumns}
-use Rattle.bloom_ast.proofs.StepsLemmas.{longer, one_more}
+use Rattle.bloom_ast.proofs.Ends.StepsLemmas.{longer, one_more}
 use Rattle.path_annotate.specs.Annotation.{latest_roots, key_set}
 use Rattle.path_annotate.specs.HeadRoots.{attribute_roots}
 use Rattle.path_annotate.specs.Roots.{root_at}
-use Rattle.path_annotate.proofs.Copying.{chosen}
-use Rattle.path_annotate.proofs.AttributesLemmas.{has_root, value_is, in_roots}
+use Rattle.path_annotate.proofs.Roots.Copying.{chosen}
+use Rattle.path_annotate.proofs.Roots.AttributesLemmas.{has_root, value_is, in_roots}
 use Rattle.row_laws.specs.Classes.{key_of, IsInClosure, Arriving, HasAll, AreKeyed, of_class}
 use Rattle.row_laws.specs.Runs.{output_rows}
 use Rattle.row_laws.proofs.Split.SplittingLemmas.{OutputsSplitByStep}

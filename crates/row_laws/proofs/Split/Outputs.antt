@@ -16,11 +16,11 @@ use Rattle.bloom_ast.specs.Form.{RuleForm, Accepted}
 use Rattle.bloom_ast.specs.Query.{Name}
 use Rattle.bloom_ast.specs.Step.{Sets, rules_at}
 use Rattle.bloom_ast.specs.Steps.{tables_after_steps}
-use Rattle.bloom_ast.proofs.ReadsLemmas.{rule_stands}
+use Rattle.bloom_ast.proofs.Reach.ReadsLemmas.{rule_stands}
 use Rattle.path_annotate.specs.declared.note.Note.{Note}
 use Rattle.path_annotate.specs.Annotation.{note_of, gate_of_output, rule_gate, rule_use}
 use Rattle.path_annotate.specs.Uses.{both_uses, all_uses}
-use Rattle.path_annotate.proofs.GateSets.{head_within}
+use Rattle.path_annotate.proofs.Notes.GateSets.{head_within}
 use Rattle.row_laws.specs.Classes.{IsInClosure, Arriving, AreKeyed, of_class}
 use Rattle.row_laws.specs.Splitting.{StepsSplit}
 use Rattle.row_laws.specs.Runs.{query_rows}

@@ -24,13 +24,13 @@ use Rattle.bloom_ast.specs.Query.Query.{base}
 use Rattle.bloom_ast.specs.Reads.{cone}
 use Rattle.bloom_ast.specs.Step.{Sets, union_of}
 use Rattle.bloom_ast.specs.Steps.{tables_after_steps, AreArrivals}
-use Rattle.bloom_ast.proofs.ByCones.{IsBelow}
-use Rattle.bloom_ast.proofs.EquationsLemmas.{from_union, in_union, port_end, from_table, table_kept, table_ruled, scratch_end, next_table}
-use Rattle.bloom_ast.proofs.ReadsLemmas.{number_of, rules_named, rule_stands, by_names, IsRead, reads}
-use Rattle.bloom_ast.proofs.StepsLemmas.{table_rows, nothing_kept, longer, one_more}
-use Rattle.bloom_ast.proofs.KindNumbersLemmas.{place_within, number_at_place}
+use Rattle.bloom_ast.proofs.Reach.ByCones.{IsBelow}
+use Rattle.bloom_ast.proofs.Ends.EquationsLemmas.{from_union, in_union, port_end, from_table, table_kept, table_ruled, scratch_end, next_table}
+use Rattle.bloom_ast.proofs.Reach.ReadsLemmas.{number_of, rules_named, rule_stands, by_names, IsRead, reads}
+use Rattle.bloom_ast.proofs.Ends.StepsLemmas.{table_rows, nothing_kept, longer, one_more}
+use Rattle.bloom_ast.proofs.Collections.KindNumbersLemmas.{place_within, number_at_place}
 use Rattle.path_annotate.specs.Annotation.{rule_gate, rule_use}
-use Rattle.path_annotate.proofs.GateSets.{IsGated, own_gated, other_gated}
+use Rattle.path_annotate.proofs.Notes.GateSets.{IsGated, own_gated, other_gated}
 use Rattle.row_laws.specs.Classes.{columns_at, key_of, IsInClosure, Arriving, AreKeyed, of_class}
 use Rattle.row_laws.specs.Runs.{query_rows}
 use Rattle.row_laws.specs.Splitting.{StepsSplit}

@@ -7,7 +7,7 @@ use Rattle.bloom_ast.specs.Checks.{IsChecked}
 use Rattle.bloom_ast.specs.Form.{Accepted}
 use Rattle.bloom_ast.specs.Query.{Name}
 use Rattle.bloom_ast.specs.Proper.{IsProper}
-use Rattle.bloom_ast.proofs.ProperLemmas.{own_columns}
+use Rattle.bloom_ast.proofs.Reach.ProperLemmas.{own_columns}
 use Rattle.path_annotate.specs.Annotation.{note_of, gate_of_output, rule_gate, rule_use}
 use Rattle.row_laws.specs.Runs.{query_rows, output_rows}
 use Rattle.row_laws.specs.Splitting.{SplitRules, SplitOutputs, AnswersByKey}

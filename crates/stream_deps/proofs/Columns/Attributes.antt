@@ -20,12 +20,12 @@ use Rattle.fd_closure.proofs.Within.{within-trans, within-refl, within-empty, wi
 use Rattle.bloom_ast.specs.Fits.{repeats}
 use Rattle.bloom_ast.specs.Query.{Name}
 use Rattle.bloom_ast.specs.Reads.{with_all}
-use Rattle.bloom_ast.proofs.Unfolding.{bit_if-lt, with_all-lt}
+use Rattle.bloom_ast.proofs.Reach.Unfolding.{bit_if-lt, with_all-lt}
 use Rattle.path_annotate.specs.Gates.{root_set, set_of_roots}
 use Rattle.path_annotate.specs.HeadRoots.{attribute_roots}
 use Rattle.path_annotate.specs.Roots.{Roots, root_at, are_same}
-use Rattle.path_annotate.proofs.Copying.{root-within}
-use Rattle.topo_types.proofs.OwnPorts.{distinct_places}
+use Rattle.path_annotate.proofs.Roots.Copying.{root-within}
+use Rattle.topo_types.proofs.Columns.OwnPorts.{distinct_places}
 use Rattle.topo_types.specs.Data.{place_of_attribute}
 use Rattle.topo_types.specs.Sets.{set_of_numbers}
 use Rattle.topo_types.specs.View.{Output, own_root}

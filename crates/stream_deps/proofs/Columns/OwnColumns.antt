@@ -21,7 +21,7 @@ use Rattle.path_annotate.specs.Roots.{Roots, root_at}
 use Rattle.topo_types.specs.Data.{place_of_attribute}
 use Rattle.stream_deps.proofs.Columns.Attributes.{first_place, one_place}
 use Rattle.bloom_ast.specs.Proper.{IsProper}
-use Rattle.bloom_ast.proofs.ProperLemmas.{own_columns}
+use Rattle.bloom_ast.proofs.Reach.ProperLemmas.{own_columns}
 
 -- the columns of each port are distinct
 pub port_distinct : (program : Program) → IsProper program → (p : ℕ) → repeats (get_or (port_columns program) p []) ≡ false

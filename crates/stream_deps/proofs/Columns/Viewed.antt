@@ -17,7 +17,7 @@ use Rattle.stream_deps.specs.Agreement.{port_roots}
 use Rattle.stream_deps.proofs.Columns.Attributes.{get_or-map_default}
 use Rattle.stream_deps.proofs.Streams.IntoPorts.{stream_into}
 use Rattle.bloom_ast.specs.Steps.{AreArrivals}
-use Rattle.bloom_ast.proofs.StockWidths.{wide_by_rows}
+use Rattle.bloom_ast.proofs.Ends.StockWidths.{wide_by_rows}
 
 -- ---- streams into ports
 

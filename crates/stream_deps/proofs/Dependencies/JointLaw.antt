@@ -18,14 +18,14 @@ use Rattle.path_annotate.specs.Gates.{set_of_roots}
 use Rattle.path_annotate.specs.HeadRoots.{attribute_roots}
 use Rattle.path_annotate.specs.Roots.{Roots, are_same}
 use Rattle.row_laws.specs.Classes.{columns_at, Arriving}
-use Rattle.path_annotate.proofs.AttributesLemmas.{in_roots}
+use Rattle.path_annotate.proofs.Roots.AttributesLemmas.{in_roots}
 use Rattle.topo_types.specs.Data.{Data, key_value, agree_on, has_both, place_of_attribute}
 use Rattle.topo_types.specs.Dependencies.{upholds, has_to_with_from, is_usable, usable_fds}
 use Rattle.topo_types.specs.Messages.{is_same_row}
 use Rattle.topo_types.specs.Sets.{below}
 use Rattle.topo_types.specs.Valid.{IsValid}
 use Rattle.topo_types.specs.View.{View, port_at, stream_at, port_attrs, stream_attrs, has_stream, streams_into, goes_to, program_of}
-use Rattle.topo_types.proofs.Spreading.{in_below}
+use Rattle.topo_types.proofs.Regions.Spreading.{in_below}
 use Rattle.inbox.specs.Executions.{Execution}
 use Rattle.inbox.proofs.MessagesLemmas.{is_same_row-is, is_same_row-itself}
 use Rattle.stream_deps.specs.Agreement.{port_roots, value_at, HaveSameValues, IsTraced}

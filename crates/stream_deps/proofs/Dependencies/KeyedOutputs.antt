@@ -14,7 +14,7 @@ use Rattle.topo_types.specs.Dependencies.{usable_fds}
 use Rattle.topo_types.specs.Sets.{below}
 use Rattle.topo_types.specs.Valid.{IsValid, IsCovered}
 use Rattle.topo_types.specs.View.{View, component_at, output_at, has_stream, note_at, port_attrs, port_numbers, program_of, ports_towards, streams_to}
-use Rattle.topo_types.proofs.Spreading.{in_below}
+use Rattle.topo_types.proofs.Regions.Spreading.{in_below}
 use Rattle.stream_deps.specs.Laws.{OutputKeyedLaw}
 use Rattle.stream_deps.specs.Agreement.{HaveKey}
 use Rattle.stream_deps.proofs.Streams.CarriedKeys.{stream_key_law, may_carry-is}

@@ -24,7 +24,7 @@ use Rattle.topo_types.specs.Messages.{row}
 use Rattle.topo_types.specs.Valid.{IsValid}
 use Rattle.topo_types.specs.View.{View, End, component_at, stream_at, output_at, origin_of, program_of, has_body, is_order, own_attrs, stream_attrs, stream_replicas, streams_into, source_count}
 use Rattle.topo_types.specs.Regions.{is_in_cycle}
-use Rattle.topo_types.proofs.OneLevel.{upholds_law}
+use Rattle.topo_types.proofs.Found.OneLevel.{upholds_law}
 use Rattle.inbox.specs.Wiring.{wiring_of}
 use Rattle.inbox.specs.Executions.{Execution, emitted_list}
 use Rattle.stream_deps.specs.Agreement.{port_roots, value_at, IsTraced, IsCopiedFrom, HaveSameValues}

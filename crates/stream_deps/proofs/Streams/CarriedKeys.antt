@@ -11,7 +11,7 @@ use Rattle.fd_closure.specs.Closure.{within, closure}
 use Rattle.fd_closure.proofs.Within.{within-trans}
 use Rattle.path_annotate.specs.Gates.{set_of_roots}
 use Rattle.path_annotate.specs.Roots.{Roots}
-use Rattle.path_annotate.proofs.Copying.{root-within}
+use Rattle.path_annotate.proofs.Roots.Copying.{root-within}
 use Rattle.topo_types.specs.declared.mode.Mode.{Mode}
 use Rattle.topo_types.specs.declared.mode.Mode.TheVariants.{Free, Pass, Seal, Order}
 use Rattle.topo_types.specs.Carried.{is_key, may_carry, allows_notes, streams_towards, carries_key, key_before, carries, port_carries}
@@ -21,9 +21,9 @@ use Rattle.topo_types.specs.Laws.{carries_next}
 use Rattle.topo_types.specs.Regions.{region_of, is_in_cycle}
 use Rattle.topo_types.specs.Valid.{IsValid}
 use Rattle.topo_types.specs.View.{View, End, origin_of, stream_at, port_at, output_at, own_attrs, component_at, mode_of, mode_key, is_order, is_order_mode, has_body, has_stream, goes_to, streams_to, ports_towards, stream_of, Output, own_root, stream_attrs}
-use Rattle.topo_types.proofs.Spreading.{both_true}
-use Rattle.topo_types.proofs.OneLevel.{carries_law}
-use Rattle.topo_types.proofs.Lower.{feeds_edge, lower_outside}
+use Rattle.topo_types.proofs.Regions.Spreading.{both_true}
+use Rattle.topo_types.proofs.Found.OneLevel.{carries_law}
+use Rattle.topo_types.proofs.Regions.Lower.{feeds_edge, lower_outside}
 use Rattle.inbox.specs.Emission.{output_key}
 use Rattle.inbox.specs.Wiring.{carried_places, instance_for}
 use Rattle.inbox.proofs.WiringLemmas.{get_or-below, length-below}

@@ -8,7 +8,7 @@ use Rattle.blz_value.proofs.Membership.{Has-filter, Has-from_filter, Has-from_an
 use Rattle.path_annotate.specs.Gates.{set_of_roots}
 use Rattle.topo_types.specs.Valid.{IsValid}
 use Rattle.topo_types.specs.View.{View, Stream, End, no_stream, origin_of, ends_of, stream_at, port_at, component_at, port_attrs, stream_attrs, has_stream, same_end, goes_to, goes_into, streams_to, streams_into, stream_numbers, stream_of}
-use Rattle.topo_types.proofs.Spreading.{in_below, from_below, both_true}
+use Rattle.topo_types.proofs.Regions.Spreading.{in_below, from_below, both_true}
 use Rattle.stream_deps.specs.Agreement.{port_roots}
 use Rattle.stream_deps.proofs.Columns.Attributes.{numbers_are_roots}
 

@@ -56,7 +56,7 @@ fn place_of(regions: &[u64], component: usize) -> Option<usize>
 }
 
 // The number of the region of a component.
-#[tactic(auto, using(crate::proofs::Positions::from_place))]
+#[tactic(auto, using(crate::proofs::Lists::Positions::from_place))]
 fn number_of(regions: &[u64], component: usize) -> u32
     requires { length regions.now ≤ 64 }
     ensures { result ≡ position_or_len (graph.is_in component) regions.now }
@@ -64,7 +64,7 @@ fn number_of(regions: &[u64], component: usize) -> u32
     place_of(regions, component).unwrap_or(regions.len()) as u32
 }
 
-#[tactic(auto, using(crate::proofs::Tables::below_more))]
+#[tactic(auto, using(crate::proofs::Lists::Tables::below_more))]
 fn numbers_of(alloc: Global, regions: &[u64], count: usize) -> Result<Vec<u32>, AllocError>
     requires { length regions.now ≤ 64 }
     ensures { IfOk result (λ numbers. numbers.items ≡ map (λ c. position_or_len (graph.is_in c) regions.now) (below count)) }
@@ -77,7 +77,7 @@ fn numbers_of(alloc: Global, regions: &[u64], count: usize) -> Result<Vec<u32>, 
 }
 
 /// The regions of a view.
-#[tactic(auto, using(crate::proofs::RegionsFound::few_found, crate::proofs::RegionsFound::regions_found, crate::proofs::RegionsFound::cyclic_found, crate::proofs::RegionsFound::cycles_found, crate::proofs::RegionsFound::numbers_found))]
+#[tactic(auto, using(crate::proofs::Regions::RegionsFound::few_found, crate::proofs::Regions::RegionsFound::regions_found, crate::proofs::Regions::RegionsFound::cyclic_found, crate::proofs::Regions::RegionsFound::cycles_found, crate::proofs::Regions::RegionsFound::numbers_found))]
 pub(crate) fn regions_of(alloc: Global, kept: &Kept) -> Result<Regions, AllocError>
     requires { spec.HasEnds (view_kept kept.now) }
     ensures regions { IfOk result (λ r. r.regions.items ≡ regions_spec.regions (view_kept kept.now)) }
@@ -101,7 +101,7 @@ pub(crate) fn regions_of(alloc: Global, kept: &Kept) -> Result<Regions, AllocErr
 }
 
 /// What is found of a view, of which these are the regions.
-#[tactic(auto, using(crate::proofs::AllFound::upheld_found, crate::proofs::AllFound::usable_found, crate::proofs::AllFound::carried_found))]
+#[tactic(auto, using(crate::proofs::Found::AllFound::upheld_found, crate::proofs::Found::AllFound::usable_found, crate::proofs::Found::AllFound::carried_found))]
 pub(crate) fn found_with(alloc: Global, kept: &Kept, regions: Regions) -> Result<Found, AllocError>
     requires ends { spec.HasEnds (view_kept kept.now) }
     requires regions { regions.regions.items ≡ regions_spec.regions (view_kept kept.now) }

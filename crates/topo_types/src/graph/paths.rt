@@ -213,7 +213,7 @@ fn path_of(alloc: Global, kept: &Kept, usable: &[u64], stream: usize) -> Result<
 }
 
 /// Each stream, as carried seals look at it.
-#[tactic(auto, using(crate::proofs::Tables::below_more))]
+#[tactic(auto, using(crate::proofs::Lists::Tables::below_more))]
 pub(crate) fn paths_of(alloc: Global, kept: &Kept, usable: &[u64]) -> Result<Vec<Path>, AllocError>
     ensures { IfOk result (λ paths. paths.items ≡ spec.paths_by (view_kept kept.now) usable.now) }
 {

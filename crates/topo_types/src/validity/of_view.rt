@@ -108,7 +108,7 @@ fn has_key(mode: Mode) -> bool
 }
 
 // Whether a component has the mode Pass or Seal in a cyclic region, told which components are in one.
-#[tactic(auto, using(crate::proofs::OfViewLemmas::cycle_at))]
+#[tactic(auto, using(crate::proofs::Faults::OfViewLemmas::cycle_at))]
 fn seals_in_cycle(kept: &Kept, cycles: &[bool], number: usize) -> bool
     requires within { number < length cycles.now }
     requires cycles { cycles.now ≡ map (is_in_cycle (view_kept kept.now)) (view.component_numbers (view_kept kept.now)) }

@@ -46,7 +46,7 @@ fn no_roots(alloc: Global, columns: &[Str]) -> Result<Vec<Option<u8>>, AllocErro
 }
 
 // The roots of the columns of an output.
-#[tactic(auto, using(crate::proofs::BuiltSites::output_within, crate::proofs::BuiltSites::stock_of))]
+#[tactic(auto, using(crate::proofs::Faults::BuiltSites::output_within, crate::proofs::Faults::BuiltSites::stock_of))]
 fn roots_with(
     alloc: Global,
     names: &AttrNames,
@@ -65,7 +65,7 @@ fn roots_with(
 }
 
 // The gate of an output.
-#[tactic(auto, using(crate::proofs::BuiltSites::output_within, crate::proofs::BuiltSites::stock_of))]
+#[tactic(auto, using(crate::proofs::Faults::BuiltSites::output_within, crate::proofs::Faults::BuiltSites::stock_of))]
 fn gate_with(
     alloc: Global,
     names: &AttrNames,
@@ -152,7 +152,7 @@ fn declared_note(names: &AttrNames, notes: &[Declared], port: &Str, output: &Str
 }
 
 /// The note that a body gives a path.
-#[tactic(auto, using(crate::proofs::BuiltSites::none_derived))]
+#[tactic(auto, using(crate::proofs::Faults::BuiltSites::none_derived))]
 pub(crate) fn derived_note(
     names: &AttrNames,
     site: &Site<'_>,

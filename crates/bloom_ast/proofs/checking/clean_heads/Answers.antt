@@ -1,6 +1,6 @@
 use Rattle.std.proofs.Common.{◌∙◌, sym, ap}
 use Rattle.bloom_ast.specs.Form.{form_of, rule_forms}
-use Rattle.bloom_ast.proofs.Whole.{checks_lent}
+use Rattle.bloom_ast.proofs.Faults.Whole.{checks_lent}
 use Rattle.bloom_ast.proofs.checking.clean_heads.Goals as goal
 
 pub returns : goal.returns

@@ -1,7 +1,7 @@
 use Rattle.std.proofs.Common.{arith}
 use Rattle.bloom_ast.specs.Form.{rule_forms}
-use Rattle.bloom_ast.proofs.Firsts.{place_small}
-use Rattle.bloom_ast.proofs.Forms.{length_rule_forms}
+use Rattle.bloom_ast.proofs.Faults.Firsts.{place_small}
+use Rattle.bloom_ast.proofs.Collections.Forms.{length_rule_forms}
 use Rattle.bloom_ast.proofs.checking.fault_in.Goals as goal
 
 pub kind_fault-requires-clause-collections : goal.kind_fault-requires-clause-collections

@@ -3,11 +3,11 @@ use Rattle.std.specs.declared.alloc.AllocError.{AllocError}
 use Rattle.bloom_ast.specs.declared.fault.ModuleFault.{ModuleFault}
 use Rattle.bloom_ast.specs.declared.fault.ModuleKind.TheVariants.{TooMany}
 use Rattle.bloom_ast.specs.declared.module.Collection.{Collection}
-use Rattle.bloom_ast.specs.declared.reads.Facts.{Facts}
+use Rattle.bloom_ast.specs.declared.checking.reads.Facts.{Facts}
 use Rattle.bloom_ast.specs.Code.Checking.{AreFew}
 use Rattle.bloom_ast.specs.Faults.{kind_fault}
 use Rattle.bloom_ast.specs.Form.{RuleForm, rule_forms}
-use Rattle.bloom_ast.proofs.Firsts.{collection_small, rule_small, few_from}
+use Rattle.bloom_ast.proofs.Faults.Firsts.{collection_small, rule_small, few_from}
 use Rattle.bloom_ast.proofs.checking.size_fault.Goals as goal
 
 few_ok : (cs : List Collection) (f : Facts) (rules : List RuleForm) (r : Result (Option ModuleFault) AllocError) → IfOk r (λ fault. fault ≡ kind_fault f TooMany cs rules) → IfOk r (λ fault. AreFew cs rules fault)

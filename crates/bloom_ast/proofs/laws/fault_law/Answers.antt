@@ -1,4 +1,4 @@
-use Rattle.bloom_ast.proofs.FirstFaultLemmas.{fault_same}
+use Rattle.bloom_ast.proofs.Faults.FirstFaultLemmas.{fault_same}
 use Rattle.bloom_ast.proofs.laws.fault_law.Goals as goal
 
 pub returns : goal.returns

@@ -1,4 +1,4 @@
-use Rattle.bloom_ast.proofs.OverTables.{steps_same}
+use Rattle.bloom_ast.proofs.Ends.OverTables.{steps_same}
 use Rattle.bloom_ast.proofs.laws.order_law.Goals as goal
 
 pub returns : goal.returns

@@ -1,4 +1,4 @@
-use Rattle.bloom_ast.proofs.Unfolding.{cone_unfolds, cone_folds, direct_unfolds, direct_folds, momentary_unfolds, momentary_folds}
+use Rattle.bloom_ast.proofs.Reach.Unfolding.{cone_unfolds, cone_folds, direct_unfolds, direct_folds, momentary_unfolds, momentary_folds}
 use Rattle.bloom_ast.proofs.laws.reads_law.Goals as goal
 
 pub returns-clause-cone : goal.returns-clause-cone

@@ -1,5 +1,5 @@
-use Rattle.bloom_ast.proofs.Standing.{module_stands}
-use Rattle.bloom_ast.proofs.StockStanding.{split_stands, latest_stands, number_stands}
+use Rattle.bloom_ast.proofs.Ends.Standing.{module_stands}
+use Rattle.bloom_ast.proofs.Ends.StockStanding.{split_stands, latest_stands, number_stands}
 use Rattle.bloom_ast.proofs.laws.standing_law.Goals as goal
 
 pub returns-clause-modules : goal.returns-clause-modules

@@ -1,5 +1,5 @@
 use Rattle.bloom_ast.specs.declared.module.Kind.TheVariants.{Output, Table}
-use Rattle.bloom_ast.proofs.Equated.{end_solves, one_solution, set-made}
+use Rattle.bloom_ast.proofs.Ends.Equated.{end_solves, one_solution, set-made}
 use Rattle.bloom_ast.proofs.laws.step_law.Goals as goal
 
 pub returns-clause-solved : goal.returns-clause-solved

@@ -1,4 +1,4 @@
-use Rattle.bloom_ast.proofs.OverTables.{over_solved, end_over}
+use Rattle.bloom_ast.proofs.Ends.OverTables.{over_solved, end_over}
 use Rattle.bloom_ast.proofs.laws.tables_law.Goals as goal
 
 pub returns-clause-over : goal.returns-clause-over

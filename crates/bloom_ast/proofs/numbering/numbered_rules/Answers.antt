@@ -2,8 +2,8 @@ use Rattle.std.proofs.Common.{◌+◌, ◌++◌, ◌∷◌, [], take, List, sym,
 use Rattle.bloom_ast.specs.declared.numbered.NumberedRule.{NumberedRule}
 use Rattle.bloom_ast.specs.Form.{RuleForm, rule_form, rule_forms}
 use Rattle.bloom_ast.specs.Numbered.{AreNumbered}
-use Rattle.bloom_ast.proofs.Forms.{rule_in, rules_more}
-use Rattle.bloom_ast.proofs.NameNumbers.{numbered_more}
+use Rattle.bloom_ast.proofs.Collections.Forms.{rule_in, rules_more}
+use Rattle.bloom_ast.proofs.Collections.NameNumbers.{numbered_more}
 use Rattle.bloom_ast.proofs.numbering.numbered_rules.Goals as goal
 
 pub numbered_rule-requires-clause-numberable : goal.numbered_rule-requires-clause-numberable

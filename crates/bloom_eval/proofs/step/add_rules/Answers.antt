@@ -6,7 +6,7 @@ use Rattle.bloom_ast.specs.Step.{rows_named, rules_at}
 use Rattle.bloom_eval.specs.Code.Held.{sets_in}
 use Rattle.bloom_eval.specs.Code.Counted.{Adds}
 use Rattle.bloom_eval.proofs.ByNumbers.{tests_fit}
-use Rattle.bloom_eval.proofs.Evaluation.{handed_on}
+use Rattle.blz_set.proofs.Unions.{handed_on}
 use Rattle.bloom_eval.proofs.Rules.{adds_none, adds_one, first_refused, form_at, own_rule, other_rule, none_from, adds_named}
 use Rattle.bloom_eval.proofs.Widths.{wide_named}
 use Rattle.bloom_eval.proofs.step.add_rules.Goals as goal

@@ -1,4 +1,4 @@
-use Rattle.bloom_parse.proofs.BoundsLaw.{bounds_law}
+use Rattle.bloom_parse.proofs.Printed.BoundsLaw.{bounds_law}
 use Rattle.bloom_parse.proofs.laws.bounds_law.Goals as goal
 
 pub returns : goal.returns

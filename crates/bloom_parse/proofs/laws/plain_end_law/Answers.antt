@@ -1,4 +1,4 @@
-use Rattle.bloom_parse.proofs.PlainEndLaw.{completed}
+use Rattle.bloom_parse.proofs.Machine.PlainEndLaw.{completed}
 use Rattle.bloom_parse.proofs.laws.plain_end_law.Goals as goal
 
 pub returns : goal.returns

@@ -1,4 +1,4 @@
-use Rattle.bloom_parse.proofs.PrintLaw.{printed_again, printed_text}
+use Rattle.bloom_parse.proofs.Printed.PrintLaw.{printed_again, printed_text}
 use Rattle.bloom_parse.proofs.laws.print_law.Goals as goal
 
 pub returns : goal.returns

@@ -1,7 +1,7 @@
 use Rattle.std.proofs.Common.{◌≡◌, arith}
 use Rattle.std.proofs.lemmas.Grind.{common_steps}
 use Rattle.bloom_parse.specs.Layout.{printed}
-use Rattle.bloom_parse.proofs.PrintableLemmas.{checked_text}
+use Rattle.bloom_parse.proofs.Printed.PrintableLemmas.{checked_text}
 use Rattle.bloom_parse.proofs.printer.print.Goals as goal
 
 pub returns-clause-read_again : goal.returns-clause-read_again

@@ -1,5 +1,5 @@
 use Rattle.std.proofs.Common.{arith}
-use Rattle.bloom_parse.proofs.PrintLemmas.{collection_part, collections_flat, written_all}
+use Rattle.bloom_parse.proofs.Printed.PrintLemmas.{collection_part, collections_flat, written_all}
 use Rattle.bloom_parse.proofs.printer.push_collections.Goals as goal
 
 pub returns : goal.returns

@@ -1,5 +1,5 @@
 use Rattle.std.proofs.Common.{arith}
-use Rattle.bloom_parse.proofs.PrintLemmas.{item_part, items_flat, written_all}
+use Rattle.bloom_parse.proofs.Printed.PrintLemmas.{item_part, items_flat, written_all}
 use Rattle.bloom_parse.proofs.printer.push_more_items.Goals as goal
 
 pub returns : goal.returns

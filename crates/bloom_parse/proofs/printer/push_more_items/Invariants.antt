@@ -1,7 +1,7 @@
 -- what was written so far
 use Rattle.std.proofs.Common.{◌≡◌, ◌++◌, take}
 use Rattle.std.specs.List.{flat_map}
-use Rattle.bloom_parse.proofs.PrintLemmas.{item_part}
+use Rattle.bloom_parse.proofs.Printed.PrintLemmas.{item_part}
 use Rattle.bloom_parse.proofs.printer.push_more_items.Given as goal
 
 abbrev pub invariant-loop-item : goal.invariant-loop-item

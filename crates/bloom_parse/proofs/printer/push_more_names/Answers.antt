@@ -1,5 +1,5 @@
 use Rattle.std.proofs.Common.{arith}
-use Rattle.bloom_parse.proofs.PrintLemmas.{name_part, names_flat, written_all}
+use Rattle.bloom_parse.proofs.Printed.PrintLemmas.{name_part, names_flat, written_all}
 use Rattle.bloom_parse.proofs.printer.push_more_names.Goals as goal
 
 pub returns : goal.returns

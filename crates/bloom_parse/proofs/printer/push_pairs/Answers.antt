@@ -1,5 +1,5 @@
 use Rattle.std.proofs.Common.{arith}
-use Rattle.bloom_parse.proofs.PrintLemmas.{pair_part, pairs_flat, written_all}
+use Rattle.bloom_parse.proofs.Printed.PrintLemmas.{pair_part, pairs_flat, written_all}
 use Rattle.bloom_parse.proofs.printer.push_pairs.Goals as goal
 
 pub returns : goal.returns

@@ -1,7 +1,7 @@
 -- what was written so far
 use Rattle.std.proofs.Common.{◌≡◌, ◌++◌, take}
 use Rattle.std.specs.List.{flat_map}
-use Rattle.bloom_parse.proofs.PrintLemmas.{pair_part}
+use Rattle.bloom_parse.proofs.Printed.PrintLemmas.{pair_part}
 use Rattle.bloom_parse.proofs.printer.push_pairs.Given as goal
 
 abbrev pub invariant-loop-left : goal.invariant-loop-left

@@ -1,5 +1,5 @@
 use Rattle.std.proofs.Common.{arith}
-use Rattle.bloom_parse.proofs.PrintLemmas.{whole_rule_part, rules_flat, written_all}
+use Rattle.bloom_parse.proofs.Printed.PrintLemmas.{whole_rule_part, rules_flat, written_all}
 use Rattle.bloom_parse.proofs.printer.push_rules.Goals as goal
 
 pub returns : goal.returns

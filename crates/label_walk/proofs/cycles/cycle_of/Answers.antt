@@ -1,6 +1,6 @@
 -- The region with the component's number is the component's.
 use Rattle.std.proofs.Common.{sym, ◌∙◌}
-use Rattle.label_walk.proofs.RegionNumbers.{is_cycle_of, no_cycle}
+use Rattle.label_walk.proofs.Labelling.RegionNumbers.{is_cycle_of, no_cycle}
 use Rattle.label_walk.proofs.cycles.cycle_of.Goals as goal
 
 pub returns-then-is_cyclic : goal.returns-then-is_cyclic

@@ -2,7 +2,7 @@
 use Rattle.std.proofs.Common.{◌≡◌, ℕ, nat_lt, false, ap, rules, ◌∙◌}
 use Rattle.topo_types.specs.View.{is_order}
 use Rattle.label_walk.specs.Labels.{as_carried}
-use Rattle.label_walk.proofs.RemadeLemmas.{alone_is}
+use Rattle.label_walk.proofs.Labelling.RemadeLemmas.{alone_is}
 use Rattle.label_walk.proofs.region_walk.alone_label.Goals as goal
 
 pub returns : goal.returns

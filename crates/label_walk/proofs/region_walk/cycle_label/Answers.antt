@@ -2,7 +2,7 @@
 use Rattle.std.proofs.Common.{◌≡◌, true, Some, ap, rules, ◌∙◌}
 use Rattle.topo_types.specs.Regions.{is_cyclic}
 use Rattle.label_rules.specs.declared.label.Label.{Label}
-use Rattle.label_walk.proofs.RemadeLemmas.{cycle_is_some}
+use Rattle.label_walk.proofs.Labelling.RemadeLemmas.{cycle_is_some}
 use Rattle.label_walk.proofs.region_walk.cycle_label.Goals as goal
 
 pub returns : goal.returns

@@ -1,7 +1,7 @@
 -- All regions were gone through.
 use Rattle.std.proofs.Common.{◌≡◌, length, arith, ◌∙◌}
 use Rattle.topo_types.specs.Regions.{regions}
-use Rattle.label_walk.proofs.RemadeLemmas.{walked}
+use Rattle.label_walk.proofs.Labelling.RemadeLemmas.{walked}
 use Rattle.label_walk.proofs.region_walk.labels.Goals as goal
 
 pub returns : goal.returns

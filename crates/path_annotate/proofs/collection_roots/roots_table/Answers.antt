@@ -3,10 +3,10 @@ use Rattle.std.specs.List.{fold}
 use Rattle.std.proofs.lemmas.List.{drop_more}
 use Rattle.blz_value.specs.Members.{Has}
 use Rattle.blz_value.proofs.Membership.{Has-get_or}
-use Rattle.bloom_ast.proofs.Numbers.{get-within}
+use Rattle.bloom_ast.proofs.Collections.Numbers.{get-within}
 use Rattle.path_annotate.specs.HeadRoots.{head_roots, with_head_roots}
 use Rattle.path_annotate.specs.Roots.{Roots}
-use Rattle.path_annotate.proofs.ByNumberCorrect.{head-same}
+use Rattle.path_annotate.proofs.ByNumber.ByNumberCorrect.{head-same}
 use Rattle.path_annotate.proofs.collection_roots.roots_table.Goals as goal
 
 pub take_head-requires : goal.take_head-requires

@@ -1,4 +1,4 @@
-use Rattle.path_annotate.proofs.GoodTables.{good_by_rules, only_tables_are_good, good_by_closure, reads_good_by_closure}
+use Rattle.path_annotate.proofs.Reach.GoodTables.{good_by_rules, only_tables_are_good, good_by_closure, reads_good_by_closure}
 use Rattle.path_annotate.proofs.laws.good_law.Goals as goal
 
 pub returns-clause-recursion : goal.returns-clause-recursion

@@ -1,11 +1,11 @@
 use Rattle.std.proofs.Common.{◌≡◌, ◌∙◌, map, ap, subst}
 use Rattle.std.specs.Prelude.{IfOk}
 use Rattle.bloom_ast.specs.Form.{Form}
-use Rattle.bloom_ast.proofs.Small as small
+use Rattle.bloom_ast.proofs.Collections.Small as small
 use Rattle.path_annotate.specs.declared.readings.Readings.{Readings}
 use Rattle.path_annotate.specs.Code.ByNumber.{facts_by}
 use Rattle.path_annotate.specs.Code.Readings.{readings_from}
-use Rattle.path_annotate.proofs.ReadingsCorrect.{facts-same, readings-same}
+use Rattle.path_annotate.proofs.Reach.ReadingsCorrect.{facts-same, readings-same}
 use Rattle.path_annotate.proofs.readings.readings_of.Goals as goal
 
 pub returns : goal.returns

@@ -2,7 +2,7 @@ use Rattle.std.proofs.Common.{◌≡◌, ℕ, cond, Bor, ◌+◌, Some, is_some,
 use Rattle.std.specs.BTreeMap.{BTreeMap, get, is_at}
 use Rattle.bloom_ast.specs.Query.{Name}
 use Rattle.topo_types.specs.Code.Index.{name_cmp, Places}
-use Rattle.topo_types.proofs.IndexLemmas.{shown, place_stays, place_grows}
+use Rattle.topo_types.proofs.Views.IndexLemmas.{shown, place_stays, place_grows}
 use Rattle.topo_types.proofs.index.places_of.Goals.{then-not-contains_key+in_ok-copy+in_ok-insert, else-not-contains_key}
 use Rattle.topo_types.proofs.index.places_of.Goals as goal
 

@@ -8,9 +8,9 @@ use Rattle.topo_types.specs.declared.topology.Topology.{Topology}
 use Rattle.topo_types.specs.Valid.{AreModules, IsWhole, Validated}
 use Rattle.topo_types.specs.Validity.{fault_of}
 use Rattle.topo_types.specs.ViewOf.{view_of}
-use Rattle.topo_types.proofs.ViewBounds.{view_bounded}
-use Rattle.topo_types.proofs.ValidatingLemmas as lemmas
-use Rattle.topo_types.proofs.WholeLemmas as lemmas'
+use Rattle.topo_types.proofs.Views.ViewBounds.{view_bounded}
+use Rattle.topo_types.proofs.Faults.ValidatingLemmas as lemmas
+use Rattle.topo_types.proofs.Faults.WholeLemmas as lemmas'
 use Rattle.topo_types.proofs.validation.valid_of.Goals as goal
 
 pub parts_of-requires-clause-built : goal.parts_of-requires-clause-built

@@ -4,7 +4,7 @@ use Rattle.topo_types.specs.declared.fault.ValidFault.{ValidFault}
 use Rattle.topo_types.specs.declared.topology.ComponentEntry.{ComponentEntry}
 use Rattle.topo_types.specs.Code.Built.{sites_seen}
 use Rattle.topo_types.specs.Sites.{sites_of}
-use Rattle.topo_types.proofs.ValidatingLemmas.{as_many, names_answer}
+use Rattle.topo_types.proofs.Faults.ValidatingLemmas.{as_many, names_answer}
 use Rattle.topo_types.proofs.validation.validate.Goals as goal
 
 pub names_of-requires : goal.names_of-requires

@@ -4,7 +4,7 @@ use Rattle.bloom_ast.specs.declared.module.Collection.{Collection}
 use Rattle.bloom_ast.specs.Form.{RuleForm, form_of, rule_forms}
 use Rattle.bloom_ast.specs.Lookup.{declared}
 use Rattle.bloom_ast.specs.Numbered.{IsNumberable}
-use Rattle.bloom_ast.proofs.NameNumbers.{rules_numberable}
+use Rattle.bloom_ast.proofs.Collections.NameNumbers.{rules_numberable}
 use Rattle.bloom_ast.proofs.checked.Checked.new.Goals as goal
 
 pub numbered_rules-requires-clause-numberable : goal.numbered_rules-requires-clause-numberable

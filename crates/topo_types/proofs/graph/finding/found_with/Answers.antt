@@ -9,7 +9,7 @@ use Rattle.topo_types.specs.Kept.{view_kept}
 use Rattle.topo_types.specs.Regions.{regions, region_of, is_cyclic}
 use Rattle.topo_types.specs.Sets.{below}
 use Rattle.topo_types.specs.View.{component_numbers, stream_numbers}
-use Rattle.topo_types.proofs.AllFound.{upheld_found, usable_found, carried_found}
+use Rattle.topo_types.proofs.Found.AllFound.{upheld_found, usable_found, carried_found}
 use Rattle.topo_types.proofs.graph.finding.found_with.Goals as goal
 
 pub returns : goal.returns

@@ -5,7 +5,7 @@ use Rattle.topo_types.specs.Graph.{is_in}
 use Rattle.topo_types.specs.Kept.{view_kept}
 use Rattle.topo_types.specs.Regions.{regions}
 use Rattle.topo_types.specs.Sets.{below}
-use Rattle.topo_types.proofs.RegionsFound.{few_found, regions_found, cycles_found, numbers_found}
+use Rattle.topo_types.proofs.Regions.RegionsFound.{few_found, regions_found, cycles_found, numbers_found}
 use Rattle.topo_types.proofs.graph.finding.regions_of.Goals as goal
 
 pub numbers_of-requires : goal.numbers_of-requires

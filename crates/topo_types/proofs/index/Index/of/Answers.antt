@@ -1,7 +1,7 @@
 use Rattle.std.proofs.Common.{◌≡◌, ◌∙◌, List, map, length, subst, ap}
 use Rattle.bloom_ast.specs.Query.{Name}
 use Rattle.topo_types.specs.Code.Index.{Places}
-use Rattle.topo_types.proofs.IndexLemmas.{index_of}
+use Rattle.topo_types.proofs.Views.IndexLemmas.{index_of}
 use Rattle.topo_types.proofs.index.Index.of.Goals as goal
 
 pub returns : goal.returns

@@ -3,7 +3,7 @@ use Rattle.topo_types.specs.Kept.{view_kept}
 use Rattle.topo_types.specs.Modes.{topology_with_mode}
 use Rattle.topo_types.specs.Valid.{Validated}
 use Rattle.topo_types.specs.View.{with_mode}
-use Rattle.topo_types.proofs.NextWhole as lemmas
+use Rattle.topo_types.proofs.Modes.NextWhole as lemmas
 use Rattle.topo_types.proofs.valid.Valid.with_mode.Goals as goal
 
 pub topology_with_mode-requires-clause-within : goal.topology_with_mode-requires-clause-within

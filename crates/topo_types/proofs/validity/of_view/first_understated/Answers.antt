@@ -1,5 +1,5 @@
-use Rattle.topo_types.proofs.BuiltSites.{built_item}
-use Rattle.topo_types.proofs.OfViewLemmas.{known_item}
+use Rattle.topo_types.proofs.Faults.BuiltSites.{built_item}
+use Rattle.topo_types.proofs.Faults.OfViewLemmas.{known_item}
 use Rattle.topo_types.proofs.validity.of_view.first_understated.Goals as goal
 
 pub is_understated-requires-clause-built : goal.is_understated-requires-clause-built

@@ -1,6 +1,6 @@
 use Rattle.std.proofs.Common.{◌≡◌, List, subst, IfOk}
 use Rattle.bloom_ast.specs.Query.{Name}
-use Rattle.topo_types.proofs.BodyColumns.{key_names}
+use Rattle.topo_types.proofs.Columns.BodyColumns.{key_names}
 use Rattle.topo_types.proofs.view.bodies.columns_of_keys.Goals as goal
 
 pub returns : goal.returns

@@ -1,6 +1,6 @@
 use Rattle.std.proofs.Common.{◌≡◌, List, subst, IfOk}
 use Rattle.bloom_ast.specs.Query.{Name}
-use Rattle.topo_types.proofs.BodyColumns.{without}
+use Rattle.topo_types.proofs.Columns.BodyColumns.{without}
 use Rattle.topo_types.proofs.view.bodies.columns_without.Goals as goal
 
 pub returns : goal.returns

@@ -1,4 +1,4 @@
-use Rattle.topo_types.proofs.BuiltSites.{built_item}
+use Rattle.topo_types.proofs.Faults.BuiltSites.{built_item}
 use Rattle.topo_types.proofs.view.components.components_of.Goals as goal
 
 pub component_of-requires : goal.component_of-requires

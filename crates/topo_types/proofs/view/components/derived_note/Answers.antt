@@ -1,6 +1,6 @@
 use Rattle.std.proofs.Common.{◌∙◌}
 use Rattle.topo_types.specs.Code.Built.{site_seen}
-use Rattle.topo_types.proofs.BuiltSites.{notes_port, notes_output, notes_note}
+use Rattle.topo_types.proofs.Faults.BuiltSites.{notes_port, notes_output, notes_note}
 use Rattle.topo_types.proofs.view.components.derived_note.Goals as goal
 
 pub at-requires-clause-port : goal.at-requires-clause-port

@@ -1,4 +1,4 @@
-use Rattle.topo_types.proofs.Remoding.{remade}
+use Rattle.topo_types.proofs.Modes.Remoding.{remade}
 use Rattle.topo_types.proofs.view.modes.components_with_mode.Goals as goal
 
 pub returns : goal.returns

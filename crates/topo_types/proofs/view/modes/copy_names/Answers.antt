@@ -1,7 +1,7 @@
 use Rattle.std.proofs.Common.{◌≡◌, ◌∙◌, nat_le, List, [], length, ap}
 use Rattle.bloom_ast.specs.Query.{Name}
 use Rattle.topo_types.specs.Attributes.{with_columns}
-use Rattle.topo_types.proofs.Remoding.{copied_names, names_fit}
+use Rattle.topo_types.proofs.Modes.Remoding.{copied_names, names_fit}
 use Rattle.topo_types.proofs.view.modes.copy_names.Goals as goal
 
 pub returns : goal.returns

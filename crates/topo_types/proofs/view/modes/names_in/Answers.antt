@@ -1,6 +1,6 @@
 use Rattle.std.proofs.Common.{◌≡◌, List, subst, IfOk}
 use Rattle.bloom_ast.specs.Query.{Name}
-use Rattle.topo_types.proofs.Remoding.{key_names}
+use Rattle.topo_types.proofs.Modes.Remoding.{key_names}
 use Rattle.topo_types.proofs.view.modes.names_in.Goals as goal
 
 pub returns : goal.returns

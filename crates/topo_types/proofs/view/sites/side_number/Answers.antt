@@ -1,4 +1,4 @@
-use Rattle.topo_types.proofs.Positions.{side_place}
+use Rattle.topo_types.proofs.Lists.Positions.{side_place}
 use Rattle.topo_types.proofs.view.sites.side_number.Goals as goal
 
 pub returns-clause-number : goal.returns-clause-number

@@ -1,4 +1,4 @@
-use Rattle.topo_types.proofs.Positions.{site_place}
+use Rattle.topo_types.proofs.Lists.Positions.{site_place}
 use Rattle.topo_types.proofs.view.sites.site_number.Goals as goal
 
 pub returns-clause-number : goal.returns-clause-number

@@ -1,0 +1,5 @@
+-- What rules read, and the good tables.
+pub mod Behind
+pub mod ClosedFormsLemmas
+pub mod GoodTables
+pub mod ReadingsCorrect

@@ -1,0 +1,5 @@
+-- Worked topologies.
+pub mod WordCount
+pub mod Gossip
+pub mod Refusals
+pub mod WorkedFeeds

@@ -1,4 +1,4 @@
 pub mod Machine
-pub mod Reading
+pub mod Grammar
 pub mod Printed
 pub mod Tokens

@@ -1,4 +1,4 @@
-pub mod Notes
+pub mod Combining
 pub mod Reach
-pub mod Roots
+pub mod Copies
 pub mod ByNumber

@@ -8,8 +8,8 @@ use Rattle.bloom_parse.specs.Places.{IsModuleText, NoneGoesOn, IsFault}
 use Rattle.bloom_parse.specs.declared.reading.read_fault.ReadFault.TheVariants as faults
 use Rattle.bloom_parse.specs.Code.ReadPlaces.{IsPlace}
 use Rattle.bloom_parse.proofs.Machine.Machine.{Sym, State, step, run, closing, closes}
-use Rattle.bloom_parse.proofs.Reading.ModuleCorrect.{whole, IsRead, ReadsModule, module_reads}
-use Rattle.bloom_parse.proofs.Reading.ModuleComplete.{text_again}
+use Rattle.bloom_parse.proofs.Grammar.ModuleCorrect.{whole, IsRead, ReadsModule, module_reads}
+use Rattle.bloom_parse.proofs.Grammar.ModuleComplete.{text_again}
 
 -- ---- where the machine stops, and in which state
 

@@ -14,7 +14,7 @@ use Rattle.bloom_parse.specs.declared.lexing.terminal.Word.{Word}
 use Rattle.bloom_parse.specs.declared.lexing.terminal.Word.TheVariants as words
 use Rattle.std.specs.Prelude.{pos}
 use Rattle.bloom_parse.proofs.Machine.Machine.{Sym, State, step, run, a, closing, closes}
-use Rattle.bloom_parse.proofs.Reading.ModuleCorrect.{whole}
+use Rattle.bloom_parse.proofs.Grammar.ModuleCorrect.{whole}
 use Rattle.bloom_parse.proofs.Machine.PlacesCorrect.{text_goes, accepted, not_both}
 
 -- the state of the machine behind a front that it takes

@@ -18,8 +18,8 @@ use Rattle.bloom_parse.specs.Laws.{BoundsLaw}
 use Rattle.bloom_parse.specs.Layout.{Levels, levels, item_of, tree_of, rule_tree}
 use Rattle.bloom_parse.specs.Trees.{UnitTree, AndsTree, OrsTree, Item, ExprTree, word, mark, unit_text, ands_text, ors_text, item_text, more_items_text, more_pairs_text, keys_text, agg_text, unit_size, ands_size, ors_size, UnitFits, AndsFit, OrsFit, expr_text, expr_query, ExprFits}
 use Rattle.bloom_parse.proofs.Printed.BoundsLemmas.{levels_count, tree_fits, low}
-use Rattle.bloom_parse.proofs.Reading.ExprComplete.{expr_again}
-use Rattle.bloom_parse.proofs.Reading.ExprCorrect.{IsExpr, ReadsExpr, expr_reads}
+use Rattle.bloom_parse.proofs.Grammar.ExprComplete.{expr_again}
+use Rattle.bloom_parse.proofs.Grammar.ExprCorrect.{IsExpr, ReadsExpr, expr_reads}
 use Rattle.bloom_parse.proofs.Machine.Machine.{Sym, State, run}
 use Rattle.bloom_parse.proofs.Machine.MachineLemmas.{ands_go, ors_go}
 use Rattle.bloom_parse.proofs.Printed.TreesLemmas.{flat_select, flat_project, flat_join, flat_notin, flat_group, flat_at_least}

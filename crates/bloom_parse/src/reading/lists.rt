@@ -57,7 +57,7 @@ fn pair(alloc: Global, terminals: &[Terminal]) -> Result<((Str, Str), &[Terminal
 }
 
 /// The first item, the items behind commas, and the terminals behind them.
-#[tactic(auto, using(crate::proofs::Reading::RepeatLemmas::many_open, crate::proofs::Reading::RepeatLemmas::many_ended))]
+#[tactic(auto, using(crate::proofs::Grammar::RepeatLemmas::many_open, crate::proofs::Grammar::RepeatLemmas::many_ended))]
 pub(crate) fn items(alloc: Global, first: (Str, Str), terminals: &[Terminal]) -> PairsRead<'_>
     ensures { Gives (λ x. (x.0.items, x.1.now)) result (items_at first terminals.now) }
 {
@@ -76,7 +76,7 @@ pub(crate) fn items(alloc: Global, first: (Str, Str), terminals: &[Terminal]) ->
 }
 
 /// The pairs behind commas, and the terminals behind them.
-#[tactic(auto, using(crate::proofs::Reading::RepeatLemmas::many_open, crate::proofs::Reading::RepeatLemmas::many_ended))]
+#[tactic(auto, using(crate::proofs::Grammar::RepeatLemmas::many_open, crate::proofs::Grammar::RepeatLemmas::many_ended))]
 pub(crate) fn pairs(alloc: Global, terminals: &[Terminal]) -> PairsRead<'_>
     ensures { Gives (λ x. (x.0.items, x.1.now)) result (pairs_at terminals.now) }
 {
@@ -94,7 +94,7 @@ pub(crate) fn pairs(alloc: Global, terminals: &[Terminal]) -> PairsRead<'_>
 }
 
 /// The first name, the names behind commas, and the terminals behind them.
-#[tactic(auto, using(crate::proofs::Reading::RepeatLemmas::many_open, crate::proofs::Reading::RepeatLemmas::many_ended))]
+#[tactic(auto, using(crate::proofs::Grammar::RepeatLemmas::many_open, crate::proofs::Grammar::RepeatLemmas::many_ended))]
 pub(crate) fn names(alloc: Global, first: Str, terminals: &[Terminal]) -> NamesRead<'_>
     ensures { Gives (λ x. (x.0.items, x.1.now)) result (names_at first terminals.now) }
 {

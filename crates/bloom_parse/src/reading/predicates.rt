@@ -126,7 +126,7 @@ fn summed(alloc: Global, sum: Option<Pred>, product: Pred) -> Result<Pred, ReadF
 }
 
 #[cycle(predicates)]
-#[tactic(auto, using(crate::proofs::Reading::PredicateCorrect::chain_open, crate::proofs::Reading::PredicateCorrect::chain_ended))]
+#[tactic(auto, using(crate::proofs::Grammar::PredicateCorrect::chain_open, crate::proofs::Grammar::PredicateCorrect::chain_ended))]
 fn chain(alloc: Global, room: u32, left: u32, first: Pred, terminals: &[Terminal]) -> PredRead<'_>
     ensures { Gives (λ x. (formula_of x.0, x.1, x.2.now)) result (chain_at (unit_at room) 31 left None (formula_of first) terminals.now) }
 {

@@ -65,7 +65,7 @@ fn collection(alloc: Global, terminals: &[Terminal]) -> CollectionRead<'_>
     }
 }
 
-#[tactic(auto, using(crate::proofs::Reading::RepeatLemmas::many_open, crate::proofs::Reading::RepeatLemmas::many_ended))]
+#[tactic(auto, using(crate::proofs::Grammar::RepeatLemmas::many_open, crate::proofs::Grammar::RepeatLemmas::many_ended))]
 fn collections(alloc: Global, terminals: &[Terminal]) -> CollectionsRead<'_>
     ensures { Gives (λ x. (x.0.items, x.1.now)) result (collections_at terminals.now) }
 {
@@ -93,7 +93,7 @@ fn rule(alloc: Global, terminals: &[Terminal]) -> Result<(Rule, &[Terminal]), Re
     Ok((Rule { head, body }, rest))
 }
 
-#[tactic(auto, using(crate::proofs::Reading::RepeatLemmas::many_open, crate::proofs::Reading::RepeatLemmas::many_ended, crate::proofs::Reading::ModuleCorrect::one_more_rule))]
+#[tactic(auto, using(crate::proofs::Grammar::RepeatLemmas::many_open, crate::proofs::Grammar::RepeatLemmas::many_ended, crate::proofs::Grammar::ModuleCorrect::one_more_rule))]
 fn rules(alloc: Global, terminals: &[Terminal]) -> RulesRead<'_>
     ensures { Gives (λ x. (rule_forms x.0.items, x.1.now)) result (rules_at terminals.now) }
 {
@@ -140,7 +140,7 @@ fn whole(alloc: Global, terminals: &[Terminal]) -> Result<Module, ReadFault>
 /// Reads the module whose text the terminals are, with the end of the text as the last; else
 /// answers how many terminals are left from the first on that no module text has there, or that
 /// memory ran out.
-#[tactic(auto, using(crate::proofs::Machine::PlacesCorrect::read_is_text, crate::proofs::Machine::PlacesCorrect::place_is_first, crate::proofs::Reading::ModuleComplete::only_text))]
+#[tactic(auto, using(crate::proofs::Machine::PlacesCorrect::read_is_text, crate::proofs::Machine::PlacesCorrect::place_is_first, crate::proofs::Grammar::ModuleComplete::only_text))]
 pub(crate) fn module_of(alloc: Global, terminals: &[Terminal]) -> Result<Module, ReadFault>
     // What is read is a text of the grammar, as the module that the grammar gives.
     ensures read { IfOk result (λ m. IsModuleText terminals.now (form_of m)) }

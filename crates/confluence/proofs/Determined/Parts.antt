@@ -17,8 +17,8 @@ use Rattle.path_annotate.specs.Annotation.{note_of, gate_of_output, key_set, lat
 use Rattle.path_annotate.specs.Good.{good_tables}
 use Rattle.bloom_ast.specs.KindNumbers.{number_in_kind}
 use Rattle.path_annotate.specs.Uses.{both_uses, all_uses}
-use Rattle.path_annotate.proofs.Notes.Using.{uses_have_gate}
-use Rattle.path_annotate.proofs.Notes.CoversLaw.{covers_law, combine_law}
+use Rattle.path_annotate.proofs.Combining.Using.{uses_have_gate}
+use Rattle.path_annotate.proofs.Combining.CoversLaw.{covers_law, combine_law}
 use Rattle.fd_closure.specs.declared.attrs.Attrs.{Attrs}
 use Rattle.topo_types.specs.Data.{Data}
 use Rattle.topo_types.specs.Valid.{IsCovered}

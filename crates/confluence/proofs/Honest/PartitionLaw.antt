@@ -11,8 +11,8 @@ use Rattle.bloom_ast.specs.Program.{port_columns}
 use Rattle.bloom_ast.specs.Step.{Sets, set_at}
 use Rattle.path_annotate.specs.declared.note.Note.{Note}
 use Rattle.path_annotate.specs.Annotation.{note_of}
-use Rattle.path_annotate.proofs.Roots.AllOrigins.{outputs_origins}
-use Rattle.path_annotate.proofs.Roots.ModuleOrigins.{module_rules}
+use Rattle.path_annotate.proofs.Copies.AllOrigins.{outputs_origins}
+use Rattle.path_annotate.proofs.Copies.ModuleOrigins.{module_rules}
 use Rattle.row_laws.specs.Classes.{of_class}
 use Rattle.row_laws.specs.Ports.{SeesItsPorts}
 use Rattle.row_laws.specs.Runs.{query_rows, output_rows, rows_over}

@@ -14,7 +14,7 @@ use Rattle.path_annotate.specs.Code.ByNumber.{named_by, is_plain_by, roots_by, g
 use Rattle.path_annotate.specs.Gates.{in_all, operator_sets, pairs_set, set_of_roots}
 use Rattle.path_annotate.specs.HeadRoots.{roots_numbered, roots_named}
 use Rattle.path_annotate.specs.Roots.{Roots, joined_roots, roots_at, roots_of}
-use Rattle.path_annotate.proofs.Notes.GatesLemmas.{in_all-append}
+use Rattle.path_annotate.proofs.Combining.GatesLemmas.{in_all-append}
 
 module _ (cs : List Collection) where
   pub named-same : (q : Query) (e : NumberedExpr) → IsNumbered cs q e → named_by e ≡ named cs q

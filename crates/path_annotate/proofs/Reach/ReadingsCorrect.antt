@@ -34,7 +34,7 @@ use Rattle.path_annotate.specs.Gates.{all_attributes, in_all, operator_sets, bod
 use Rattle.path_annotate.specs.Good.{all_tables}
 use Rattle.path_annotate.specs.HeadRoots.{roots_named, roots_table}
 use Rattle.path_annotate.specs.Code.Readings.{facts_of, rule_reading, readings_of, rule_arrow, arrow_through, stopped, graph_of, gate_among, reading_from, readings_from, bad_among}
-use Rattle.path_annotate.proofs.Notes.GatesLemmas.{in_all-append, in_all-filter, in_all-flat_map}
+use Rattle.path_annotate.proofs.Combining.GatesLemmas.{in_all-append, in_all-filter, in_all-flat_map}
 use Rattle.path_annotate.proofs.ByNumber.Lists.{map-same}
 use Rattle.path_annotate.proofs.ByNumber.ByNumberLemmas.{named-same, plain-same, gate-same}
 use Rattle.path_annotate.proofs.ByNumber.ByNumberCorrect.{map-numbered}

@@ -22,7 +22,7 @@ use Rattle.bloom_ast.proofs.Reach.ReadsLemmas.{rule_stands}
 use Rattle.bloom_ast.proofs.Ends.StepsLemmas.{StepOf, before, arrives}
 use Rattle.path_annotate.specs.Annotation.{rule_use}
 use Rattle.path_annotate.specs.Given.{AreAllC}
-use Rattle.path_annotate.proofs.Notes.ConfluentUses.{each_c, linear_c, growing_c}
+use Rattle.path_annotate.proofs.Combining.ConfluentUses.{each_c, linear_c, growing_c}
 use Rattle.row_laws.specs.Confluence.{ConfluentRules, ConfluentOutputs}
 use Rattle.row_laws.specs.Runs.{query_rows, output_rows, OneStepAnswers}
 use Rattle.row_laws.proofs.Rows.Fed.{fed}

@@ -38,7 +38,7 @@ use Rattle.path_annotate.specs.Good.{tables_read}
 use Rattle.path_annotate.specs.Annotation.{rule_use}
 use Rattle.path_annotate.specs.Given.{is_o, is_w}
 use Rattle.path_annotate.proofs.Reach.Behind.{behind-cone, table-behind}
-use Rattle.path_annotate.proofs.Notes.GivenLemmas.{used_below, w_behind, o_read, o_below}
+use Rattle.path_annotate.proofs.Combining.GivenLemmas.{used_below, w_behind, o_read, o_below}
 use Rattle.row_laws.specs.Ports.{AreSilentAt, AreSameAt, SeesItsPorts, IsSilent, RulesSeePorts}
 use Rattle.row_laws.specs.Runs.{query_rows, query_over, over_steps, arriving_at, at_once}
 use Rattle.row_laws.proofs.Rows.Closed.{IsInSet, ReadsSet, none_is, KeepsNothing, IsQuiet, rule_nothing, next_nothing, KeepSame, ArriveSame, ended_same, rule_same, next_same, KeepsEnd, still_end, next_end}

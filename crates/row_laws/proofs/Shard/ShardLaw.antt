@@ -39,7 +39,7 @@ use Rattle.path_annotate.specs.Annotation.{note_of, gate_of_output}
 use Rattle.path_annotate.specs.HeadRoots.{attribute_roots}
 use Rattle.path_annotate.specs.Roots.{are_same}
 use Rattle.path_annotate.specs.Attributes.{has_attribute, value_in}
-use Rattle.path_annotate.proofs.Roots.Runs.{wide_at}
+use Rattle.path_annotate.proofs.Copies.Runs.{wide_at}
 use Rattle.row_laws.specs.Classes.{columns_at, has_key, IsInClosure, AreKeyed, of_class}
 use Rattle.row_laws.specs.Runs.{output_rows}
 use Rattle.row_laws.specs.Shards.{from_bound, below_bound, buckets_from, buckets, AnswersByBucket}

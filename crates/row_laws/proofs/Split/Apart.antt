@@ -56,10 +56,10 @@ use Rattle.path_annotate.specs.Good.{good_tables}
 use Rattle.path_annotate.specs.Gates.{set_of_roots}
 use Rattle.path_annotate.specs.Roots.{Roots, root_at, roots_at}
 use Rattle.path_annotate.specs.Annotation.{rule_gate, rule_use}
-use Rattle.path_annotate.proofs.Roots.ModuleOrigins.{module_expressions}
-use Rattle.path_annotate.proofs.Notes.Using.{uses_by_cone}
-use Rattle.path_annotate.proofs.Roots.AttributesLemmas.{has_root, value_is, in_pairs, in_keys}
-use Rattle.path_annotate.proofs.Notes.GateSets.{sets_of, IsGated}
+use Rattle.path_annotate.proofs.Copies.ModuleOrigins.{module_expressions}
+use Rattle.path_annotate.proofs.Combining.Using.{uses_by_cone}
+use Rattle.path_annotate.proofs.Copies.AttributesLemmas.{has_root, value_is, in_pairs, in_keys}
+use Rattle.path_annotate.proofs.Combining.GateSets.{sets_of, IsGated}
 use Rattle.row_laws.specs.Classes.{columns_at, key_of, IsInClosure, Arriving, HasAll, AgreeOn, AreKeyed, of_class}
 use Rattle.row_laws.specs.Runs.{query_rows}
 use Rattle.row_laws.proofs.Split.Agreeing.{one_key}

@@ -17,7 +17,7 @@ use Rattle.bloom_ast.specs.Query.{Name}
 use Rattle.bloom_ast.specs.Step.{Sets, set_at}
 use Rattle.bloom_ast.specs.Widths.{AreWide, AreSetsOf}
 use Rattle.bloom_ast.specs.Steps.{AreArrivals}
-use Rattle.path_annotate.proofs.Roots.Runs.{wide_at}
+use Rattle.path_annotate.proofs.Copies.Runs.{wide_at}
 use Rattle.row_laws.specs.Classes.{columns_at, has_key, key_of, rows_of_class, of_class}
 
 pub same_row : (x y : Row) → eq_by_cmp record_cmp x y ≡ true → x ≡ y

@@ -9,7 +9,7 @@ use Rattle.bloom_ast.specs.Proper.{IsProper}
 use Rattle.bloom_ast.specs.Query.{Name}
 use Rattle.path_annotate.specs.Annotation.{gate_of_output}
 use Rattle.path_annotate.specs.Attributes.{has_attribute}
-use Rattle.path_annotate.proofs.Roots.AttributesLemmas.{has_in_set, in_set_has}
+use Rattle.path_annotate.proofs.Copies.AttributesLemmas.{has_in_set, in_set_has}
 use Rattle.row_laws.specs.Classes.{has_key}
 use Rattle.row_laws.specs.KeySets.{attributes_in, HasSetByMembers, SetIsInClosureByMembers, AnswersBySet}
 use Rattle.row_laws.proofs.Split.SplitLaw.{answers_split}

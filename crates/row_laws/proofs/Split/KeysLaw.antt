@@ -23,9 +23,9 @@ use Rattle.bloom_ast.proofs.Reach.ProperLemmas.{module_own_columns, own_columns}
 use Rattle.path_annotate.specs.Copies.{IsCopyOf, HasOrigin}
 use Rattle.path_annotate.specs.Roots.{Roots}
 use Rattle.path_annotate.specs.Attributes.{value_in}
-use Rattle.path_annotate.proofs.Roots.AllOrigins.{outputs_origins}
-use Rattle.path_annotate.proofs.Roots.ModuleOrigins.{module_rules}
-use Rattle.path_annotate.proofs.Roots.AttributesLemmas.{value_is}
+use Rattle.path_annotate.proofs.Copies.AllOrigins.{outputs_origins}
+use Rattle.path_annotate.proofs.Copies.ModuleOrigins.{module_rules}
+use Rattle.path_annotate.proofs.Copies.AttributesLemmas.{value_is}
 use Rattle.row_laws.specs.Classes.{columns_at, key_of, of_class}
 use Rattle.row_laws.specs.Runs.{over_steps, rows_over}
 use Rattle.row_laws.specs.Splitting.{AreKeyColumns, RowsHaveKey, RulesKeepKeys, OutputsKeepKeys}

@@ -29,8 +29,8 @@ use Rattle.bloom_ast.proofs.Ends.StepsLemmas.{longer, one_more}
 use Rattle.path_annotate.specs.Annotation.{latest_roots, key_set}
 use Rattle.path_annotate.specs.HeadRoots.{attribute_roots}
 use Rattle.path_annotate.specs.Roots.{root_at}
-use Rattle.path_annotate.proofs.Roots.Copying.{chosen}
-use Rattle.path_annotate.proofs.Roots.AttributesLemmas.{has_root, value_is, in_roots}
+use Rattle.path_annotate.proofs.Copies.Copying.{chosen}
+use Rattle.path_annotate.proofs.Copies.AttributesLemmas.{has_root, value_is, in_roots}
 use Rattle.row_laws.specs.Classes.{key_of, IsInClosure, Arriving, HasAll, AreKeyed, of_class}
 use Rattle.row_laws.specs.Runs.{output_rows}
 use Rattle.row_laws.proofs.Split.SplittingLemmas.{OutputsSplitByStep}

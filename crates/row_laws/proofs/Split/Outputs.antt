@@ -20,7 +20,7 @@ use Rattle.bloom_ast.proofs.Reach.ReadsLemmas.{rule_stands}
 use Rattle.path_annotate.specs.declared.note.Note.{Note}
 use Rattle.path_annotate.specs.Annotation.{note_of, gate_of_output, rule_gate, rule_use}
 use Rattle.path_annotate.specs.Uses.{both_uses, all_uses}
-use Rattle.path_annotate.proofs.Notes.GateSets.{head_within}
+use Rattle.path_annotate.proofs.Combining.GateSets.{head_within}
 use Rattle.row_laws.specs.Classes.{IsInClosure, Arriving, AreKeyed, of_class}
 use Rattle.row_laws.specs.Splitting.{StepsSplit}
 use Rattle.row_laws.specs.Runs.{query_rows}

@@ -30,7 +30,7 @@ use Rattle.bloom_ast.proofs.Reach.ReadsLemmas.{number_of, rules_named, rule_stan
 use Rattle.bloom_ast.proofs.Ends.StepsLemmas.{table_rows, nothing_kept, longer, one_more}
 use Rattle.bloom_ast.proofs.Collections.KindNumbersLemmas.{place_within, number_at_place}
 use Rattle.path_annotate.specs.Annotation.{rule_gate, rule_use}
-use Rattle.path_annotate.proofs.Notes.GateSets.{IsGated, own_gated, other_gated}
+use Rattle.path_annotate.proofs.Combining.GateSets.{IsGated, own_gated, other_gated}
 use Rattle.row_laws.specs.Classes.{columns_at, key_of, IsInClosure, Arriving, AreKeyed, of_class}
 use Rattle.row_laws.specs.Runs.{query_rows}
 use Rattle.row_laws.specs.Splitting.{StepsSplit}

@@ -24,7 +24,7 @@ use Rattle.bloom_ast.proofs.Reach.Unfolding.{bit_if-lt, with_all-lt}
 use Rattle.path_annotate.specs.Gates.{root_set, set_of_roots}
 use Rattle.path_annotate.specs.HeadRoots.{attribute_roots}
 use Rattle.path_annotate.specs.Roots.{Roots, root_at, are_same}
-use Rattle.path_annotate.proofs.Roots.Copying.{root-within}
+use Rattle.path_annotate.proofs.Copies.Copying.{root-within}
 use Rattle.topo_types.proofs.Columns.OwnPorts.{distinct_places}
 use Rattle.topo_types.specs.Data.{place_of_attribute}
 use Rattle.topo_types.specs.Sets.{set_of_numbers}

@@ -32,9 +32,9 @@ use Rattle.bloom_ast.specs.Widths.{AreWide, AreSetsOf}
 use Rattle.bloom_ast.proofs.Ends.Wide.{wide_rows}
 use Rattle.bloom_ast.proofs.Ends.StockWidths.{wide_by_rows, row_wide, numbered-wide, number_kept-wide, latest_kept-wide}
 use Rattle.bloom_eval.proofs.Widths.{columns_at, none_wide, set_wide, columns-number, wide_named, kinds_wide, are_begun}
-use Rattle.path_annotate.proofs.Roots.Arrived.{ended-cases}
-use Rattle.path_annotate.proofs.Roots.ModuleOrigins.{stays, now_among, earlier_among}
-use Rattle.path_annotate.proofs.Roots.Runs.{wide_at}
+use Rattle.path_annotate.proofs.Copies.Arrived.{ended-cases}
+use Rattle.path_annotate.proofs.Copies.ModuleOrigins.{stays, now_among, earlier_among}
+use Rattle.path_annotate.proofs.Copies.Runs.{wide_at}
 use Rattle.bloom_ast.specs.Steps.{tables_after_steps, AreArrivals}
 use Rattle.bloom_ast.specs.Proper.{IsProper}
 use Rattle.bloom_ast.specs.declared.module.Collection.{Collection}

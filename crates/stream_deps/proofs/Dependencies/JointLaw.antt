@@ -18,7 +18,7 @@ use Rattle.path_annotate.specs.Gates.{set_of_roots}
 use Rattle.path_annotate.specs.HeadRoots.{attribute_roots}
 use Rattle.path_annotate.specs.Roots.{Roots, are_same}
 use Rattle.row_laws.specs.Classes.{columns_at, Arriving}
-use Rattle.path_annotate.proofs.Roots.AttributesLemmas.{in_roots}
+use Rattle.path_annotate.proofs.Copies.AttributesLemmas.{in_roots}
 use Rattle.topo_types.specs.Data.{Data, key_value, agree_on, has_both, place_of_attribute}
 use Rattle.topo_types.specs.Dependencies.{upholds, has_to_with_from, is_usable, usable_fds}
 use Rattle.topo_types.specs.Messages.{is_same_row}

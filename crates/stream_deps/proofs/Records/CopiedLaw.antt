@@ -15,9 +15,9 @@ use Rattle.path_annotate.specs.Copies.{feeds_output, HasOrigin}
 use Rattle.path_annotate.specs.Gates.{set_of_roots}
 use Rattle.path_annotate.specs.HeadRoots.{attribute_roots}
 use Rattle.path_annotate.specs.Roots.{Roots, root_at}
-use Rattle.path_annotate.proofs.Roots.AllOrigins.{outputs_origins}
-use Rattle.path_annotate.proofs.Roots.Copying.{root-within}
-use Rattle.path_annotate.proofs.Roots.AttributesLemmas.{in_roots}
+use Rattle.path_annotate.proofs.Copies.AllOrigins.{outputs_origins}
+use Rattle.path_annotate.proofs.Copies.Copying.{root-within}
+use Rattle.path_annotate.proofs.Copies.AttributesLemmas.{in_roots}
 use Rattle.topo_types.specs.Data.{place_of_attribute}
 use Rattle.topo_types.specs.Valid.{IsValid}
 use Rattle.topo_types.specs.View.{View, component_at, port_at, output_at, program_of, own_root, own_attrs, port_attrs}

@@ -11,7 +11,7 @@ use Rattle.fd_closure.specs.Closure.{within, closure}
 use Rattle.fd_closure.proofs.Within.{within-trans}
 use Rattle.path_annotate.specs.Gates.{set_of_roots}
 use Rattle.path_annotate.specs.Roots.{Roots}
-use Rattle.path_annotate.proofs.Roots.Copying.{root-within}
+use Rattle.path_annotate.proofs.Copies.Copying.{root-within}
 use Rattle.topo_types.specs.declared.mode.Mode.{Mode}
 use Rattle.topo_types.specs.declared.mode.Mode.TheVariants.{Free, Pass, Seal, Order}
 use Rattle.topo_types.specs.Carried.{is_key, may_carry, allows_notes, streams_towards, carries_key, key_before, carries, port_carries}

@@ -1,4 +1,4 @@
-use Rattle.bloom_parse.proofs.Reading.ModuleComplete.{one_module}
+use Rattle.bloom_parse.proofs.Grammar.ModuleComplete.{one_module}
 use Rattle.bloom_parse.proofs.laws.one_module_law.Goals as goal
 
 pub returns : goal.returns

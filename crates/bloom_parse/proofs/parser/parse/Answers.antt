@@ -5,8 +5,8 @@ use Rattle.bloom_parse.specs.Places.{IsModuleText, IsFault}
 use Rattle.bloom_ast.specs.Form.{form_of}
 use Rattle.bloom_parse.specs.Tokens.{place_of, start_of}
 use Rattle.bloom_parse.proofs.Printed.NameLemmas.{text_has_own_names}
-use Rattle.bloom_parse.proofs.Reading.ParsingLemmas.{text_is, reads_ok, no_fault}
-use Rattle.bloom_parse.proofs.Reading.ReadingLaw.{reads_texts, reads_faults}
+use Rattle.bloom_parse.proofs.Grammar.ParsingLemmas.{text_is, reads_ok, no_fault}
+use Rattle.bloom_parse.proofs.Grammar.ReadingLaw.{reads_texts, reads_faults}
 use Rattle.bloom_parse.proofs.parser.parse.Goals as goal
 
 -- the text's terminals are those that were read, so the module that was read is the text's

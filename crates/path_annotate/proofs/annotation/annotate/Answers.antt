@@ -2,7 +2,7 @@ use Rattle.std.proofs.Common.{◌≡◌, sym, subst}
 use Rattle.std.specs.Prelude.{IfOk}
 use Rattle.bloom_ast.specs.declared.program.Program.{Program}
 use Rattle.path_annotate.specs.Annotation.{notes_of}
-use Rattle.path_annotate.proofs.Notes.AnnotationLemmas.{each_note}
+use Rattle.path_annotate.proofs.Combining.AnnotationLemmas.{each_note}
 use Rattle.path_annotate.proofs.annotation.annotate.Goals as goal
 
 pub returns-in-Module-clause-each : goal.returns-in-Module-clause-each

@@ -3,7 +3,7 @@ use Rattle.bloom_ast.specs.declared.module.Kind.TheVariants.{Output}
 use Rattle.bloom_ast.specs.KindNumbers.{number_in_kind}
 use Rattle.path_annotate.specs.declared.readings.Readings.{Readings}
 use Rattle.path_annotate.specs.Code.ReadingUses.{gate_towards}
-use Rattle.path_annotate.proofs.Notes.AnnotationCorrect.{head_gate-same}
+use Rattle.path_annotate.proofs.Combining.AnnotationCorrect.{head_gate-same}
 use Rattle.path_annotate.proofs.annotation.module_gate.Goals as goal
 
 pub returns : goal.returns

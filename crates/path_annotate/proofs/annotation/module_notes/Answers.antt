@@ -2,7 +2,7 @@ use Rattle.std.proofs.Common.{◌≡◌, ◌∙◌, ℕ, List, Option, map, subs
 use Rattle.std.specs.Prelude.{IfOk}
 use Rattle.path_annotate.specs.declared.note.Note.{Note}
 use Rattle.path_annotate.specs.Code.ReadingUses.{path_note_from}
-use Rattle.path_annotate.proofs.Notes.AnnotationCorrect.{notes-same}
+use Rattle.path_annotate.proofs.Combining.AnnotationCorrect.{notes-same}
 use Rattle.path_annotate.proofs.annotation.module_notes.Goals as goal
 
 pub returns : goal.returns

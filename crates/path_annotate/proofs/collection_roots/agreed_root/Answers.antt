@@ -1,7 +1,7 @@
 use Rattle.std.proofs.Common.{◌<◌, ◌∙◌, Bool, None, length, if◌then◌else◌, ap, sym, rules}
 use Rattle.std.specs.List.{list_all}
 use Rattle.path_annotate.specs.Roots.{Roots, root_at, are_same}
-use Rattle.path_annotate.proofs.Roots.RootsLemmas.{agreed_by}
+use Rattle.path_annotate.proofs.Copies.RootsLemmas.{agreed_by}
 use Rattle.path_annotate.proofs.collection_roots.agreed_root.Goals as goal
 
 pub returns-then-all_give : goal.returns-then-all_give

@@ -1,5 +1,5 @@
-use Rattle.path_annotate.proofs.Roots.AllOrigins.{outputs_origins}
-use Rattle.path_annotate.proofs.Roots.ModuleOrigins.{module_expressions, module_rules}
+use Rattle.path_annotate.proofs.Copies.AllOrigins.{outputs_origins}
+use Rattle.path_annotate.proofs.Copies.ModuleOrigins.{module_expressions, module_rules}
 use Rattle.path_annotate.proofs.laws.copies_law.Goals as goal
 
 pub returns-clause-expressions : goal.returns-clause-expressions

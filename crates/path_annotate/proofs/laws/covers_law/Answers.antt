@@ -1,4 +1,4 @@
-use Rattle.path_annotate.proofs.Notes.CoversLaw.{covers_law}
+use Rattle.path_annotate.proofs.Combining.CoversLaw.{covers_law}
 use Rattle.path_annotate.proofs.laws.covers_law.Goals as goal
 
 pub returns : goal.returns

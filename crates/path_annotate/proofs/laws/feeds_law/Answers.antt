@@ -1,4 +1,4 @@
-use Rattle.path_annotate.proofs.Notes.Feeding.{feeds_by_rules, feeds_by_closure}
+use Rattle.path_annotate.proofs.Combining.Feeding.{feeds_by_rules, feeds_by_closure}
 use Rattle.path_annotate.proofs.laws.feeds_law.Goals as goal
 
 pub returns-clause-recursion : goal.returns-clause-recursion

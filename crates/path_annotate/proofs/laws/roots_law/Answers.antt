@@ -1,4 +1,4 @@
-use Rattle.path_annotate.proofs.Roots.RootsLaw.{table_solves, one_table}
+use Rattle.path_annotate.proofs.Copies.RootsLaw.{table_solves, one_table}
 use Rattle.path_annotate.proofs.laws.roots_law.Goals as goal
 
 pub returns-clause-solved : goal.returns-clause-solved

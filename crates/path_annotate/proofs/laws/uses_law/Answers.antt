@@ -1,4 +1,4 @@
-use Rattle.path_annotate.proofs.Notes.Using.{uses_by_cone, uses_have_gate}
+use Rattle.path_annotate.proofs.Combining.Using.{uses_by_cone, uses_have_gate}
 use Rattle.path_annotate.proofs.laws.uses_law.Goals as goal
 
 pub returns-clause-cone : goal.returns-clause-cone

@@ -1,7 +1,7 @@
 use Rattle.std.proofs.Common.{◌≡◌, ◌∙◌, ℕ, Bool, false, if◌then◌else◌, ap, arith, get_or, bit_and}
 use Rattle.fd_closure.specs.Bits.{bit_of, meets}
 use Rattle.path_annotate.specs.declared.readings.RuleFacts.{RuleFacts}
-use Rattle.path_annotate.proofs.Notes.GatesLemmas.{common_start, common_step, common_end}
+use Rattle.path_annotate.proofs.Combining.GatesLemmas.{common_start, common_step, common_end}
 use Rattle.path_annotate.proofs.readings.gate_among.Goals as goal
 
 -- what is read past the end

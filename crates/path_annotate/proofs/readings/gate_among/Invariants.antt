@@ -1,6 +1,6 @@
 use Rattle.std.proofs.Common.{drop}
 use Rattle.path_annotate.specs.Code.Readings as spec
-use Rattle.path_annotate.proofs.Notes.GatesLemmas.{IsCommon}
+use Rattle.path_annotate.proofs.Combining.GatesLemmas.{IsCommon}
 use Rattle.path_annotate.proofs.readings.gate_among.Given as goal
 
 abbrev pub invariant-loop-rule : goal.invariant-loop-rule

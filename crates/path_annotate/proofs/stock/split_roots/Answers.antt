@@ -2,7 +2,7 @@ use Rattle.std.proofs.Common.{◌∙◌, ◌++◌, ◌∷◌, [], None, append_a
 use Rattle.std.specs.List.{remove}
 use Rattle.fd_closure.specs.Names.{place_of}
 use Rattle.path_annotate.specs.Roots.{Roots}
-use Rattle.path_annotate.proofs.Roots.RootsLemmas.{map_remove}
+use Rattle.path_annotate.proofs.Copies.RootsLemmas.{map_remove}
 use Rattle.path_annotate.proofs.stock.split_roots.Goals as goal
 
 pub returns : goal.returns

@@ -1,5 +1,5 @@
 use Rattle.std.proofs.Common.{◌∙◌, ◌++◌, ◌+◌, ◌∷◌, [], Bool, None, not, if◌then◌else◌, append_assoc, ap, sym, arith}
-use Rattle.path_annotate.proofs.Roots.RootsLemmas.{unpaired_from, unpaired_step}
+use Rattle.path_annotate.proofs.Copies.RootsLemmas.{unpaired_from, unpaired_step}
 use Rattle.path_annotate.specs.Roots.{Roots}
 use Rattle.path_annotate.proofs.tracing.add_unpaired.Goals as goal
 

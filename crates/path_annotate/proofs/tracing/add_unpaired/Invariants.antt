@@ -1,7 +1,7 @@
 use Rattle.std.proofs.Common.{◌≡◌, ◌++◌}
 use Rattle.blz_value.specs.Operators.{unpaired}
 use Rattle.path_annotate.specs.Roots.{no_roots}
-use Rattle.path_annotate.proofs.Roots.RootsLemmas.{unpaired_from}
+use Rattle.path_annotate.proofs.Copies.RootsLemmas.{unpaired_from}
 use Rattle.path_annotate.proofs.tracing.add_unpaired.Given as goal
 
 abbrev pub invariant-loop-i : goal.invariant-loop-i

@@ -3,7 +3,7 @@ use Rattle.std.proofs.lemmas.List.{drop_more}
 use Rattle.path_annotate.specs.declared.readings.Reading.{Reading}
 use Rattle.path_annotate.specs.Code.ReadingUses.{use_towards}
 use Rattle.path_annotate.specs.Uses.{both_uses, all_uses}
-use Rattle.path_annotate.proofs.Notes.UsesLemmas.{both_uses_assoc}
+use Rattle.path_annotate.proofs.Combining.UsesLemmas.{both_uses_assoc}
 use Rattle.path_annotate.proofs.uses.path_note.Goals as goal
 
 -- what is read past the end

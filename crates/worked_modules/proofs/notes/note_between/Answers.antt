@@ -1,5 +1,5 @@
 use Rattle.std.proofs.Common.{arith}
-use Rattle.path_annotate.proofs.Notes.AnnotationLemmas.{within_ports, within_outputs}
+use Rattle.path_annotate.proofs.Combining.AnnotationLemmas.{within_ports, within_outputs}
 use Rattle.worked_modules.proofs.notes.note_between.Goals as goal
 
 pub at-requires-clause-port : goal.at-requires-clause-port

@@ -1,7 +1,7 @@
 use Rattle.std.proofs.Common.{rules}
 use Rattle.bloom_ast.specs.Form.{formula_of}
 use Rattle.bloom_parse.specs.Code.ReadingPredicates.{formulas, unit_at}
-use Rattle.bloom_parse.proofs.Reading.PredicateCorrect.{next_and, next_or}
+use Rattle.bloom_parse.proofs.Grammar.PredicateCorrect.{next_and, next_or}
 use Rattle.bloom_parse.proofs.reading.predicates.+predicates.Goals as goal
 use Rattle.bloom_parse.proofs.reading.predicates.+predicates.Goals.{chain-in-And+else-left-eq0+in_ok-part-in-And+in_ok-product-in-And, chain-in-Or+else-left-eq0-2+in_ok-part-in-Or+in_ok-summed-in-Or}
 

@@ -12,8 +12,8 @@ use Rattle.bloom_parse.specs.Parsing.{IsTextOf, IsFirstFault}
 use Rattle.bloom_parse.specs.Places.{IsModuleText, Begins, NoneGoesOn, IsFault}
 use Rattle.bloom_parse.specs.Reading.{Lexed, lexed_found, lexed_left, lexed_of, at_place, reading_of}
 use Rattle.bloom_parse.specs.Tokens.{Front, front, behind_blanks, Lexes, HasTokens, place_of, start_of}
-use Rattle.bloom_parse.proofs.Reading.ModuleComplete.{text_again}
-use Rattle.bloom_parse.proofs.Reading.ParsingLemmas.{text_is}
+use Rattle.bloom_parse.proofs.Grammar.ModuleComplete.{text_again}
+use Rattle.bloom_parse.proofs.Grammar.ParsingLemmas.{text_is}
 use Rattle.bloom_parse.proofs.Machine.PlacesCorrect.{read_is_text, fault_is_first}
 use Rattle.bloom_parse.proofs.Tokens.ShorterLemmas.{blanks_no_longer, lex_shorter}
 use Rattle.bloom_parse.proofs.Tokens.TokensLemmas.{one_list}

@@ -18,7 +18,7 @@ use Rattle.bloom_parse.specs.Code.ReadingSingle.{◌>>=◌, mark_at, operand_at,
 use Rattle.bloom_parse.specs.Code.ReadingPredicates.{Read, comparison_at, summed_of, spend, link_of, by_link, unit_by, chain_at, pred_by, unit_at}
 use Rattle.bloom_parse.proofs.Machine.Machine.{Sym, run}
 use Rattle.bloom_parse.proofs.Machine.MachineLemmas.{ors_go, unit_some, ors_some}
-use Rattle.bloom_parse.proofs.Reading.SingleCorrect.{bind_reads, ReadsMark, mark_reads, ReadsSign, sign_reads, ReadsOperand, operand_reads}
+use Rattle.bloom_parse.proofs.Grammar.SingleCorrect.{bind_reads, ReadsMark, mark_reads, ReadsSign, sign_reads, ReadsOperand, operand_reads}
 
 -- ---- one unit
 

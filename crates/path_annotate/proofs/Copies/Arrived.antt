@@ -30,9 +30,9 @@ use Rattle.bloom_ast.proofs.Faults.Ordering.{in_named}
 use Rattle.path_annotate.specs.HeadRoots.{agreed_root, attribute_roots, roots_numbered, roots_named, rule_roots, head_roots, roots_table}
 use Rattle.path_annotate.specs.Roots.{Roots, root_at, are_same, roots_of}
 use Rattle.path_annotate.specs.RootsLaw.{AreRootsOf}
-use Rattle.path_annotate.proofs.Roots.Copying.{AreCopies, IsFull, KeepsRoots, chosen, copies-self, copies-trans, copies-fewer, full-fewer, root-within}
-use Rattle.path_annotate.proofs.Roots.Origins.{IsCopied, copied}
-use Rattle.path_annotate.proofs.Roots.RootsLaw.{table_solves}
+use Rattle.path_annotate.proofs.Copies.Copying.{AreCopies, IsFull, KeepsRoots, chosen, copies-self, copies-trans, copies-fewer, full-fewer, root-within}
+use Rattle.path_annotate.proofs.Copies.Origins.{IsCopied, copied}
+use Rattle.path_annotate.proofs.Copies.RootsLaw.{table_solves}
 
 -- a row with roots is a copy of a record that arrived at a port, and the port is read through the rules by who reads these collections
 pub record IsArrived (names : List Name) (a : Accepted) (all : List Sets) (read : ℕ) (given : Roots) (row : Row) : Type 0 where

@@ -5,8 +5,8 @@ use Rattle.bloom_ast.specs.declared.program.Program.TheVariants.{Module, Split, 
 use Rattle.bloom_ast.specs.Query.{Name}
 use Rattle.bloom_ast.specs.Proper.{IsProper}
 use Rattle.path_annotate.specs.CopiesLaw.{OutputsHaveOrigins}
-use Rattle.path_annotate.proofs.Roots.ModuleOrigins.{module_outputs}
-use Rattle.path_annotate.proofs.Roots.StockOrigins.{split_outputs, latest_outputs, number_outputs}
+use Rattle.path_annotate.proofs.Copies.ModuleOrigins.{module_outputs}
+use Rattle.path_annotate.proofs.Copies.StockOrigins.{split_outputs, latest_outputs, number_outputs}
 
 pub outputs_origins : (names : List Name) (program : Program) → IsProper program → OutputsHaveOrigins names program
 outputs_origins names (Module a) proper = module_outputs names a proper

@@ -15,7 +15,7 @@ use Rattle.bloom_ast.specs.Query.{Name, Query}
 use Rattle.bloom_ast.specs.Query.Query.{base, select, project, join, notin, group, at_least}
 use Rattle.bloom_ast.specs.Rows.{formula_holds, item_numbers, column_numbers, numbered_agg, row_bound, rows_of}
 use Rattle.path_annotate.specs.Roots.{Roots, roots_at, joined_roots, roots_of}
-use Rattle.path_annotate.proofs.Roots.Copying.{AreCopies, IsFull, copies-self, copies-trans, copies-more, full-more, copies-cells, full-cells, rootless-none, keeps-append, keeps-joined}
+use Rattle.path_annotate.proofs.Copies.Copying.{AreCopies, IsFull, copies-self, copies-trans, copies-more, full-more, copies-cells, full-cells, rootless-none, keeps-append, keeps-joined}
 
 -- a row with roots is a copy of a row of one of the collections of these names
 pub record IsCopied (env : Env) (roots : Name → Roots) (read : List Name) (given : Roots) (row : Row) : Type 0 where

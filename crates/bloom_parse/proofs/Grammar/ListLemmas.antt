@@ -13,8 +13,8 @@ use Rattle.bloom_parse.specs.Code.ReadingSingle.{◌>>=◌, mark_at, name_at, eq
 use Rattle.bloom_parse.specs.Code.ReadingLists.{many_at, with_front, past, item_at, pair_at, items_at, pairs_at, names_at, key_names_at, keys_at, column_at, agg_at}
 use Rattle.bloom_parse.proofs.Machine.Machine.{Sym, run}
 use Rattle.bloom_parse.proofs.Printed.TreesLemmas.{flat_keys}
-use Rattle.bloom_parse.proofs.Reading.SingleCorrect.{bind_reads, Stuck, ReadsMark, mark_reads, ReadsName, name_reads, ReadsEquals, equals_reads}
-use Rattle.bloom_parse.proofs.Reading.RepeatLemmas.{Repeated, ReadsOne, ReadsMany, Listed, many_reads, ReadsMore, more_reads, ReadAgain, listed, many_again}
+use Rattle.bloom_parse.proofs.Grammar.SingleCorrect.{bind_reads, Stuck, ReadsMark, mark_reads, ReadsName, name_reads, ReadsEquals, equals_reads}
+use Rattle.bloom_parse.proofs.Grammar.RepeatLemmas.{Repeated, ReadsOne, ReadsMany, Listed, many_reads, ReadsMore, more_reads, ReadAgain, listed, many_again}
 
 pub map_itself : {X : Type 0} (xs : List X) → map (λ x. x) xs ≡ xs
 map_itself [] = refl

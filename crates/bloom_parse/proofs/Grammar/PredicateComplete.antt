@@ -14,7 +14,7 @@ use Rattle.bloom_parse.specs.Trees.{UnitTree, AndsTree, OrsTree, word, mark, ter
 use Rattle.bloom_parse.specs.Code.ReadingSingle.{◌>>=◌, mark_at, operand_at}
 use Rattle.bloom_parse.specs.Code.ReadingPredicates.{Read, comparison_at, summed_of, chain_at, pred_by, unit_by, unit_at}
 use Rattle.bloom_parse.proofs.Machine.MachineLemmas.{pred, pred_is, unit_some, ands_some, ors_some}
-use Rattle.bloom_parse.proofs.Reading.PredicateCorrect.{spend_more}
+use Rattle.bloom_parse.proofs.Grammar.PredicateCorrect.{spend_more}
 
 abbrev done : Formula × ℕ × List Terminal → Read
 done x = Ok x

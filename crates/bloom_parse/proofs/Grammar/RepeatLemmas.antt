@@ -6,7 +6,7 @@ use Rattle.bloom_parse.specs.declared.lexing.terminal.Terminal.{Terminal}
 use Rattle.bloom_parse.specs.Code.ReadingSingle.{◌>>=◌}
 use Rattle.bloom_parse.specs.Code.ReadingLists.{many_at, with_front}
 use Rattle.bloom_parse.proofs.Machine.Machine.{Sym, run}
-use Rattle.bloom_parse.proofs.Reading.SingleCorrect.{bind_reads}
+use Rattle.bloom_parse.proofs.Grammar.SingleCorrect.{bind_reads}
 
 -- ---- what is read
 

@@ -23,7 +23,7 @@ use Rattle.path_annotate.specs.Gates.{root_set, set_of_roots, pair_root, pairs_s
 use Rattle.path_annotate.specs.HeadRoots.{attribute_roots}
 use Rattle.path_annotate.specs.Roots.{Roots, root_at, are_same, roots_at}
 use Rattle.path_annotate.specs.Attributes.{has_attribute, value_in}
-use Rattle.path_annotate.proofs.Roots.Copying.{root-within, chosen}
+use Rattle.path_annotate.proofs.Copies.Copying.{root-within, chosen}
 
 module _ (names columns : List Name) where
   root_place : (place attribute : ℕ) → root_at (attribute_roots names columns) place ≡ Some attribute

@@ -32,8 +32,8 @@ use Rattle.path_annotate.specs.Copies.{IsCopyOf, HasOrigin}
 use Rattle.path_annotate.specs.CopiesLaw.{ExpressionsHaveOrigins, RulesHaveOrigins, OutputsHaveOrigins, query_roots}
 use Rattle.path_annotate.specs.HeadRoots.{roots_numbered, roots_table}
 use Rattle.path_annotate.specs.Roots.{Roots}
-use Rattle.path_annotate.proofs.Roots.Arrived.{IsArrived, HasArrived, query_arrived, rule_arrived}
-use Rattle.path_annotate.proofs.Roots.Runs.{KeptArrived, input_same, all_arrived, tables_arrived}
+use Rattle.path_annotate.proofs.Copies.Arrived.{IsArrived, HasArrived, query_arrived, rule_arrived}
+use Rattle.path_annotate.proofs.Copies.Runs.{KeptArrived, input_same, all_arrived, tables_arrived}
 
 -- what holds of empty tables and stays over each step over one of some arrivals holds after any such steps
 pub stays : (P : Sets → Type 0) (step : Sets → Sets → Sets) (all nows : List Sets) → ((kept now : Sets) → Has now all → P kept → P (step kept now)) → ((now : Sets) → Has now nows → Has now all) → (kept : Sets) → P kept → P (fold step kept nows)

@@ -25,8 +25,8 @@ use Rattle.path_annotate.specs.Good.{all_tables, reads_table, reads_good, good_t
 use Rattle.path_annotate.specs.Uses.{both_uses, use_if, reads_port, feeds_read, writes, use_of}
 use Rattle.path_annotate.specs.Annotation.{rule_gate, rule_use}
 use Rattle.path_annotate.specs.Given.{is_o, is_w}
-use Rattle.path_annotate.proofs.Notes.Feeding.{from_feeds_read, feeds_read-is}
-use Rattle.path_annotate.proofs.Notes.Using.{uses_by_cone}
+use Rattle.path_annotate.proofs.Combining.Feeding.{from_feeds_read, feeds_read-is}
+use Rattle.path_annotate.proofs.Combining.Using.{uses_by_cone}
 
 asked_w : (gate : ℕ) (reads confluent : Bool) → is_w (both_uses (use_if reads (OR (record { bits = gate }))) (use_if true (writes confluent gate))) ≡ true
 asked_w gate true true = refl

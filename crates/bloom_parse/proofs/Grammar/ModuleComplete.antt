@@ -16,10 +16,10 @@ use Rattle.bloom_parse.specs.Code.ReadingSingle.{◌>>=◌, Gives, mark_at, has_
 use Rattle.bloom_parse.specs.Code.ReadingExprs.{ReadQuery}
 use Rattle.bloom_parse.specs.Code.ReadingModules.{kind_at, has_kind, collection_of, declared_at, by_kind, collection_at, rule_at, rules_at, end_at, form_from, module_at}
 use Rattle.bloom_parse.proofs.Printed.TreesLemmas.{flat_collection, flat_rule, flat_module}
-use Rattle.bloom_parse.proofs.Reading.RepeatLemmas.{ReadAgain, many_again}
-use Rattle.bloom_parse.proofs.Reading.ListLemmas.{names_again, all_fit}
-use Rattle.bloom_parse.proofs.Reading.ExprComplete.{expr_again}
-use Rattle.bloom_parse.proofs.Reading.ModuleCorrect.{collection_kind, collection_longer, rule_kind, rule_longer}
+use Rattle.bloom_parse.proofs.Grammar.RepeatLemmas.{ReadAgain, many_again}
+use Rattle.bloom_parse.proofs.Grammar.ListLemmas.{names_again, all_fit}
+use Rattle.bloom_parse.proofs.Grammar.ExprComplete.{expr_again}
+use Rattle.bloom_parse.proofs.Grammar.ModuleCorrect.{collection_kind, collection_longer, rule_kind, rule_longer}
 
 abbrev declared : Collection → List Terminal → Result (Collection × List Terminal) ℕ
 declared c rest = Ok (c, rest)

@@ -19,10 +19,10 @@ use Rattle.bloom_parse.specs.Code.ReadingExprs.{expr_at}
 use Rattle.bloom_parse.specs.Code.ReadingModules.{has_kind, collection_of, declared_at, collection_at, rule_at, collections_at, rules_at, end_at, form_from, module_at}
 use Rattle.bloom_parse.proofs.Machine.Machine.{Sym, run, in_collection, in_rule}
 use Rattle.bloom_parse.proofs.Printed.TreesLemmas.{flat_collection, flat_rule, flat_module}
-use Rattle.bloom_parse.proofs.Reading.SingleCorrect.{bind_reads, Stuck, ReadsMark, mark_reads, ReadsName, name_reads, ReadsArrow, arrow_reads, ReadsModuleWord, module_word_reads}
-use Rattle.bloom_parse.proofs.Reading.RepeatLemmas.{Repeated, ReadsOne, ReadsMany, Listed, many_reads, ReadsMore}
-use Rattle.bloom_parse.proofs.Reading.ListLemmas.{map_itself, name_kind, names_reads}
-use Rattle.bloom_parse.proofs.Reading.ExprCorrect.{ReadsExpr, expr_reads}
+use Rattle.bloom_parse.proofs.Grammar.SingleCorrect.{bind_reads, Stuck, ReadsMark, mark_reads, ReadsName, name_reads, ReadsArrow, arrow_reads, ReadsModuleWord, module_word_reads}
+use Rattle.bloom_parse.proofs.Grammar.RepeatLemmas.{Repeated, ReadsOne, ReadsMany, Listed, many_reads, ReadsMore}
+use Rattle.bloom_parse.proofs.Grammar.ListLemmas.{map_itself, name_kind, names_reads}
+use Rattle.bloom_parse.proofs.Grammar.ExprCorrect.{ReadsExpr, expr_reads}
 
 pub length_more : {X : Type 0} (xs ys : List X) → length ys ≤ length (xs ++ ys)
 length_more [] ys = omega arith

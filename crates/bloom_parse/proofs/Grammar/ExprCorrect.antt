@@ -13,10 +13,10 @@ use Rattle.bloom_parse.specs.Code.ReadingLists.{item_at, items_at, pairs_at, key
 use Rattle.bloom_parse.specs.Code.ReadingExprs.{ReadQuery, opened_by, select_by, project_by, parts_by, keyed_by, group_by, at_least_by, expr_at}
 use Rattle.bloom_parse.proofs.Machine.Machine.{Sym, run}
 use Rattle.bloom_parse.proofs.Printed.TreesLemmas.{flat_select, flat_project, flat_join, flat_notin, flat_group, flat_at_least}
-use Rattle.bloom_parse.proofs.Reading.SingleCorrect.{bind_reads, Stuck, ReadsMark, mark_reads, ReadsName, name_reads, ReadsAs, as_reads, ReadsBound, bound_reads, bound_goes}
-use Rattle.bloom_parse.proofs.Reading.PredicateCorrect.{ReadsPred, pred_reads, unit_reads, pred_goes}
-use Rattle.bloom_parse.proofs.Reading.RepeatLemmas.{ReadsMore}
-use Rattle.bloom_parse.proofs.Reading.ListLemmas.{item_kind, ReadsItem, item_reads, items_reads, ReadsPairs, pairs_reads, ReadsKeys, keys_reads, ReadsAgg, agg_reads, agg_goes}
+use Rattle.bloom_parse.proofs.Grammar.SingleCorrect.{bind_reads, Stuck, ReadsMark, mark_reads, ReadsName, name_reads, ReadsAs, as_reads, ReadsBound, bound_reads, bound_goes}
+use Rattle.bloom_parse.proofs.Grammar.PredicateCorrect.{ReadsPred, pred_reads, unit_reads, pred_goes}
+use Rattle.bloom_parse.proofs.Grammar.RepeatLemmas.{ReadsMore}
+use Rattle.bloom_parse.proofs.Grammar.ListLemmas.{item_kind, ReadsItem, item_reads, items_reads, ReadsPairs, pairs_reads, ReadsKeys, keys_reads, ReadsAgg, agg_reads, agg_goes}
 
 pub record IsExpr (room : ℕ) (ts : List Terminal) (x : Query × List Terminal) : Type 0 where
   pub tree : ExprTree

@@ -27,7 +27,7 @@ use Rattle.path_annotate.specs.Note.{own_gate, note_with, common_gate}
 use Rattle.path_annotate.specs.Uses.{both_uses, all_uses, use_if, reads_port, feeds_read, writes, use_of}
 use Rattle.path_annotate.specs.Annotation.{rule_gate, rule_use}
 use Rattle.path_annotate.specs.Given.{AreAllC}
-use Rattle.path_annotate.proofs.Notes.Using.{uses_by_cone}
+use Rattle.path_annotate.proofs.Combining.Using.{uses_by_cone}
 
 -- a use that is CR or CW, or none
 abbrev pub IsC : Option Note → Type 0

@@ -23,8 +23,8 @@ use Rattle.path_annotate.specs.HeadRoots.{roots_table}
 use Rattle.path_annotate.specs.Code.ReadingUses.{use_from, use_towards, path_note_from, gate_towards}
 use Rattle.path_annotate.specs.Code.Readings.{rule_reading, readings_of}
 use Rattle.path_annotate.specs.Uses.{both_uses, all_uses, use_if, reads_port, writes, use_of}
-use Rattle.path_annotate.proofs.Notes.Feeding.{feeds_by_closure}
-use Rattle.path_annotate.proofs.Notes.GatesLemmas.{in_all-filter}
+use Rattle.path_annotate.proofs.Combining.Feeding.{feeds_by_closure}
+use Rattle.path_annotate.proofs.Combining.GatesLemmas.{in_all-filter}
 use Rattle.path_annotate.proofs.Reach.GoodTables.{reads_good_by_closure}
 use Rattle.path_annotate.proofs.ByNumber.Lists.{map-same}
 use Rattle.path_annotate.proofs.ByNumber.NumbersLemmas.{map-places, length_numbers_of_kind}

@@ -21,7 +21,7 @@ use Rattle.path_annotate.specs.Note.{own_gate}
 use Rattle.path_annotate.specs.ReadLaws.{UsesByCone, UsesHaveGate}
 use Rattle.path_annotate.specs.Uses.{both_uses, use_if, reads_port, feeds_read, writes, linear_use, asking_use, summing_use, use_of}
 use Rattle.path_annotate.proofs.Reach.Behind.{in_cone}
-use Rattle.path_annotate.proofs.Notes.Feeding.{from_feeds_read, feeds_read-is}
+use Rattle.path_annotate.proofs.Combining.Feeding.{from_feeds_read, feeds_read-is}
 
 -- ---- whether there is a use
 

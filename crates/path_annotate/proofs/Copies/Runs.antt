@@ -26,9 +26,9 @@ use Rattle.bloom_ast.proofs.Collections.KindSets.{get-kind}
 use Rattle.bloom_ast.proofs.Collections.KindNumbersLemmas.{columns-of_kind}
 use Rattle.path_annotate.specs.HeadRoots.{attribute_roots, roots_numbered, roots_table}
 use Rattle.path_annotate.specs.Roots.{Roots}
-use Rattle.path_annotate.proofs.Roots.Arrived.{IsArrived, HasArrived, query_arrived, rule_arrived, head_arrived, ended-cases}
-use Rattle.path_annotate.proofs.Roots.Copying.{IsFull, copies-self, root-within}
-use Rattle.path_annotate.proofs.Roots.RootsLaw.{table_solves}
+use Rattle.path_annotate.proofs.Copies.Arrived.{IsArrived, HasArrived, query_arrived, rule_arrived, head_arrived, ended-cases}
+use Rattle.path_annotate.proofs.Copies.Copying.{IsFull, copies-self, root-within}
+use Rattle.path_annotate.proofs.Copies.RootsLaw.{table_solves}
 
 -- ---- ports
 

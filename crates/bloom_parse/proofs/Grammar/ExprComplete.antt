@@ -14,9 +14,9 @@ use Rattle.bloom_parse.specs.Code.ReadingPredicates.{Read, pred_by, unit_at}
 use Rattle.bloom_parse.specs.Code.ReadingLists.{item_at, items_at, pairs_at, keys_at, agg_at}
 use Rattle.bloom_parse.specs.Code.ReadingExprs.{ReadQuery, opened_by, select_by, project_by, parts_by, keyed_by, group_by, at_least_by, expr_at}
 use Rattle.bloom_parse.proofs.Printed.TreesLemmas.{flat_select, flat_project, flat_join, flat_notin, flat_group, flat_at_least}
-use Rattle.bloom_parse.proofs.Reading.SingleCorrect.{bound_again}
-use Rattle.bloom_parse.proofs.Reading.PredicateComplete.{pred_ends, ors_again}
-use Rattle.bloom_parse.proofs.Reading.ListLemmas.{item_again, no_as, items_again, pairs_again, keys_again, agg_again}
+use Rattle.bloom_parse.proofs.Grammar.SingleCorrect.{bound_again}
+use Rattle.bloom_parse.proofs.Grammar.PredicateComplete.{pred_ends, ors_again}
+use Rattle.bloom_parse.proofs.Grammar.ListLemmas.{item_again, no_as, items_again, pairs_again, keys_again, agg_again}
 
 abbrev done : Query → List Terminal → ReadQuery
 done q rest = Ok (q, rest)

@@ -29,9 +29,9 @@ use Rattle.path_annotate.specs.Annotation.{latest_roots}
 use Rattle.path_annotate.specs.CopiesLaw.{OutputsHaveOrigins}
 use Rattle.path_annotate.specs.HeadRoots.{attribute_roots}
 use Rattle.path_annotate.specs.Roots.{Roots}
-use Rattle.path_annotate.proofs.Roots.Copying.{AreCopies, KeepsRoots, copies-trans, copies-fewer, copies-more, rootless-none, keeps-append, chosen}
-use Rattle.path_annotate.proofs.Roots.ModuleOrigins.{stays, now_among, earlier_among}
-use Rattle.path_annotate.proofs.Roots.Runs.{wide_at, full-attributes}
+use Rattle.path_annotate.proofs.Copies.Copying.{AreCopies, KeepsRoots, copies-trans, copies-fewer, copies-more, rootless-none, keeps-append, chosen}
+use Rattle.path_annotate.proofs.Copies.ModuleOrigins.{stays, now_among, earlier_among}
+use Rattle.path_annotate.proofs.Copies.Runs.{wide_at, full-attributes}
 
 -- a record that arrives in a step has the width of the port
 wide_record : (program : Program) (earlier : List Sets) (now : Sets) (port : ℕ) (row : Row) → AreArrivals program (earlier ++ now ∷ []) → Has row (set_at now port) → length row ≡ length (get_or (port_columns program) port [])

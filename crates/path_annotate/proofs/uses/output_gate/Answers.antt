@@ -1,7 +1,7 @@
 use Rattle.std.proofs.Common.{◌∙◌, if◌then◌else◌, false, ap, arith, bit_and}
 use Rattle.std.specs.Prelude.{◌==◌}
 use Rattle.path_annotate.specs.declared.readings.Reading.{Reading}
-use Rattle.path_annotate.proofs.GatesLemmas.{common_start, common_step, common_end}
+use Rattle.path_annotate.proofs.Combining.GatesLemmas.{common_start, common_step, common_end}
 use Rattle.path_annotate.proofs.uses.output_gate.Goals as goal
 
 -- what is read past the end

@@ -1,6 +1,6 @@
 use Rattle.std.proofs.Common.{drop}
 use Rattle.path_annotate.specs.Code.ReadingUses.{gate_towards}
-use Rattle.path_annotate.proofs.GatesLemmas.{IsCommon}
+use Rattle.path_annotate.proofs.Combining.GatesLemmas.{IsCommon}
 use Rattle.path_annotate.proofs.uses.output_gate.Given as goal
 
 abbrev pub invariant-loop-rule : goal.invariant-loop-rule

@@ -1,16 +1,59 @@
--- Statements of the laws of a step.
-use Rattle.std.specs.Prelude.{ℕ, ◌≡◌, Some, List, []}
+-- Statements of the laws of a step, and of what an expression reads.
+use Rattle.std.specs.Prelude.{ℕ, ◌≡◌, ◌≤◌, ◌<◌, ◌↔◌, ◌⊎◌, Some, List, [], IsTrue, length}
 use Rattle.blz_value.specs.Members.{IsWithin}
 use Rattle.blz_value.specs.Sets.{IsRowSet}
-use Rattle.bloom_ast.specs.declared.module.Kind.TheVariants.{Input, Table}
+use Rattle.fd_closure.specs.Bits.{bit_of, meets}
+use Rattle.bloom_ast.specs.declared.module.Collection.{Collection}
+use Rattle.bloom_ast.specs.declared.module.Kind.TheVariants.{Input, Output, Table}
 use Rattle.bloom_ast.specs.declared.program.Program.{Program}
-use Rattle.bloom_ast.specs.Equations.{end_env, rules_of, set_named}
-use Rattle.bloom_ast.specs.Form.{Accepted}
+use Rattle.bloom_ast.specs.Equations.{Env, Solves, end_env, rules_of, set_named}
+use Rattle.bloom_ast.specs.Form.{Accepted, RuleForm}
+use Rattle.bloom_ast.specs.Heads.{IsOrdered}
+use Rattle.bloom_ast.specs.Kinds.{is_input}
 use Rattle.bloom_ast.specs.Lookup.{kind_of, declared}
 use Rattle.bloom_ast.specs.OverTables.{over, env_over}
 use Rattle.bloom_ast.specs.ProgramStep.{tables_after_step, outputs_of_step, no_arrivals, standing_outputs, empty_tables}
-use Rattle.bloom_ast.specs.Query.{Name}
+use Rattle.bloom_ast.specs.Query.{Name, Query}
+use Rattle.bloom_ast.specs.Reads.{named, cone, direct, kind_set, is_momentary, NamesRule, NamesScratchRule}
 use Rattle.bloom_ast.specs.Step.{Sets, set_at, at_end, union_of, tables_after, outputs_of}
+
+-- what the collections hold once the heads are taken solves the equations of the module
+abbrev pub EndSolves : Type 0
+EndSolves = (a : Accepted) (kept now : Sets) → IsOrdered a.form.collections a.form.rules a.heads
+    → Solves a.form (set_named Table a.form.collections kept) (set_named Input a.form.collections now) (end_env a kept now)
+
+-- the equations of a module have one solution
+abbrev pub HasOneSolution : Type 0
+HasOneSolution = (a : Accepted) (kept now env other : Env) → IsOrdered a.form.collections a.form.rules a.heads
+    → Solves a.form kept now env → Solves a.form kept now other → (name : Name) → env name ≡ other name
+
+-- the new tables are what the solution gives to the tables
+abbrev pub GivesTables : Type 0
+GivesTables = (a : Accepted) (kept now : Sets) (name : Name) → kind_of a.form.collections name ≡ Some Table
+    → set_named Table a.form.collections (tables_after a kept now) name ≡ end_env a kept now name
+
+-- the outputs are what the solution gives to the outputs
+abbrev pub GivesOutputs : Type 0
+GivesOutputs = (a : Accepted) (kept now : Sets) (name : Name) → kind_of a.form.collections name ≡ Some Output
+    → set_named Output a.form.collections (outputs_of a kept now) name ≡ end_env a kept now name
+
+-- in a cone are the collections that the expression names, and the cones of the bodies of their rules
+abbrev pub ConeUnfolds : Type 0
+ConeUnfolds = (cs : List Collection) (rules : List RuleForm) (q : Query) (n : ℕ) → length cs ≤ 32 → n < 64
+    → IsTrue (meets (bit_of n) (cone cs rules q))
+    ↔ (IsTrue (meets (bit_of n) (named cs q)) ⊎ ((r : RuleForm) × NamesRule cs rules q r × IsTrue (meets (bit_of n) (cone cs rules r.1))))
+
+-- an expression reads the collections that it names, and what the bodies of the rules of those scratches read
+abbrev pub DirectUnfolds : Type 0
+DirectUnfolds = (cs : List Collection) (rules : List RuleForm) (q : Query) (n : ℕ) → length cs ≤ 32 → n < 64
+    → IsTrue (meets (bit_of n) (direct cs rules q))
+    ↔ (IsTrue (meets (bit_of n) (named cs q)) ⊎ ((r : RuleForm) × NamesScratchRule cs rules q r × IsTrue (meets (bit_of n) (direct cs rules r.1))))
+
+-- an expression is momentary where it names an input, or a scratch that has a momentary rule
+abbrev pub MomentaryUnfolds : Type 0
+MomentaryUnfolds = (cs : List Collection) (rules : List RuleForm) (q : Query) → length cs ≤ 32
+    → IsTrue (is_momentary cs rules q)
+    ↔ (IsTrue (meets (kind_set is_input cs) (named cs q)) ⊎ ((r : RuleForm) × NamesScratchRule cs rules q r × IsTrue (is_momentary cs rules r.1)))
 
 -- after any step the next one, with nothing arriving, leaves the tables as they are and puts out nothing that wasn't put out; over empty tables it puts out nothing
 pub record StandsStill (program : Program) : Type 0 where

@@ -1,29 +1,21 @@
 //! Laws of a step and of what an expression reads, each the contract of a function that does nothing.
-ghost use Rattle.std.specs.Prelude.{ℕ, ◌≡◌, ◌≤◌, ◌<◌, ◌↔◌, ◌⊎◌, Some, List, IsTrue, length};
-ghost use Rattle.fd_closure.specs.Bits.{bit_of, meets};
-ghost use Rattle.bloom_ast.specs.declared.module.Collection.{Collection};
-ghost use Rattle.bloom_ast.specs.declared.module.Kind.TheVariants.{Input, Output, Table};
-ghost use Rattle.bloom_ast.specs.Query.{Name, Query};
+ghost use Rattle.std.specs.Prelude.{ℕ, ◌≡◌, List};
+ghost use Rattle.bloom_ast.specs.Query.{Name};
 ghost use Rattle.bloom_ast.specs.Faults.{fault_of};
 ghost use Rattle.bloom_ast.specs.FirstFault.{first_fault};
-ghost use Rattle.bloom_ast.specs.Form.{RuleForm, Form, Accepted};
-ghost use Rattle.bloom_ast.specs.Kinds.{is_input};
-ghost use Rattle.bloom_ast.specs.Lookup.{kind_of};
+ghost use Rattle.bloom_ast.specs.Form.{Form, Accepted};
 ghost use Rattle.bloom_ast.specs.Heads.{IsOrdered};
-ghost use Rattle.bloom_ast.specs.Reads.{named, cone, direct, kind_set, is_momentary, NamesRule, NamesScratchRule};
-ghost use Rattle.bloom_ast.specs.Step.{Sets, outputs_of, tables_after};
-ghost use Rattle.bloom_ast.specs.Equations.{Env, Solves, end_env, set_named};
 ghost use Rattle.bloom_ast.specs.Checks.{IsChecked};
-ghost use Rattle.bloom_ast.specs.Laws.{StandsStill, StepsSame, HoldsByKind, EndsOver};
+ghost use Rattle.bloom_ast.specs.Laws.{EndSolves, HasOneSolution, GivesTables, GivesOutputs, ConeUnfolds, DirectUnfolds, MomentaryUnfolds, StandsStill, StepsSame, HoldsByKind, EndsOver};
 ghost use Rattle.bloom_ast.specs.declared.program.Program.TheVariants.{Module, Split, Latest, Number};
 
 /// A step as equations: what the collections hold once the heads are taken is the one solution, and
 /// the new tables and the outputs are what it gives to the tables and outputs.
 pub fn step_law()
-    ensures solved { (a : Accepted) (kept now : Sets) → IsOrdered a.form.collections a.form.rules a.heads → Solves a.form (set_named Table a.form.collections kept) (set_named Input a.form.collections now) (end_env a kept now) }
-    ensures one { (a : Accepted) (kept now env other : Env) → IsOrdered a.form.collections a.form.rules a.heads → Solves a.form kept now env → Solves a.form kept now other → (name : Name) → env name ≡ other name }
-    ensures tables { (a : Accepted) (kept now : Sets) (name : Name) → kind_of a.form.collections name ≡ Some Table → set_named Table a.form.collections (tables_after a kept now) name ≡ end_env a kept now name }
-    ensures outputs { (a : Accepted) (kept now : Sets) (name : Name) → kind_of a.form.collections name ≡ Some Output → set_named Output a.form.collections (outputs_of a kept now) name ≡ end_env a kept now name }
+    ensures solved { EndSolves }
+    ensures one { HasOneSolution }
+    ensures tables { GivesTables }
+    ensures outputs { GivesOutputs }
 {}
 
 /// After a step the next one, with nothing arriving, leaves the tables as they are, and each of its
@@ -49,14 +41,14 @@ pub fn tables_law()
     ensures end { (a : Accepted) → IsOrdered a.form.collections a.form.rules a.heads → EndsOver a }
 {}
 
-/// What an expression reads, one level at a time: in a cone are the collections that the expression names, and the cones of the bodies of
-/// their rules; an expression reads the collections that it names, and what the bodies of the rules
-/// of those scratches read; it is momentary where it names an input, or a scratch that has a
-/// momentary rule.
+/// What an expression reads, one level at a time: in a cone are the collections that the expression
+/// names, and the cones of the bodies of their rules; an expression reads the collections that it
+/// names, and what the bodies of the rules of those scratches read; it is momentary where it names an
+/// input, or a scratch that has a momentary rule.
 pub fn reads_law()
-    ensures cone { (cs : List Collection) (rules : List RuleForm) (q : Query) (n : ℕ) → length cs ≤ 32 → n < 64 → IsTrue (meets (bit_of n) (cone cs rules q)) ↔ (IsTrue (meets (bit_of n) (named cs q)) ⊎ ((r : RuleForm) × NamesRule cs rules q r × IsTrue (meets (bit_of n) (cone cs rules r.1)))) }
-    ensures direct { (cs : List Collection) (rules : List RuleForm) (q : Query) (n : ℕ) → length cs ≤ 32 → n < 64 → IsTrue (meets (bit_of n) (direct cs rules q)) ↔ (IsTrue (meets (bit_of n) (named cs q)) ⊎ ((r : RuleForm) × NamesScratchRule cs rules q r × IsTrue (meets (bit_of n) (direct cs rules r.1)))) }
-    ensures momentary { (cs : List Collection) (rules : List RuleForm) (q : Query) → length cs ≤ 32 → IsTrue (is_momentary cs rules q) ↔ (IsTrue (meets (kind_set is_input cs) (named cs q)) ⊎ ((r : RuleForm) × NamesScratchRule cs rules q r × IsTrue (is_momentary cs rules r.1))) }
+    ensures cone { ConeUnfolds }
+    ensures direct { DirectUnfolds }
+    ensures momentary { MomentaryUnfolds }
 {}
 
 /// The first fault of a module, which the check finds by arrows and sets of bits, is that by what is

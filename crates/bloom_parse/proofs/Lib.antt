@@ -1,4 +1,4 @@
 pub mod Machine
 pub mod Grammar
 pub mod Printed
-pub mod Tokens
+pub mod Texts

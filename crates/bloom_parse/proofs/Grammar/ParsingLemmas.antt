@@ -9,7 +9,7 @@ use Rattle.bloom_parse.specs.Tokens.{HasTokens}
 use Rattle.bloom_parse.specs.Code.ReadingSingle.{Fails}
 use Rattle.bloom_parse.specs.declared.reading.read_fault.ReadFault.{ReadFault}
 use Rattle.bloom_parse.specs.declared.reading.read_fault.ReadFault.TheVariants.{Left}
-use Rattle.bloom_parse.proofs.Tokens.TokensLemmas.{one_list}
+use Rattle.bloom_parse.proofs.Texts.TokensLemmas.{one_list}
 
 -- a text of a module has terminals that are a text of it
 pub text_is : (text : List ℕ) (tokens : List Token) (ts : List Terminal) (rest : List ℕ) (m : Form) → HasTokens text tokens ts rest → IsTextOf text m → IsModuleText ts m

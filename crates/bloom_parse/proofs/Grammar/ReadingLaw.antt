@@ -15,8 +15,8 @@ use Rattle.bloom_parse.specs.Tokens.{Front, front, behind_blanks, Lexes, HasToke
 use Rattle.bloom_parse.proofs.Grammar.ModuleComplete.{text_again}
 use Rattle.bloom_parse.proofs.Grammar.ParsingLemmas.{text_is}
 use Rattle.bloom_parse.proofs.Machine.PlacesCorrect.{read_is_text, fault_is_first}
-use Rattle.bloom_parse.proofs.Tokens.ShorterLemmas.{blanks_no_longer, lex_shorter}
-use Rattle.bloom_parse.proofs.Tokens.TokensLemmas.{one_list}
+use Rattle.bloom_parse.proofs.Texts.ShorterLemmas.{blanks_no_longer, lex_shorter}
+use Rattle.bloom_parse.proofs.Texts.TokensLemmas.{one_list}
 
 -- ---- the tokens of a text
 

@@ -16,8 +16,8 @@ use Rattle.bloom_parse.specs.declared.lexing.terminal.Mark.TheVariants as marks
 use Rattle.bloom_parse.specs.declared.lexing.terminal.Word.TheVariants as words
 use Rattle.bloom_parse.specs.Parsing.{IsTextOf}
 use Rattle.bloom_parse.specs.Trees.{word, mark, UnitTree, AndsTree, OrsTree, term_token, unit_text, ands_text, ors_text, unit_formula, ands_formula, ors_formula, Item, ExprTree, item_text, item_pair, more_items_text, more_pairs_text, more_names_text, keys_text, agg_text, expr_text, expr_query, CollectionTree, collection_text, collection_form, RuleTree, rule_text, tree_rule, ModuleTree, module_text, module_form}
-use Rattle.bloom_parse.proofs.Tokens.NameTokens.{token_names, Named, named_parts, lexes_named}
-use Rattle.bloom_parse.proofs.Tokens.TerminalLemmas.{Own, own_parts, own_both}
+use Rattle.bloom_parse.proofs.Texts.NameTokens.{token_names, Named, named_parts, lexes_named}
+use Rattle.bloom_parse.proofs.Texts.TerminalLemmas.{Own, own_parts, own_both}
 
 -- what stands before other terminals
 before_end : (ts us : List Terminal) → Named (ts ++ us) → Named ts

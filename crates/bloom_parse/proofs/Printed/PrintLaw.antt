@@ -14,8 +14,8 @@ use Rattle.bloom_parse.specs.Layout.{Levels, levels, item_of, tree_of, first_nam
 use Rattle.bloom_parse.specs.Places.{IsModuleText}
 use Rattle.bloom_parse.specs.Printable.{HasItems, IsPrintable}
 use Rattle.bloom_parse.specs.Tokens.{AreTerminals}
-use Rattle.bloom_parse.proofs.Tokens.LaidLemmas.{lexes_laid}
-use Rattle.bloom_parse.proofs.Tokens.ApartLemmas.{module_apart}
+use Rattle.bloom_parse.proofs.Texts.LaidLemmas.{lexes_laid}
+use Rattle.bloom_parse.proofs.Texts.ApartLemmas.{module_apart}
 
 -- each of the three trees of a predicate means it
 abbrev AreOf : Formula → Levels → Type 0

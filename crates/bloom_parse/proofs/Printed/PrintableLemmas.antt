@@ -18,7 +18,7 @@ use Rattle.bloom_parse.specs.Parsing.{IsTextOf}
 use Rattle.bloom_parse.specs.Printable.{HasItems, IsPrintable}
 use Rattle.bloom_parse.specs.Trees.{more_names_text, expr_text, ExprFits, collection_text, rule_text, module_text}
 use Rattle.bloom_parse.proofs.Printed.BoundsLemmas.{low, tree_fits, has_bounds, has_items, some_columns}
-use Rattle.bloom_parse.proofs.Tokens.TerminalLemmas.{Own, Are, are_both, own_first, own_parts, more_names_are, expr_are}
+use Rattle.bloom_parse.proofs.Texts.TerminalLemmas.{Own, Are, are_both, own_first, own_parts, more_names_are, expr_are}
 use Rattle.bloom_parse.proofs.Printed.PrintLaw.{printed_again, printed_text}
 
 -- ---- collections

@@ -69,7 +69,7 @@ fn line_behind(bytes: &[u8]) -> u32
     bytes.iter().filter(|byte| **byte == b'\n').count() as u32 + 1
 }
 
-#[tactic(auto, using(crate::proofs::Tokens::RunLemmas::column_next))]
+#[tactic(auto, using(crate::proofs::Texts::RunLemmas::column_next))]
 fn column_behind(bytes: &[u8]) -> u32
     requires { length bytes.now < 2 ^ 32 - 1 }
     ensures { result ≡ spec.column_behind bytes.now }
@@ -82,7 +82,7 @@ fn column_behind(bytes: &[u8]) -> u32
 }
 
 // The place of the byte with this number.
-#[tactic(auto, using(crate::proofs::Tokens::RunLemmas::take_within))]
+#[tactic(auto, using(crate::proofs::Texts::RunLemmas::take_within))]
 fn place_of(text: &[u8], number: usize) -> TextFault
     requires { length text.now < 2 ^ 32 - 1 }
     ensures { result ≡ spec.place_of text.now number }

@@ -1,8 +1,8 @@
 use Rattle.std.proofs.Common.{ℕ, List, [], ◌∷◌, ap, ◌∙◌, sym, append_assoc}
 use Rattle.blz_value.specs.Text.{escaped}
 use Rattle.bloom_parse.specs.Tokens.{front}
-use Rattle.bloom_parse.proofs.Tokens.LiteralLaw.{text_back}
-use Rattle.bloom_parse.proofs.Tokens.SpelledLemmas.{text_again}
+use Rattle.bloom_parse.proofs.Texts.LiteralLaw.{text_back}
+use Rattle.bloom_parse.proofs.Texts.SpelledLemmas.{text_again}
 use Rattle.bloom_parse.proofs.laws.literal_law.Goals as goal
 
 pub returns : goal.returns

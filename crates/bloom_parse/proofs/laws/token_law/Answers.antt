@@ -1,4 +1,4 @@
-use Rattle.bloom_parse.proofs.Tokens.TokensLemmas.{one_list}
+use Rattle.bloom_parse.proofs.Texts.TokensLemmas.{one_list}
 use Rattle.bloom_parse.proofs.laws.token_law.Goals as goal
 
 pub returns : goal.returns

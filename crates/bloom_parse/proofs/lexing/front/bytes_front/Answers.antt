@@ -1,6 +1,6 @@
 use Rattle.std.proofs.Common.{◌-◌, ◌+◌, sym, ap, ◌∙◌, arith}
 use Rattle.bloom_parse.specs.Tokens.{bytes_front, with_bytes}
-use Rattle.bloom_parse.proofs.Tokens.ByteLemmas.{bytes_turn, bytes_bad, bytes_done, bytes_over}
+use Rattle.bloom_parse.proofs.Texts.ByteLemmas.{bytes_turn, bytes_bad, bytes_done, bytes_over}
 use Rattle.bloom_parse.proofs.lexing.front.bytes_front.Goals as goal
 
 pub returns-in-Some : goal.returns-in-Some

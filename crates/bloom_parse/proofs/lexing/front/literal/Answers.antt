@@ -1,5 +1,5 @@
 use Rattle.std.proofs.Common.{◌∙◌}
-use Rattle.bloom_parse.proofs.Tokens.ByteLemmas.{literal_read, literal_bad}
+use Rattle.bloom_parse.proofs.Texts.ByteLemmas.{literal_read, literal_bad}
 use Rattle.bloom_parse.proofs.lexing.front.literal.Goals as goal
 
 pub returns-in_ok-from_text-in-Ok : goal.returns-in_ok-from_text-in-Ok

@@ -1,5 +1,5 @@
 use Rattle.blz_value.specs.Name.{is_name_byte}
-use Rattle.bloom_parse.proofs.Tokens.RunLemmas.{run_passes}
+use Rattle.bloom_parse.proofs.Texts.RunLemmas.{run_passes}
 use Rattle.bloom_parse.proofs.lexing.front.name_front.Goals as goal
 
 pub named-requires : goal.named-requires

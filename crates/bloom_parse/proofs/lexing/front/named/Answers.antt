@@ -1,4 +1,4 @@
-use Rattle.bloom_parse.proofs.Tokens.RunLemmas.{utf8_of_name_bytes}
+use Rattle.bloom_parse.proofs.Texts.RunLemmas.{utf8_of_name_bytes}
 use Rattle.bloom_parse.proofs.lexing.front.named.Goals as goal
 
 pub returns-in_default : goal.returns-in_default

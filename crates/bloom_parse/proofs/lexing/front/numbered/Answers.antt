@@ -1,4 +1,4 @@
-use Rattle.bloom_parse.proofs.Tokens.NumberLemmas.{number_ok, number_err, number_not}
+use Rattle.bloom_parse.proofs.Texts.NumberLemmas.{number_ok, number_err, number_not}
 use Rattle.bloom_parse.proofs.lexing.front.numbered.Goals as goal
 
 pub returns-in-Ok-parse : goal.returns-in-Ok-parse

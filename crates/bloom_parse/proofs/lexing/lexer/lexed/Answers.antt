@@ -2,8 +2,8 @@ use Rattle.std.proofs.Common.{sym, ap, ◌∙◌, subst, ◌++◌, ◌∷◌, []
 use Rattle.std.specs.Option.{option_map}
 use Rattle.bloom_parse.specs.declared.lexing.terminal.Terminal.{Terminal}
 use Rattle.bloom_parse.specs.Tokens.{HasTokens}
-use Rattle.bloom_parse.proofs.Tokens.ShorterLemmas.{lex_shorter}
-use Rattle.bloom_parse.proofs.Tokens.TokensLemmas.{lex_done}
+use Rattle.bloom_parse.proofs.Texts.ShorterLemmas.{lex_shorter}
+use Rattle.bloom_parse.proofs.Texts.TokensLemmas.{lex_done}
 use Rattle.bloom_parse.proofs.lexing.lexer.lexed.Goals as goal
 
 pub loop-terminals-smaller : goal.loop-terminals-smaller

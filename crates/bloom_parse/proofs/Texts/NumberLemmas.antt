@@ -13,7 +13,7 @@ use Rattle.std.proofs.lemmas.Bool.{ltb-true, lt-ltb, eqb-true}
 use Rattle.std.specs.List.{AllByRecursion}
 use Rattle.bloom_parse.specs.declared.lexing.terminal.Terminal.TheVariants as terminals
 use Rattle.bloom_parse.specs.Tokens.{numbered, is_i64}
-use Rattle.bloom_parse.proofs.Tokens.RunLemmas.{and_true}
+use Rattle.bloom_parse.proofs.Texts.RunLemmas.{and_true}
 
 pub model : IsNumeralModel (λ ds. all_ascii_digits ds ≡ true) (digits_value 10)
 model = numerals_by_value (λ ds. all_ascii_digits ds ≡ true) tells_all_ascii_digits

@@ -16,8 +16,8 @@ use Rattle.bloom_parse.specs.declared.lexing.token.Token.{Token}
 use Rattle.bloom_parse.specs.Spelling.{spelled, IsTerminal}
 use Rattle.bloom_parse.specs.Tokens.{front, is_white, behind_blanks, token_at, Lexes}
 use Rattle.bloom_parse.specs.Layout.{before, behind, text_of}
-use Rattle.bloom_parse.proofs.Tokens.RunLemmas.{and_true}
-use Rattle.bloom_parse.proofs.Tokens.SpelledLemmas.{Stops, plain_name_again, word_again, number_again, text_again, decimal_digits, decimal_some}
+use Rattle.bloom_parse.proofs.Texts.RunLemmas.{and_true}
+use Rattle.bloom_parse.proofs.Texts.SpelledLemmas.{Stops, plain_name_again, word_again, number_again, text_again, decimal_digits, decimal_some}
 
 -- ---- white space
 

@@ -21,9 +21,9 @@ use Rattle.bloom_parse.specs.declared.lexing.terminal.Word.{Word}
 use Rattle.bloom_parse.specs.declared.lexing.terminal.Word.TheVariants as words
 use Rattle.bloom_parse.specs.Spelling.{word_of, word_bytes}
 use Rattle.bloom_parse.specs.Tokens.{front, named, is_number, numbered, number_size, and_rest, name_front, number_front, hex_value, is_control, hex_front, byte_front, closing_front, bytes_front, with_bytes, literal, text_front}
-use Rattle.bloom_parse.proofs.Tokens.RunLemmas.{and_true}
-use Rattle.bloom_parse.proofs.Tokens.NumberLemmas.{number_read, numeral_of, model}
-use Rattle.bloom_parse.proofs.Tokens.ByteLemmas.{bytes_closed, bytes_more, literal_read}
+use Rattle.bloom_parse.proofs.Texts.RunLemmas.{and_true}
+use Rattle.bloom_parse.proofs.Texts.NumberLemmas.{number_read, numeral_of, model}
+use Rattle.bloom_parse.proofs.Texts.ByteLemmas.{bytes_closed, bytes_more, literal_read}
 
 -- the text ends, or goes on with a byte that doesn't pass
 abbrev pub Stops : (ℕ → Bool) → List ℕ → Type 0

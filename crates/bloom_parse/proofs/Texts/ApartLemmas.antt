@@ -16,8 +16,8 @@ use Rattle.bloom_parse.specs.declared.lexing.terminal.Word.TheVariants as words
 use Rattle.bloom_parse.specs.declared.lexing.terminal.Mark.TheVariants as marks
 use Rattle.bloom_parse.specs.Trees.{word, mark, term_token, UnitTree, AndsTree, OrsTree, unit_text, ands_text, ors_text, Item, ExprTree, item_text, more_items_text, more_pairs_text, more_names_text, keys_text, agg_text, expr_text, kind_word, CollectionTree, collection_text, RuleTree, rule_text, ModuleTree, module_text}
 use Rattle.bloom_parse.specs.Layout.{behind, text_of}
-use Rattle.bloom_parse.proofs.Tokens.SpelledLemmas.{Stops}
-use Rattle.bloom_parse.proofs.Tokens.LaidLemmas.{IsFree, AreApart}
+use Rattle.bloom_parse.proofs.Texts.SpelledLemmas.{Stops}
+use Rattle.bloom_parse.proofs.Texts.LaidLemmas.{IsFree, AreApart}
 
 -- the terminals begin with no name byte
 abbrev Starts : List Terminal → Type 0

@@ -17,8 +17,8 @@ use Rattle.bloom_parse.specs.declared.lexing.terminal.Mark.{Mark}
 use Rattle.bloom_parse.specs.declared.lexing.token.Token.{Token}
 use Rattle.bloom_parse.specs.Spelling.{word_of}
 use Rattle.bloom_parse.specs.Tokens.{Front, and_rest, name_front, is_number, number_size, number_front, bytes_front, literal, text_front, mark_of, sign_front, mark_front, front, behind_blanks, last_of, Lexes}
-use Rattle.bloom_parse.proofs.Tokens.RunLemmas.{run_passes}
-use Rattle.bloom_parse.proofs.Tokens.TerminalLemmas.{Own, own_parts, own_both, terminal_name}
+use Rattle.bloom_parse.proofs.Texts.RunLemmas.{run_passes}
+use Rattle.bloom_parse.proofs.Texts.TerminalLemmas.{Own, own_parts, own_both, terminal_name}
 
 abbrev pub token_names : Terminal → List Name
 token_names (terminals.Name name) = name ∷ []

@@ -7,7 +7,7 @@ use Rattle.blazes_cli.specs.Script.Ending.{gave, refused, failed}
 use Rattle.blazes_cli.specs.Ends.{FilesStates, Came, Ends, ended}
 use Rattle.blazes_cli.specs.Words.{Asked, request_of}
 use Rattle.blazes_cli.specs.Commands.{Answer, Work, script}
-use Rattle.blazes_cli.specs.Commands.Work.{labelled, derived}
+use Rattle.blazes_cli.specs.Commands.Work.{labelled, derived, planned}
 use Rattle.blazes_cli.specs.Answer.{Answers, IsReply}
 use Rattle.blazes_cli.specs.Outcome.{SinkStates, WroteAll, IsSaid, IsOutcome, IsUsageOrLost, IsReadFaultOrLost}
 use Rattle.blazes_cli.specs.declared.status.Status.{Status}
@@ -18,12 +18,14 @@ use Rattle.blazes_cli.proofs.SteadyLemmas.{steady_ends}
 abbrev status_at : Ending Work → Status
 status_at (gave (labelled t)) = Done
 status_at (gave (derived t)) = Done
+status_at (gave (planned t)) = Done
 status_at (refused line) = Refused
 status_at (failed name) = ReadFault
 
 status_of_answer : (e : Ending Work) (answer : Answer) → Answers e answer → answer.status ≡ status_at e
 status_of_answer (gave (labelled t)) answer has = ap (λ a. a.status) has.says
 status_of_answer (gave (derived t)) answer has = ap (λ a. a.status) has.says
+status_of_answer (gave (planned t)) answer has = has.status
 status_of_answer (refused line) answer is = ap (λ a. a.status) is
 status_of_answer (failed name) answer is = ap (λ a. a.status) is
 
@@ -40,6 +42,7 @@ CountsAs files NoMemory = ⊥
 counts_at : (files : FilesStates) (s : Script Work) (e : Ending Work) → Came files s e → CountsAs files (status_at e)
 counts_at files s (gave (labelled t)) came = came.counts
 counts_at files s (gave (derived t)) came = came.counts
+counts_at files s (gave (planned t)) came = came.counts
 counts_at files s (refused line) came = came.counts
 counts_at files s (failed name) came = came.counts
 
@@ -53,6 +56,7 @@ reply_counts (Some asked) files answer answered =
 not_usage : (e : Ending Work) → status_at e ≡ Usage → ⊥
 not_usage (gave (labelled t)) is = cc
 not_usage (gave (derived t)) is = cc
+not_usage (gave (planned t)) is = cc
 not_usage (refused line) is = cc
 not_usage (failed name) is = cc
 
@@ -69,12 +73,14 @@ reply_unmatched (Some asked) files answer reply none = absurd (cc)
 read_failed : (e : Ending Work) → status_at e ≡ ReadFault → IsFailed e
 read_failed (gave (labelled t)) is = absurd (cc)
 read_failed (gave (derived t)) is = absurd (cc)
+read_failed (gave (planned t)) is = absurd (cc)
 read_failed (refused line) is = absurd (cc)
 read_failed (failed name) is = tt
 
 failed_read : (e : Ending Work) → IsFailed e → status_at e ≡ ReadFault
 failed_read (gave (labelled t)) is = absurd is
 failed_read (gave (derived t)) is = absurd is
+failed_read (gave (planned t)) is = absurd is
 failed_read (refused line) is = absurd is
 failed_read (failed name) is = refl
 

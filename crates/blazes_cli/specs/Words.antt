@@ -33,6 +33,8 @@ pub data Asked : Type 0 where
   label : Text → Asked
   -- how they come about
   derive : Text → Asked
+  -- its plan
+  plan : Text → Asked
 
 -- the words of a command line, taken apart: COMMAND, the words after it, and the values of the options
 pub record Line : Type 0 where
@@ -71,6 +73,7 @@ abbrev pub commands : List Command
 commands =
     record { name = codes "label"; asks = λ line. option_map Asked.label (only_word line) }
     ∷ record { name = codes "derive"; asks = λ line. option_map Asked.derive (only_word line) }
+    ∷ record { name = codes "plan"; asks = λ line. option_map Asked.plan (only_word line) }
     ∷ []
 
 -- what a line asks for

@@ -5,6 +5,7 @@
 mod file;
 mod labelling;
 mod module_file;
+mod planning;
 mod program;
 mod reply;
 mod status;

@@ -11,6 +11,7 @@ ghost use Rattle.blazes_cli.specs.Outcome.{sink_states, IsSaid, IsOutcome, IsUsa
 ghost use Rattle.blazes_cli.specs.Words.{request_of};
 
 use crate::labelling::{derive, label};
+use crate::planning::plan;
 use crate::reply::{Reply, conclusion, line};
 use crate::status::Status;
 use crate::stop::Stop;
@@ -30,6 +31,7 @@ fn outcome_of<F: Files>(alloc: Global, request: Request<'_>, files: &mut F) -> R
     match request {
         Request::Label { topology } => label(alloc, topology, files),
         Request::Derive { topology } => derive(alloc, topology, files),
+        Request::Plan { topology } => plan(alloc, topology, files),
     }
 }
 

@@ -16,6 +16,8 @@ pub enum Request<'a> {
     Label { topology: &'a str },
     /// How they come about.
     Derive { topology: &'a str },
+    /// Its plan.
+    Plan { topology: &'a str },
 }
 
 // The words of a command line, taken apart.
@@ -135,6 +137,9 @@ fn request_for<'a>(line: &Line<'_, 'a>) -> Option<Request<'a>>
             topology: only_word(line)?,
         }),
         "derive" => Some(Request::Derive {
+            topology: only_word(line)?,
+        }),
+        "plan" => Some(Request::Plan {
             topology: only_word(line)?,
         }),
         _ => None,

@@ -174,7 +174,7 @@ fn is_one_replicated(valid: &Valid, components: &[u32]) -> bool
 }
 
 /// Whether a member of a region is replicated.
-pub(crate) fn is_replicated(alloc: Global, valid: &Valid, region: u32) -> Result<bool, AllocError>
+pub fn is_replicated(alloc: Global, valid: &Valid, region: u32) -> Result<bool, AllocError>
     requires { region < length (regions.regions valid.now.view) }
     ensures { IfOk result (λ replicated. replicated ≡ spec.is_replicated_set valid.now.view (region_at valid.now.view region)) }
 {

@@ -87,6 +87,21 @@ fn alone_label(
     Ok(as_carried(valid, stream, label))
 }
 
+/// The label of a region as one node, where the streams have these labels.
+pub fn region_label(
+    alloc: Global,
+    valid: &Valid,
+    labels: &[Label],
+    region: u32,
+) -> Result<Label, AllocError>
+    requires { region < length (regions valid.now.view) }
+    ensures { IfOk result (λ label. label ≡ spec.region_label valid.now.view labels.now (region_at valid.now.view region)) }
+{
+    let paths = region_paths(alloc, valid, labels, region)?;
+    let replicated = is_replicated(alloc, valid, region)?;
+    Ok(reconcile(&paths, Mode::Free, replicated, &[]))
+}
+
 // The label of a region where it is cyclic.
 fn cycle_label(
     alloc: Global,
@@ -100,9 +115,7 @@ fn cycle_label(
     if !valid.is_cyclic(region) {
         return Ok(None);
     }
-    let paths = region_paths(alloc, valid, labels, region)?;
-    let replicated = is_replicated(alloc, valid, region)?;
-    Ok(Some(reconcile(&paths, Mode::Free, replicated, &[])))
+    Ok(Some(region_label(alloc, valid, labels, region)?))
 }
 
 #[tactic(auto, using(crate::proofs::Ranges::component_within, crate::proofs::Ranges::output_within))]

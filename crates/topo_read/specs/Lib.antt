@@ -7,3 +7,6 @@ pub mod Component
 pub mod Topology
 pub mod Gives
 pub mod Reading
+pub mod Fill
+pub mod Written
+pub mod Laws

@@ -13,6 +13,8 @@ mod label_tables;
 #[cfg(test)]
 mod labels;
 #[cfg(test)]
+mod plans;
+#[cfg(test)]
 mod program;
 #[cfg(test)]
 mod text;

@@ -4,6 +4,8 @@ use blazes_cli::Status;
 use blz_outside::MemFiles;
 use std::alloc::Global;
 use std::test::Fail;
+use topo_read::read;
+use topo_types::{FdEntry, ModeName};
 
 const SOURCE_ALONE: &str = r#"
 format = 2
@@ -37,12 +39,14 @@ fn a_sink_that_is_too_small_keeps_a_front(rt: HostRuntime) -> Result<(), Fail> {
 
 #[test]
 fn words_that_ask_for_nothing_get_the_usage_line(rt: HostRuntime) -> Result<(), Fail> {
-    let table: [&'static [&'static str]; 9] = [
+    let table: [&'static [&'static str]; 11] = [
         &[],
         &["label"],
         &["label", "a", "b"],
         &["derive"],
         &["derive", "a", "--count", "1"],
+        &["plan"],
+        &["plan", "a", "--seed", "1"],
         &["frob", "a"],
         &["soak", "--count", "0"],
         &["label", "a", "--seed", "1"],
@@ -319,5 +323,60 @@ fn brackets_without_end_are_no_topology(rt: HostRuntime) -> Result<(), Fail> {
     )?;
     assert_eq!(rt; status, Status::Refused);
     assert_eq!(rt; written.as_slice(), b"refused NotToml\n".as_slice());
+    Ok(())
+}
+
+// Sums by name in a file of format 1, with a dependency from name to campaign.
+const FIRST_FORMAT: &str = r#"
+format = 1
+[[source]]
+name = "clicks"
+columns = ["campaign", "name", "uid"]
+seal = ["campaign"]
+to = ["sums.clicks"]
+[[component]]
+name = "sums"
+module = "sums.bloom"
+[[stream]]
+name = "sums"
+from = "sums.sums"
+[[fd]]
+from = "name"
+to = "campaign"
+"#;
+
+const NAME_SUMS: &str = "module sums;
+input clicks(campaign, name, uid);
+output sums(name, n);
+table seen(campaign, name, uid);
+seen <= clicks;
+sums <= group(seen, [name], count as n);
+";
+
+// Whether a dependency has one name on each side, and these.
+fn leads(fd: &FdEntry, from: &str, to: &str) -> bool {
+    match (fd.from.as_slice(), fd.to.as_slice()) {
+        ([first], [second]) => first.as_str() == from && second.as_str() == to,
+        _ => false,
+    }
+}
+
+#[test]
+fn a_plan_of_format_1_is_written_in_format_2(rt: HostRuntime) -> Result<(), Fail> {
+    let files = [("t.toml", FIRST_FORMAT), ("sums.bloom", NAME_SUMS)];
+    let (status, written) = answer(rt.alloc(), &files, &["plan", "t.toml"])?;
+    assert_eq!(rt; status, Status::Done);
+    let planned = read(rt.alloc(), &written)?;
+    assert_eq!(rt; planned.format, 2);
+    let waits = match planned.components.as_slice() {
+        [sums] => sums.mode == ModeName::Seal,
+        _ => false,
+    };
+    assert!(rt; waits, "the sums wait");
+    let leads = match planned.fds.as_slice() {
+        [fd] => leads(fd, "name", "campaign"),
+        _ => false,
+    };
+    assert!(rt; leads, "the dependency stays");
     Ok(())
 }

@@ -7,7 +7,7 @@ use Rattle.blazes_cli.specs.Words.{Asked, simple_command}
 use Rattle.blazes_cli.specs.Words as spec
 use Rattle.blazes_cli.specs.declared.words.Line.{Line}
 use Rattle.blazes_cli.specs.declared.words.Request.{Request}
-use Rattle.blazes_cli.specs.declared.words.Request.TheVariants.{Label, Derive}
+use Rattle.blazes_cli.specs.declared.words.Request.TheVariants.{Label, Derive, Plan}
 
 -- the words match the simple command
 abbrev pub Match : List Text → Type 0
@@ -31,3 +31,4 @@ line_shown line = record {
 abbrev pub asked_by : Request → Asked
 asked_by (Label topology) = Asked.label topology.now
 asked_by (Derive topology) = Asked.derive topology.now
+asked_by (Plan topology) = Asked.plan topology.now

@@ -17,7 +17,7 @@ use Rattle.label_rules.specs.declared.label.Label.{Label}
 use Rattle.label_rules.specs.declared.label.Label.TheVariants.{Run}
 use Rattle.label_rules.specs.declared.label.PathLabel.{PathLabel}
 use Rattle.label_rules.specs.Reconciliation.{reconcile}
-use Rattle.label_walk.specs.Paths.{label_at, output_paths, region_at, region_paths, is_replicated_set}
+use Rattle.label_walk.specs.Paths.{label_at, output_paths, region_at}
 use Rattle.label_walk.specs.Labels.{AreLabels, as_carried, first_labels, labels_of, region_label, outside_label, label_by, label_after, with_region}
 use Rattle.label_walk.specs.Code.Remade.{cycle_label, alone_label, member_label, remade_label, remade_labels}
 use Rattle.label_walk.proofs.Upstream.ListsAlike.{map_alike}
@@ -67,12 +67,9 @@ pub alone_is : (v : View) (labels : List Label) (s : ℕ) (output : End) (paths 
 alone_is v labels s output paths mode replicated fds free p m r f =
     (λ i. as_carried v s (reconcile (p i) (m i) (r i) (f i))) ∙ sym (ap (λ (b : Bool). if b then Run else outside_label v labels s output) free)
 
--- what it gathers of a cyclic region gives the region's label
-pub cycle_is_some : (v : View) (labels : List Label) (r : ℕ) (paths : List PathLabel) (replicated : Bool)
-    → is_cyclic v r ≡ true → paths ≡ region_paths v labels (region_at v r) → replicated ≡ is_replicated_set v (region_at v r)
-    → Some (reconcile paths Free replicated []) ≡ cycle_label v labels r
-cycle_is_some v labels r paths replicated cyclic p q =
-    (λ i. Some (reconcile (p i) Free (q i) [])) ∙ sym (ap (λ (b : Bool). if b then Some (region_label v labels (region_at v r)) else None) cyclic)
+-- the label of a region is that where it is cyclic
+pub cycle_is_some : (v : View) (labels : List Label) (r : ℕ) (label : Label) → is_cyclic v r ≡ true → label ≡ region_label v labels (region_at v r) → Some label ≡ cycle_label v labels r
+cycle_is_some v labels r label cyclic is = ap (λ (l : Label). Some l) is ∙ sym (ap (λ (b : Bool). if b then Some (region_label v labels (region_at v r)) else None) cyclic)
 
 -- what is made of all regions are the labels
 pub walked : (v : View) → IsValid v → (labels : List Label) (n : ℕ) → n ≡ length (regions v) → labels ≡ fold (with_region v) (first_labels v) (take n (regions v)) → AreLabels v labels

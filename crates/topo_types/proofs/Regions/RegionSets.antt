@@ -1,5 +1,5 @@
 -- Regions by their numbers: each is that of each of its members, and there are no more than components.
-use Rattle.std.proofs.Common.{◌≡◌, ◌≤◌, ◌<◌, inl, inr, ℕ, zero, suc, Bool, true, Option, None, Some, List, [], ◌∷◌, length, refl, arith, ap, sym, subst, ◌∙◌, bit_or}
+use Rattle.std.proofs.Common.{◌≡◌, ◌≤◌, ◌<◌, inl, inr, ℕ, zero, suc, true, Option, None, Some, List, [], ◌∷◌, length, refl, arith, ap, sym, subst, ◌∙◌, bit_or}
 use Rattle.blz_value.specs.Members.{Has}
 use Rattle.fd_closure.specs.declared.attrs.Fd.{Fd}
 use Rattle.fd_closure.proofs.Members.{member_small}
@@ -11,7 +11,7 @@ use Rattle.topo_types.specs.Regions.{edges, region_set, regions}
 use Rattle.topo_types.specs.Sets.{below}
 use Rattle.topo_types.specs.Valid.{IsValid}
 use Rattle.topo_types.specs.View.{View}
-use Rattle.topo_types.proofs.Regions.Classes.{same-class, region-is}
+use Rattle.topo_types.proofs.Regions.Classes.{same-class}
 use Rattle.topo_types.proofs.Regions.Numbering.{find-some}
 use Rattle.topo_types.proofs.Regions.RegionOrder.{where_same}
 use Rattle.topo_types.proofs.Regions.Spreading.{from_below}

@@ -156,3 +156,12 @@ impl Copied for Topology {
         })
     }
 }
+
+impl Topology {
+    /// An equal one of its own.
+    pub fn copy(&self, alloc: Global) -> Result<Topology, AllocError>
+        ensures { IfOk result (λ copy. copy ≡ self.now) }
+    {
+        self.copied(alloc)
+    }
+}

@@ -1,9 +1,11 @@
 //! Equal parts of a view of their own.
 ghost use Rattle.std.specs.Prelude.{◌≡◌, IfOk};
+ghost use Rattle.topo_types.specs.Kept.{view_kept};
 
-use crate::kept::{KeptComponent, KeptOutput, KeptPort, KeptStream};
+use crate::kept::{Kept, KeptComponent, KeptOutput, KeptPort, KeptStream};
 use crate::view::bodies::copy_program;
 use crate::view::copies::{Copied, copy_all};
+use crate::view::modes::copy_names;
 use bloom_ast::Program;
 use blz_value::Items;
 use path_annotate::Note;
@@ -74,4 +76,16 @@ impl Copied for KeptComponent {
             notes: copy_all(alloc, self.notes.as_slice())?,
         })
     }
+}
+
+/// Equal parts of their own.
+pub(crate) fn kept_copy(alloc: Global, kept: &Kept) -> Result<Kept, AllocError>
+    ensures { IfOk result (λ copy. view_kept copy ≡ view_kept kept.now) }
+{
+    Ok(Kept {
+        attributes: copy_names(alloc, &kept.attributes)?,
+        streams: copy_all(alloc, kept.streams.as_slice())?,
+        components: copy_all(alloc, kept.components.as_slice())?,
+        fds: copy_values(alloc, kept.fds.as_slice())?,
+    })
 }

@@ -123,8 +123,8 @@ fn components_with_mode(
     Ok(others)
 }
 
-// The names in a list of their own.
-fn copy_names(alloc: Global, names: &AttrNames) -> Result<AttrNames, AllocError>
+/// The names in a list of their own.
+pub(crate) fn copy_names(alloc: Global, names: &AttrNames) -> Result<AttrNames, AllocError>
     ensures { IfOk result (λ copy. copy ≡ names.now) }
 {
     let mut copy = AttrNames::new(alloc);

@@ -1,0 +1,16 @@
+//! Coordination for topologies: which components pass seals on or wait for them, and which take
+//! what arrives in one order.
+#![tactic(auto)]
+
+mod component;
+mod cycle;
+mod goodness;
+mod laws;
+mod notes;
+mod planning;
+mod ports;
+mod start;
+mod steps;
+
+pub use laws::{after_planning_law, plan_law, plan_modes_law};
+pub use planning::{order_plan, plan, seal_plan};

@@ -1,0 +1,32 @@
+//! Where a plan begins: with every component Free that isn't written Order.
+ghost use Rattle.std.specs.Prelude.{◌≡◌, ◌<◌, IfOk, length};
+ghost use Rattle.coord_synth.specs.Code.Start as code;
+ghost use Rattle.coord_synth.specs.Code.Written.{IsWritten};
+ghost use Rattle.coord_synth.specs.Plan as spec;
+
+use label_walk::is_order;
+use std::alloc::{AllocError, Global};
+use topo_types::{Mode, Valid};
+
+fn free_component(alloc: Global, now: Valid, component: u32) -> Result<Valid, AllocError>
+    requires { component < length now.view.components }
+    ensures { IfOk result (λ next. next ≡ code.free_component now component) }
+{
+    if is_order(&now, component) {
+        return Ok(now);
+    }
+    now.with_mode(alloc, component, Mode::Free)
+}
+
+/// The topology in which every component is Free that isn't Order.
+pub(crate) fn freed(alloc: Global, valid: &Valid) -> Result<Valid, AllocError>
+    ensures view { IfOk result (λ start. start.view ≡ spec.freed valid.now.view) }
+    ensures written { IfOk result (λ start. IsWritten valid.now.topology start) }
+{
+    valid.whole();
+    let mut now = valid.copy(alloc)?;
+    for component in 0..valid.component_count() {
+        now = free_component(alloc, now, component)?;
+    }
+    Ok(now)
+}

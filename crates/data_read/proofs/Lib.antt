@@ -1,0 +1,14 @@
+pub mod Front
+pub mod Loops
+pub mod RowLemmas
+pub mod ListsLemmas
+pub mod KeysLemmas
+pub mod WeightLemmas
+pub mod TextWeight
+pub mod KeyOfSource
+pub mod DistinctLemmas
+pub mod EarliestLemmas
+pub mod PairLemmas
+pub mod MakingLemmas
+pub mod FormLemmas
+pub mod HoldingLemmas

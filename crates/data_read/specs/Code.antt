@@ -1,0 +1,4 @@
+-- What the private functions give.
+pub mod Weight
+pub mod Earliest
+pub mod Pairs

@@ -1,0 +1,12 @@
+pub mod Shape
+pub mod Values
+pub mod Steps
+pub mod Keys
+pub mod Entry
+pub mod Form
+pub mod Counting
+pub mod Broken
+pub mod Making
+pub mod Reading
+pub mod Gives
+pub mod Code

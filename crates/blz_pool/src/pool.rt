@@ -1,7 +1,7 @@
 //! A pool of records, seen as the list of its records by number.
 ghost use Rattle.std.specs.Prelude.{ℕ, ◌≡◌, ◌<◌, ◌≤◌, ◌≢◌, ◌↔◌, [], ◌∷◌, ◌++◌, length, slice_get, AllPairs, Some, None, Err, IfOk, IsOk, IsTrue, OnOk, OnErr};
 ghost use Rattle.blz_value.specs.Members.{Has};
-ghost use Rattle.blz_pool.specs.Pool.{record_limit, number_of, with_record};
+ghost use Rattle.blz_pool.specs.Pool.{IsPool, record_limit, number_of, with_record};
 
 use crate::fault::PoolFault;
 use crate::id::Id;
@@ -42,6 +42,14 @@ impl Pool {
             records: Vec::new(alloc),
             numbers: BTreeMap::new(alloc),
         }
+    }
+
+    /// What holds of each pool: no record stands twice, and they are not too many. The call does
+    /// nothing.
+    pub fn known(&self)
+        ensures { IsPool self.now }
+    {
+        let _ = &self.records;
     }
 
     /// The number of records.

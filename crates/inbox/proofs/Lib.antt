@@ -1,6 +1,10 @@
 pub mod MessagesLemmas
+pub mod LogLemmas
+pub mod Ranges
+pub mod CarriedKeys
+pub mod Keeping
 pub mod WiringLemmas
-pub mod Timesteps
+pub mod TimestepLemmas
 pub mod Lists
 pub mod Executions
 pub mod Worked

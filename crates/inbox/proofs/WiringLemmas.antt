@@ -14,8 +14,8 @@ use Rattle.topo_types.specs.Messages.{row}
 use Rattle.inbox.specs.Messages.{Pair, Batch, all_pairs}
 use Rattle.inbox.specs.Instances.{Instance, port_of_feed}
 use Rattle.inbox.specs.Growth.{feed_numbered}
-use Rattle.inbox.proofs.Timesteps.Held.{ComesAtPorts}
-use Rattle.inbox.proofs.Timesteps.Entries.{heard_entry}
+use Rattle.inbox.proofs.TimestepLemmas.Held.{ComesAtPorts}
+use Rattle.inbox.proofs.TimestepLemmas.Entries.{heard_entry}
 use Rattle.inbox.specs.Wiring.{nobody, instances_at, instance_at, is_there, port_for, instance_for, wiring_of}
 
 pub get_or-below : {X : Type 0} (f : ℕ → X) (count n : ℕ) (d : X) → n < count → get_or (map f (below count)) n d ≡ f n

@@ -12,3 +12,8 @@ pub mod OrderReplicas
 pub mod Growth
 pub mod Standing
 pub mod Laws
+pub mod Log
+pub mod Code
+pub mod Ids
+pub mod Inbox
+pub mod Pools

@@ -1,4 +1,4 @@
-//! The laws of executions, each the contract of a function that does nothing.
+//! The laws of executions and of pools, each the contract of a function that does nothing.
 ghost use Rattle.inbox.specs.Laws.{
   ListsGrow,
   AllIsSent,
@@ -6,6 +6,14 @@ ghost use Rattle.inbox.specs.Laws.{
   ListsDontRepeat,
   SealedTimesteps,
   SequencerLaw,
+};
+ghost use Rattle.inbox.specs.Pools.{
+  PlacedIsLater,
+  LaterInSteps,
+  StandsLater,
+  KeepsLater,
+  GivenLater,
+  ReadsLater,
 };
 
 /// In all executions, complete or not, with forgets or without: each legal step only lengthens emitted
@@ -25,4 +33,19 @@ pub fn execution_law()
 /// entries of the log, as many as it took in the life in which it took most.
 pub fn sequencer_law()
     ensures { SequencerLaw }
+{}
+
+/// A pool may get records between two calls of an inbox or a log, since each id that it gave keeps its
+/// record. A pool is later than another where it gave all ids of that, for the same records: so it is
+/// after each record that is placed (`placed`), and after any number of them (`steps`). By a later pool
+/// an inbox stands for the batches for which it stood (`heard`), and keeps only ids that the pool gave
+/// (`kept`); the ids of a log are given (`given`) and are those of the same records (`reads`). So call
+/// after call an inbox answers what each batch sets off after all before it.
+pub fn pool_law()
+    ensures placed { PlacedIsLater }
+    ensures steps { LaterInSteps }
+    ensures heard { StandsLater }
+    ensures kept { KeepsLater }
+    ensures given { GivenLater }
+    ensures reads { ReadsLater }
 {}

@@ -1,8 +1,14 @@
 //! What an instance makes of the messages that it hears, and what an execution of a topology is.
-//! There are no wrong bodies to refuse: the functions of laws are empty, and an edit of a definition would
-//! only state another law.
 #![tactic(auto)]
 
+mod hearing;
+mod inbox;
+mod instance;
 mod laws;
+mod log;
+mod message;
 
-pub use laws::{execution_law, sequencer_law};
+pub use inbox::{Inbox, Timesteps};
+pub use laws::{execution_law, pool_law, sequencer_law};
+pub use log::Log;
+pub use message::Message;

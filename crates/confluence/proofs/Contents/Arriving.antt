@@ -20,9 +20,9 @@ use Rattle.inbox.specs.Timesteps.{timesteps}
 use Rattle.inbox.specs.Lives.{Life, all_lives}
 use Rattle.inbox.specs.Wiring.{Wiring, wiring_of, instance_at}
 use Rattle.inbox.specs.Executions.{Execution, emitted_list}
-use Rattle.inbox.proofs.Timesteps.Widths.{timesteps-many}
-use Rattle.inbox.proofs.Timesteps.OfLives.{batches_heard}
-use Rattle.inbox.proofs.Timesteps.Entries.{Has-from_rows_in}
+use Rattle.inbox.proofs.TimestepLemmas.Widths.{timesteps-many}
+use Rattle.inbox.proofs.TimestepLemmas.OfLives.{batches_heard}
+use Rattle.inbox.proofs.TimestepLemmas.Entries.{Has-from_rows_in}
 use Rattle.stream_deps.specs.Sent.{IsHistory, IsSentTo, AreSent}
 use Rattle.stream_deps.proofs.Records.ArrivingLaw.{feeds_law}
 use Rattle.stream_deps.proofs.Dependencies.JointLaw.{sent_has_stream}

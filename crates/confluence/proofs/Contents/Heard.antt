@@ -24,10 +24,10 @@ use Rattle.inbox.specs.Completeness.{IsComplete}
 use Rattle.inbox.specs.Growth.{feed_numbered, ComesFrom}
 use Rattle.inbox.specs.Events.{Step}
 use Rattle.inbox.proofs.Executions.Completing.{all_delivered}
-use Rattle.inbox.proofs.Timesteps.Held.{nothing_held}
+use Rattle.inbox.proofs.TimestepLemmas.Held.{nothing_held}
 use Rattle.inbox.proofs.Executions.Sent.{history_holds}
 use Rattle.inbox.proofs.WiringLemmas.{port_of-feed}
-use Rattle.inbox.proofs.Timesteps.Entries.{Has-rows_in, Has-from_rows_in, heard_entry, entry_heard}
+use Rattle.inbox.proofs.TimestepLemmas.Entries.{Has-rows_in, Has-from_rows_in, heard_entry, entry_heard}
 use Rattle.confluence.specs.Complete.{contents_at, contents_into}
 
 -- a member stands at a place

@@ -21,8 +21,8 @@ use Rattle.inbox.specs.Wiring.{Wiring, wiring_of, instance_at, instance_for, is_
 use Rattle.inbox.specs.Executions.{Execution, emitted_list, contents}
 use Rattle.inbox.specs.Completeness.{IsComplete}
 use Rattle.inbox.proofs.WiringLemmas.{instance-wired, there-wired, length-below, instance-ports}
-use Rattle.inbox.proofs.Timesteps.OfLives.{life_timesteps-hearing}
-use Rattle.inbox.proofs.Timesteps.Entries.{Has-rows_in, Has-from_rows_in}
+use Rattle.inbox.proofs.TimestepLemmas.OfLives.{life_timesteps-hearing}
+use Rattle.inbox.proofs.TimestepLemmas.Entries.{Has-rows_in, Has-from_rows_in}
 use Rattle.confluence.specs.Complete.{contents_into}
 use Rattle.confluence.proofs.Contents.Heard.{last_heard}
 use Rattle.confluence.proofs.Determined.Rows.{AreAllIn, IsDetermined}

@@ -19,7 +19,7 @@ use Rattle.inbox.proofs.Executions.Completing.{all_taken}
 use Rattle.inbox.proofs.WiringLemmas.{stream-wired}
 use Rattle.inbox.specs.OrderReplicas.{most_taken}
 use Rattle.inbox.proofs.Lists.SequencerLaw.{sequencer_law, fold_max-member}
-use Rattle.inbox.proofs.Timesteps.Entries.{Has-from_rows_in}
+use Rattle.inbox.proofs.TimestepLemmas.Entries.{Has-from_rows_in}
 use Rattle.confluence.proofs.Determined.DeterminedOutputs.{no_rows}
 use Rattle.confluence.proofs.Contents.Instances.{inside, instance_is, is_there_so, ports_are, output_there}
 use Rattle.confluence.proofs.Contents.NoBody.{no_body_no_rows}

@@ -40,7 +40,7 @@ use Rattle.inbox.specs.Growth.{feed_numbered}
 use Rattle.inbox.specs.Wiring.{Wiring, wiring_of, instance_at, instance_for}
 use Rattle.inbox.proofs.Lists.Growing.{continues_itself}
 use Rattle.inbox.proofs.WiringLemmas.{instance-ports, port_of-feed}
-use Rattle.inbox.proofs.Timesteps.Entries.{Has-rows_in, Has-from_rows_in}
+use Rattle.inbox.proofs.TimestepLemmas.Entries.{Has-rows_in, Has-from_rows_in}
 use Rattle.inbox.specs.Executions.{Execution, emitted_list, contents}
 use Rattle.inbox.specs.Completeness.{IsComplete}
 use Rattle.stream_deps.specs.Sent.{IsHistory}

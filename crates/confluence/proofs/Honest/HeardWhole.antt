@@ -20,10 +20,10 @@ use Rattle.inbox.specs.Wiring.{Wiring}
 use Rattle.inbox.specs.Executions.{Execution, emitted_list}
 use Rattle.inbox.specs.Growth.{feed_numbered, ComesFrom}
 use Rattle.inbox.proofs.MessagesLemmas.{is_same_row-itself}
-use Rattle.inbox.proofs.Timesteps.Whole.{whole-seal}
-use Rattle.inbox.proofs.Timesteps.UnderSeal.{of_key-is}
-use Rattle.inbox.proofs.Timesteps.Entries.{entry_heard, heard_entry, Has-rows_in, Has-from_rows_in}
-use Rattle.inbox.proofs.Timesteps.Touching.{none_of}
+use Rattle.inbox.proofs.TimestepLemmas.Whole.{whole-seal}
+use Rattle.inbox.proofs.TimestepLemmas.UnderSeal.{of_key-is}
+use Rattle.inbox.proofs.TimestepLemmas.Entries.{entry_heard, heard_entry, Has-rows_in, Has-from_rows_in}
+use Rattle.inbox.proofs.TimestepLemmas.Touching.{none_of}
 use Rattle.confluence.specs.Honest.{IsHonest}
 use Rattle.confluence.proofs.Honest.SmallSets.{within-back}
 

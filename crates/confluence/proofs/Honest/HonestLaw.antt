@@ -37,8 +37,8 @@ use Rattle.confluence.specs.Laws.{HonestLaw}
 use Rattle.confluence.proofs.Honest.FromFeeds.{IsFedHonestly}
 use Rattle.inbox.specs.Folds.{rows_from}
 use Rattle.inbox.proofs.Lists.Seals.{seals_of_list}
-use Rattle.inbox.proofs.Timesteps.OfLives.{life_timesteps-hearing}
-use Rattle.inbox.proofs.Timesteps.Entries.{Has-rows_in, Has-from_rows_in}
+use Rattle.inbox.proofs.TimestepLemmas.OfLives.{life_timesteps-hearing}
+use Rattle.inbox.proofs.TimestepLemmas.Entries.{Has-rows_in, Has-from_rows_in}
 use Rattle.confluence.proofs.Honest.Sources.{no_other_seal, no_row_again, honest_source}
 use Rattle.confluence.proofs.Honest.Rows.{same_rows}
 

@@ -17,10 +17,10 @@ use Rattle.inbox.specs.Executions.{Execution}
 use Rattle.inbox.specs.Growth.{ComesFrom}
 use Rattle.inbox.specs.Laws.{IsSent}
 use Rattle.inbox.proofs.Executions.Sent.{history_holds}
-use Rattle.inbox.proofs.Timesteps.Whole.{entries_of-append}
+use Rattle.inbox.proofs.TimestepLemmas.Whole.{entries_of-append}
 use Rattle.inbox.proofs.WiringLemmas.{instance-wired}
-use Rattle.inbox.proofs.Timesteps.Widths.{timesteps-many}
-use Rattle.inbox.proofs.Timesteps.OfLives.{batches_heard}
+use Rattle.inbox.proofs.TimestepLemmas.Widths.{timesteps-many}
+use Rattle.inbox.proofs.TimestepLemmas.OfLives.{batches_heard}
 use Rattle.stream_deps.specs.Sent.{IsHistory, AreSent}
 use Rattle.stream_deps.proofs.Records.ArrivingLaw.{heard_law, arrivals_law}
 use Rattle.stream_deps.proofs.Streams.InstancePorts.{ports_same}

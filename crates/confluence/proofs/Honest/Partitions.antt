@@ -24,8 +24,8 @@ use Rattle.inbox.specs.Instances.{Instance, is_carrying, key_of_entry}
 use Rattle.inbox.specs.Timesteps.{is_whole, timesteps, Stands}
 use Rattle.inbox.specs.Wiring.{Wiring}
 use Rattle.inbox.specs.Executions.{Execution}
-use Rattle.inbox.proofs.Timesteps.UnderSeal.{seal_timesteps-go, seal_timesteps-stand}
-use Rattle.inbox.proofs.Timesteps.Partitions.{became_whole, split_timesteps, partition_opens, opening_at, later_at}
+use Rattle.inbox.proofs.TimestepLemmas.UnderSeal.{seal_timesteps-go, seal_timesteps-stand}
+use Rattle.inbox.proofs.TimestepLemmas.Partitions.{became_whole, split_timesteps, partition_opens, opening_at, later_at}
 use Rattle.confluence.specs.Partitions.{IsFed}
 use Rattle.confluence.proofs.Honest.FromFeeds.{AllCome, IsFedHonestly, heard_fed, whole_heard}
 use Rattle.path_annotate.specs.Given.{is_w}

@@ -39,7 +39,7 @@ use Rattle.inbox.specs.Instances.{Instance, is_carrying, key_of_entry, entries_o
 use Rattle.inbox.specs.Timesteps.{is_whole, timesteps, Stands}
 use Rattle.inbox.specs.Wiring.{Wiring, wiring_of, instance_for}
 use Rattle.inbox.specs.Executions.{Execution}
-use Rattle.inbox.proofs.Timesteps.AtOnce.{GoesAtOnce, at_once_timesteps-stand}
+use Rattle.inbox.proofs.TimestepLemmas.AtOnce.{GoesAtOnce, at_once_timesteps-stand}
 use Rattle.inbox.proofs.WiringLemmas.{instance-ports}
 use Rattle.stream_deps.specs.Sent.{IsHistory}
 use Rattle.stream_deps.specs.Agreement.{port_roots}

@@ -19,7 +19,7 @@ use Rattle.topo_types.specs.View.{View, origin_of, program_of, is_order, replica
 use Rattle.topo_types.proofs.Regions.Spreading.{in_below}
 use Rattle.inbox.specs.Wiring.{wiring_of}
 use Rattle.inbox.specs.Executions.{Execution, emitted_list, contents}
-use Rattle.inbox.proofs.Timesteps.Entries.{Has-rows_in}
+use Rattle.inbox.proofs.TimestepLemmas.Entries.{Has-rows_in}
 use Rattle.stream_deps.specs.Sent.{IsHistory}
 use Rattle.confluence.specs.Complete.{contents_into}
 use Rattle.confluence.specs.Sound.{HaveEqualContents}

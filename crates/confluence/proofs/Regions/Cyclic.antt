@@ -34,11 +34,11 @@ use Rattle.inbox.specs.Growth.{feed_numbered}
 use Rattle.inbox.specs.Wiring.{Wiring, wiring_of, instance_at}
 use Rattle.inbox.specs.Executions.{Execution, emitted_list, contents}
 use Rattle.inbox.specs.Completeness.{IsComplete}
-use Rattle.inbox.proofs.Timesteps.Whole.{Has-filter_map}
+use Rattle.inbox.proofs.TimestepLemmas.Whole.{Has-filter_map}
 use Rattle.inbox.proofs.WiringLemmas.{port_of-feed, instance-wired, instance-feeds}
-use Rattle.inbox.proofs.Timesteps.Widths.{timesteps-many}
-use Rattle.inbox.proofs.Timesteps.Entries.{heard_entry, Has-rows_in, Has-from_rows_in}
-use Rattle.inbox.proofs.Timesteps.OfLives.{batches_heard}
+use Rattle.inbox.proofs.TimestepLemmas.Widths.{timesteps-many}
+use Rattle.inbox.proofs.TimestepLemmas.Entries.{heard_entry, Has-rows_in, Has-from_rows_in}
+use Rattle.inbox.proofs.TimestepLemmas.OfLives.{batches_heard}
 use Rattle.stream_deps.specs.Sent.{IsHistory}
 use Rattle.stream_deps.proofs.Streams.IntoPorts.{goes_is}
 use Rattle.confluence.specs.Complete.{contents_into}

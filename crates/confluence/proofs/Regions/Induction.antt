@@ -28,7 +28,7 @@ use Rattle.label_walk.specs.Paths.{label_at, is_from_outside, region_inputs, is_
 use Rattle.inbox.specs.Wiring.{Wiring, wiring_of}
 use Rattle.inbox.specs.Executions.{Execution, emitted_list, contents}
 use Rattle.inbox.proofs.Lists.Origins.{source_list}
-use Rattle.inbox.proofs.Timesteps.Entries.{Has-rows_in}
+use Rattle.inbox.proofs.TimestepLemmas.Entries.{Has-rows_in}
 use Rattle.stream_deps.specs.Sent.{IsHistory}
 use Rattle.stream_deps.proofs.Streams.IntoPorts.{goes_is}
 use Rattle.confluence.specs.Complete.{IsCompleted, contents_into}

@@ -31,7 +31,7 @@ use Rattle.inbox.specs.Executions.{Execution, list_from, emitted_list}
 use Rattle.inbox.specs.Growth.{is_repeat_of, NoRepeats}
 use Rattle.inbox.proofs.MessagesLemmas.{is_same_row-is, is_same_row-itself, is_same_message-is, is_same_message-itself, any-from_same}
 use Rattle.inbox.proofs.Lists.Growing.{length-each_by_place, get_or-each_by_place}
-use Rattle.inbox.proofs.Timesteps.Whole.{Has-filter_map}
+use Rattle.inbox.proofs.TimestepLemmas.Whole.{Has-filter_map}
 
 -- ---- lists without repeats
 

@@ -18,7 +18,7 @@ use Rattle.inbox.specs.Emission.{Kept, list_of, has_seal, count_in, with_row, wi
 use Rattle.inbox.specs.Lives.{Life, Lives, all_lives, life_sets_off, life_timesteps, after_life, emitted_by}
 use Rattle.inbox.specs.Folds.{rows_from}
 use Rattle.inbox.proofs.MessagesLemmas.{is_same_message-is, is_same_message-itself, same-from_any}
-use Rattle.inbox.proofs.Timesteps.Whole.{Has-filter_map}
+use Rattle.inbox.proofs.TimestepLemmas.Whole.{Has-filter_map}
 use Rattle.inbox.proofs.Lists.Growing.{get_or-each_by_place, emit_step-continues, emit_steps-continue, seal_all-continues}
 
 -- ---- equal members

@@ -22,8 +22,8 @@ use Rattle.inbox.proofs.Executions.Appending.{each_set_off-more, timesteps-more}
 use Rattle.inbox.proofs.Lists.Growing.{get_or-each_by_place, emit_step-continues, emit_steps-continue, seal_all-continues}
 use Rattle.inbox.specs.Folds.{rows_from}
 use Rattle.inbox.proofs.Lists.Rows.{rows-with_seal, rows-with_seals, rows-emit_steps, rows_from-append, tables-emit_steps}
-use Rattle.inbox.proofs.Timesteps.UnderSeal.{by_end, all_pairs-more}
-use Rattle.inbox.proofs.Timesteps.Whole.{newly-becomes}
+use Rattle.inbox.proofs.TimestepLemmas.UnderSeal.{by_end, all_pairs-more}
+use Rattle.inbox.proofs.TimestepLemmas.Whole.{newly-becomes}
 
 -- The plan: what is asked of a seal is asked where it is appended. Rows append no seal. After the
 -- timesteps of a batch the seals of that batch are appended, to a list that has all rows of the

@@ -22,7 +22,7 @@ use Rattle.inbox.specs.Wiring.{instance_at}
 use Rattle.inbox.specs.Growth.{Continues}
 use Rattle.inbox.specs.Folds.{rows_from}
 use Rattle.inbox.proofs.Lists.Rows.{rows_from-append, life_rows, rows_of_list}
-use Rattle.inbox.proofs.Timesteps.OfLives.{life_timesteps-taking}
+use Rattle.inbox.proofs.TimestepLemmas.OfLives.{life_timesteps-taking}
 use Rattle.inbox.proofs.Lists.Origins.{list-output}
 use Rattle.inbox.specs.OrderReplicas.{most_taken}
 use Rattle.inbox.specs.Laws.{SequencerLaw}

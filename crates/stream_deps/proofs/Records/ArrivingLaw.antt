@@ -9,7 +9,7 @@ use Rattle.inbox.specs.Lives.{life_timesteps}
 use Rattle.inbox.specs.Wiring.{instance_at, instance_for, wiring_of}
 use Rattle.inbox.proofs.Executions.Sent.{history_holds, sent_by_now}
 use Rattle.inbox.proofs.WiringLemmas.{instance-wired, instance-ports}
-use Rattle.inbox.proofs.Timesteps.OfLives.{life_timesteps-many}
+use Rattle.inbox.proofs.TimestepLemmas.OfLives.{life_timesteps-many}
 use Rattle.stream_deps.specs.Laws.{HeardLaw, TimestepsLaw, FeedsLaw, ArrivalsLaw, LifeLaw}
 use Rattle.stream_deps.proofs.Records.Sending.{feed_sends, heard_sent, timestep_sent}
 use Rattle.stream_deps.proofs.Records.TracedLaw.{width_law}

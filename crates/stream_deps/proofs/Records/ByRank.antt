@@ -21,10 +21,10 @@ use Rattle.inbox.specs.Executions.{Execution, first_execution, list_from, emitte
 use Rattle.inbox.specs.Events.{Step}
 use Rattle.inbox.proofs.Executions.Histories.{by_history, step_changes}
 use Rattle.inbox.proofs.Executions.Sent.{history_holds, step_before}
-use Rattle.inbox.proofs.Timesteps.Whole.{Has-filter_map}
+use Rattle.inbox.proofs.TimestepLemmas.Whole.{Has-filter_map}
 use Rattle.inbox.proofs.WiringLemmas.{instance-wired, instance-ports, stream-wired, length-below}
 use Rattle.inbox.proofs.Executions.Appending.{legal_more}
-use Rattle.inbox.proofs.Timesteps.OfLives.{timestep_entry, life_timesteps-many}
+use Rattle.inbox.proofs.TimestepLemmas.OfLives.{timestep_entry, life_timesteps-many}
 use Rattle.inbox.proofs.Lists.NoBody.{nothing_without}
 use Rattle.stream_deps.specs.Sent.{IsSentTo}
 use Rattle.stream_deps.proofs.Records.Sending.{timestep_sent}

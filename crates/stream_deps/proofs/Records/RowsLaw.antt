@@ -15,10 +15,10 @@ use Rattle.inbox.specs.Instances.{Instance}
 use Rattle.inbox.specs.Lives.{Life, Lives, all_lives, life_timesteps, emitted_by}
 use Rattle.inbox.specs.Wiring.{instance_at, instance_for, wiring_of}
 use Rattle.inbox.proofs.Lists.Rows.{life_rows, rows_of_list}
-use Rattle.inbox.proofs.Timesteps.Whole.{Has-filter_map}
+use Rattle.inbox.proofs.TimestepLemmas.Whole.{Has-filter_map}
 use Rattle.inbox.proofs.WiringLemmas.{instance-wired, length-below}
 use Rattle.inbox.proofs.Lists.Origins.{output_list}
-use Rattle.inbox.proofs.Timesteps.Entries.{Has-from_rows_in}
+use Rattle.inbox.proofs.TimestepLemmas.Entries.{Has-from_rows_in}
 use Rattle.stream_deps.specs.Laws.{RowsLaw}
 
 -- a record that stands in the list of an output, and the lives in which it is a row

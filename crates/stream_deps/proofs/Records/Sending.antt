@@ -16,8 +16,8 @@ use Rattle.inbox.specs.Lives.{Life, all_lives, life_timesteps}
 use Rattle.inbox.specs.Wiring.{instance_for, wiring_of}
 use Rattle.inbox.specs.Executions.{Execution, emitted_list}
 use Rattle.inbox.proofs.WiringLemmas.{IsFeedInto, instance-wired, instance-feeds, port_of-feed}
-use Rattle.inbox.proofs.Timesteps.OfLives.{timestep_entry}
-use Rattle.inbox.proofs.Timesteps.Entries.{heard_entry}
+use Rattle.inbox.proofs.TimestepLemmas.OfLives.{timestep_entry}
+use Rattle.inbox.proofs.TimestepLemmas.Entries.{heard_entry}
 use Rattle.stream_deps.specs.Sent.{IsSentTo}
 
 module _ (v : View) (d : Data) (x : Execution) where

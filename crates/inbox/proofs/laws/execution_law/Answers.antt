@@ -1,7 +1,7 @@
 use Rattle.inbox.proofs.Executions.Lengthening.{history_grows}
 use Rattle.inbox.proofs.Executions.Sent.{history_holds, sent_before}
 use Rattle.inbox.proofs.Lists.Repeats.{no_repeats-emitted_list}
-use Rattle.inbox.proofs.Timesteps.UnderSeal.{seal_timesteps-go, seal_timesteps-stand}
+use Rattle.inbox.proofs.TimestepLemmas.UnderSeal.{seal_timesteps-go, seal_timesteps-stand}
 use Rattle.inbox.proofs.laws.execution_law.Goals as goal
 
 pub returns-clause-grow : goal.returns-clause-grow

@@ -1,0 +1,11 @@
+-- What an inbox keeps stands for what was heard.
+pub mod Counters
+pub mod Loops
+pub mod Feeds
+pub mod Whole
+pub mod Records
+pub mod Released
+pub mod Batches
+pub mod Hears
+pub mod Fresh
+pub mod Later

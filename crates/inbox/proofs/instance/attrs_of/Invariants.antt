@@ -1,0 +1,8 @@
+-- the union of those before and after is that of all
+use Rattle.std.proofs.Common.{◌≡◌, drop, map}
+use Rattle.fd_closure.specs.Bits.{bit_of}
+use Rattle.bloom_ast.specs.Reads.{with_all}
+use Rattle.inbox.proofs.instance.attrs_of.Given as goal
+
+abbrev pub invariant-loop-column : goal.invariant-loop-column
+invariant-loop-column l = with_all l.attrs.bits (map bit_of (drop l.column-index l.columns)) ≡ with_all 0 (map bit_of l.columns)

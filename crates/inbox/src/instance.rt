@@ -1,0 +1,263 @@
+//! The ports and the feeds of an instance, off its topology.
+ghost use Rattle.std.specs.Prelude.{◌≡◌, ◌<◌, ◌++◌, ◌||◌, not, Some, length, map, filter, IfOk, OnOk};
+ghost use Rattle.std.specs.List.{flat_map, list_all};
+ghost use Rattle.topo_types.specs.Carried as carried;
+ghost use Rattle.topo_types.specs.Data.{key_places, place_of_attribute};
+ghost use Rattle.topo_types.specs.Feeds.{are_paired, paired_senders};
+ghost use Rattle.topo_types.specs.Sets.{set_of_numbers, below};
+ghost use Rattle.topo_types.specs.View as view;
+ghost use Rattle.inbox.specs.Wiring.{places_in_port, port_for};
+ghost use Rattle.inbox.specs.Code.Ports.{port_key, port_keys};
+
+use crate::hearing::port::Port;
+use blz_value::Items;
+use std::alloc::{AllocError, Global};
+use topo_types::{Attrs, Mode, Valid, carries};
+
+/// The key of a mode, where it has one.
+pub(crate) fn key_of(mode: Mode) -> Option<Attrs>
+    ensures { result ≡ view.mode_key mode }
+{
+    match mode {
+        Mode::Pass(key) | Mode::Seal(key) => Some(key),
+        Mode::Free | Mode::Order => None,
+    }
+}
+
+// Whether a stream goes to a port.
+fn goes_to(valid: &Valid, component: u32, port: u32, stream: u32) -> bool
+    requires { stream < length valid.now.view.streams }
+    ensures { result ≡ view.goes_to valid.now.view component port stream }
+{
+    for n in 0..valid.to_count(stream) {
+        let (other, there) = valid.to(stream, n);
+        if component == other && port == there {
+            return true;
+        }
+    }
+    false
+}
+
+// ---- ports
+
+// Whether a stream carries a key.
+fn carries_key(valid: &Valid, stream: u32, key: Attrs) -> bool
+    requires { stream < length valid.now.view.streams }
+    ensures { result ≡ carried.carries_key valid.now.view key.bits stream }
+{
+    valid.known();
+    match carries(valid, stream) {
+        Some(own) => own.bits == key.bits,
+        None => false,
+    }
+}
+
+// Whether a stream goes to a port.
+fn is_fed(valid: &Valid, component: u32, port: u32) -> bool
+    ensures { result ≡ view.has_stream valid.now.view component port }
+{
+    for stream in 0..valid.stream_count() {
+        if goes_to(valid, component, port, stream) {
+            return true;
+        }
+    }
+    false
+}
+
+// Whether a stream doesn't go to a port, or carries a key.
+fn passes(valid: &Valid, component: u32, port: u32, stream: u32, key: Attrs) -> bool
+    requires { stream < length valid.now.view.streams }
+    ensures { result ≡ (not (view.goes_to valid.now.view component port stream) || carried.carries_key valid.now.view key.bits stream) }
+{
+    !goes_to(valid, component, port, stream) || carries_key(valid, stream, key)
+}
+
+// Whether all streams to a port carry a key.
+fn all_carry(valid: &Valid, component: u32, port: u32, key: Attrs) -> bool
+    ensures { result ≡ list_all (λ s. not (view.goes_to valid.now.view component port s) || carried.carries_key valid.now.view key.bits s) (below (length valid.now.view.streams)) }
+{
+    for stream in 0..valid.stream_count() {
+        if !passes(valid, component, port, stream, key) {
+            return false;
+        }
+    }
+    true
+}
+
+// Whether a port carries a key.
+fn port_carries(valid: &Valid, component: u32, port: u32, key: Attrs) -> bool
+    ensures { result ≡ carried.port_carries valid.now.view key.bits component port }
+{
+    is_fed(valid, component, port) && all_carry(valid, component, port, key)
+}
+
+// The attributes of some columns.
+fn attrs_of(columns: &[u8]) -> Attrs
+    ensures { result ≡ record { bits = set_of_numbers columns.now } }
+{
+    let mut attrs = Attrs::from_bits(0);
+    for column in columns {
+        attrs = attrs.union(Attrs::of(*column as usize));
+    }
+    attrs
+}
+
+// The place of an attribute among columns, and their number where it is none of them.
+fn place_of(columns: &[u8], attribute: u8) -> usize
+    ensures { result ≡ place_of_attribute (map Some columns.now) attribute }
+{
+    for place in 0..columns.len() {
+        if columns[place] == attribute {
+            return place;
+        }
+    }
+    columns.len()
+}
+
+// The places of a key among columns.
+#[tactic(auto, using(crate::proofs::Ranges::below_steps))]
+fn places_of(alloc: Global, columns: &[u8], key: Attrs) -> Result<Vec<usize>, AllocError>
+    ensures { IfOk result (λ places. places.items ≡ key_places (map Some columns.now) key.bits) }
+{
+    let mut places = Vec::new(alloc);
+    for attribute in 0..64u8 {
+        if key.has(attribute) {
+            places.push(place_of(columns, attribute))?;
+        }
+    }
+    Ok(places)
+}
+
+// The places of a key at a port, where it has all columns of it.
+fn places_at(
+    alloc: Global,
+    valid: &Valid,
+    component: u32,
+    port: u32,
+    key: Attrs,
+) -> Result<Option<Items<usize>>, AllocError>
+    requires component { component < length valid.now.view.components }
+    requires port { port < length (view.component_at valid.now.view component).ports }
+    ensures { IfOk result (λ places. places ≡ places_in_port valid.now.view component port key) }
+{
+    let columns = valid.port_columns(component, port);
+    if !key.is_within(attrs_of(columns)) {
+        return Ok(None);
+    }
+    Ok(Some(Items::from_vec(places_of(alloc, columns, key)?)))
+}
+
+fn port_with(
+    alloc: Global,
+    valid: &Valid,
+    component: u32,
+    port: u32,
+    key: Option<Attrs>,
+) -> Result<Port, AllocError>
+    requires component { component < length valid.now.view.components }
+    requires port { port < length (view.component_at valid.now.view component).ports }
+    ensures { IfOk result (λ made. port_key made ≡ port_for valid.now.view component port key) }
+{
+    match key {
+        None => Ok(Port {
+            places: None,
+            carries: false,
+        }),
+        Some(key) => Ok(Port {
+            places: places_at(alloc, valid, component, port, key)?,
+            carries: port_carries(valid, component, port, key),
+        }),
+    }
+}
+
+/// The ports of an instance of a component, where its mode has this key.
+#[tactic(auto, using(crate::proofs::Ranges::below_steps))]
+pub(crate) fn ports_of(
+    alloc: Global,
+    valid: &Valid,
+    component: u32,
+    key: Option<Attrs>,
+) -> Result<Vec<Port>, AllocError>
+    requires { component < length valid.now.view.components }
+    ensures { IfOk result (λ ports. port_keys ports.items ≡ map (λ p. port_for valid.now.view component p key) (view.port_numbers valid.now.view component)) }
+{
+    let mut ports = Vec::new(alloc);
+    for port in 0..valid.port_count(component) {
+        ports.push(port_with(alloc, valid, component, port, key)?)?;
+    }
+    Ok(ports)
+}
+
+// ---- feeds
+
+fn is_paired(senders: u32, receivers: u32, i: u32, j: u32) -> bool
+    ensures { result ≡ are_paired senders receivers i j }
+{
+    if senders == receivers {
+        i == j
+    } else {
+        senders == 1 || receivers == 1
+    }
+}
+
+// Adds a port once for each sending replica of a stream that is paired with a replica.
+#[tactic(auto, using(crate::proofs::Ranges::below_steps))]
+fn push_from(
+    valid: &Valid,
+    component: u32,
+    replica: u32,
+    port: u32,
+    stream: u32,
+    into: &mut Vec<u32>,
+) -> Result<(), AllocError>
+    requires component { component < length valid.now.view.components }
+    requires stream { stream < length valid.now.view.streams }
+    ensures { OnOk result (into.new.items ≡ into.old.items ++ map (λ sender. port) (paired_senders valid.now.view component replica stream)) }
+{
+    let senders = valid.stream_replicas(stream);
+    let receivers = valid.replicas(component);
+    for sender in 0..senders {
+        if is_paired(senders, receivers, sender, replica) {
+            into.push(port)?;
+        }
+    }
+    Ok(())
+}
+
+// Adds a port once for each of its feeds.
+#[tactic(auto, using(crate::proofs::Ranges::below_steps))]
+fn push_at(
+    valid: &Valid,
+    component: u32,
+    replica: u32,
+    port: u32,
+    into: &mut Vec<u32>,
+) -> Result<(), AllocError>
+    requires { component < length valid.now.view.components }
+    ensures { OnOk result (into.new.items ≡ into.old.items ++ flat_map (λ s. map (λ sender. port) (paired_senders valid.now.view component replica s)) (view.streams_to valid.now.view component port)) }
+{
+    for stream in 0..valid.stream_count() {
+        if goes_to(valid, component, port, stream) {
+            push_from(valid, component, replica, port, stream, into)?;
+        }
+    }
+    Ok(())
+}
+
+/// The port of each feed of an instance of a component that isn't Order, by the feeds' numbers.
+#[tactic(auto, using(crate::proofs::Ranges::below_steps))]
+pub(crate) fn feed_ports(
+    alloc: Global,
+    valid: &Valid,
+    component: u32,
+    replica: u32,
+) -> Result<Vec<u32>, AllocError>
+    requires { component < length valid.now.view.components }
+    ensures { IfOk result (λ ports. ports.items ≡ flat_map (λ p. flat_map (λ s. map (λ sender. p) (paired_senders valid.now.view component replica s)) (view.streams_to valid.now.view component p)) (view.port_numbers valid.now.view component)) }
+{
+    let mut ports = Vec::new(alloc);
+    for port in 0..valid.port_count(component) {
+        push_at(valid, component, replica, port, &mut ports)?;
+    }
+    Ok(ports)
+}

@@ -1,0 +1,112 @@
+-- The ids of an emitted list, one message more, and what a push keeps of the lists.
+use Rattle.std.proofs.Common.{◌≡◌, ◌<◌, ◌≤◌, ◌+◌, ◌*◌, ◌||◌, append-nil, ℕ, false, Option, None, Some, List, [], ◌∷◌, ◌++◌, length, set, get_or, replicate, refl, ap, ◌∙◌, sym, subst, inl, inr, arith, length-append, eqb}
+use Rattle.std.specs.Prelude.{if◌then◌else◌, ◌==◌, is_some}
+use Rattle.std.specs.List.{All, list_any}
+use Rattle.std.proofs.lemmas.Bool.{cases_eq, cases_lt}
+use Rattle.std.proofs.lemmas.List.{get_or-set_same, get_or-set_other, get_or_append_left, get_or_push, length-set, get_or_default, get_or-replicate, length-replicate, get_or_past}
+use Rattle.std.proofs.lemmas.List.Elements.{filter_map-append}
+use Rattle.std.proofs.lemmas.List.Sums.{sum_by-set}
+use Rattle.std.proofs.lemmas.List.Folds.{sum_by-replicate}
+use Rattle.indexmap.specs.IndexSet.{insert_key}
+use Rattle.blz_pool.specs.Pool.{number_of, with_record}
+use Rattle.blz_pool.proofs.Records.{number_of-none, number_of-lacks}
+use Rattle.blz_value.specs.Record.{Row as Record}
+use Rattle.blz_value.specs.Sets.{IsRowSet}
+use Rattle.blz_value.proofs.SetLaws.{sorted_set_of}
+use Rattle.bloom_ast.specs.Step.{Sets, set_at}
+use Rattle.inbox.specs.Ids.{IsGiven}
+use Rattle.inbox.specs.declared.message.Message.{Message as IdMessage}
+use Rattle.inbox.specs.declared.message.Message.TheVariants.{Row, Seal}
+use Rattle.sched_run.specs.Limits.{message_limit}
+use Rattle.sched_run.specs.Lists.{total}
+use Rattle.sched_run.specs.Code.Ids.{id_in, ids_in, is_row_with}
+use Rattle.sched_run.proofs.ListsLemmas.{IsPlaced}
+
+-- ---- the index of ids
+
+ids_any : (id : ℕ) (list : List IdMessage) → list_any (eqb id) (ids_in list) ≡ list_any (is_row_with id) list
+ids_any id [] = refl
+ids_any id (Row other ∷ list) = ap (λ b. (id == other) || b) (ids_any id list)
+ids_any id (Seal key count ∷ list) = ids_any id list
+
+pub ids_test : (id n : ℕ) (list now : List IdMessage) (keys : List ℕ) → n ≡ id → keys ≡ ids_in list → list ≡ now → list_any (eqb n) keys ≡ list_any (is_row_with id) now
+ids_test id n list now keys same are is = ap (λ k. list_any (eqb k) keys) same ∙ ap (list_any (eqb id)) are ∙ ids_any id list ∙ ap (list_any (is_row_with id)) is
+
+pub ids_push : (list now new : List IdMessage) (keys next : List ℕ) (id n : ℕ) → n ≡ id → keys ≡ ids_in list → list ≡ now → list_any (is_row_with id) now ≡ false → next ≡ insert_key eqb keys n → new ≡ list ++ Row id ∷ [] → next ≡ ids_in new
+ids_push list now new keys next id n same are is none inserted pushed =
+    let fresh : list_any (eqb n) keys ≡ false = ids_test id n list now keys same are is ∙ none in
+    inserted
+    ∙ ap (λ b. if b then keys else keys ++ n ∷ []) fresh
+    ∙ ap (λ k. keys ++ k ∷ []) same
+    ∙ ap (λ l. l ++ id ∷ []) are
+    ∙ sym (ap ids_in pushed ∙ filter_map-append id_in list (Row id ∷ []))
+
+pub ids_seal : (list new : List IdMessage) (keys : List ℕ) (key : Record) (count : ℕ) → keys ≡ ids_in list → new ≡ list ++ Seal key count ∷ [] → keys ≡ ids_in new
+ids_seal list new keys key count are pushed =
+    are ∙ sym (ap ids_in pushed ∙ filter_map-append id_in list (Seal key count ∷ []) ∙ append-nil (ids_in list))
+
+-- ---- what holds of all lists, one message more
+
+pub given_push : (records : List Record) (list : List IdMessage) (m : IdMessage) → All (IsGiven records) list → IsGiven records m → All (IsGiven records) (list ++ m ∷ [])
+given_push records list m all given k d within = elim (cases_lt k (length list)) [
+  | inl old ↦ subst (IsGiven records) (sym (get_or_append_left list (m ∷ []) d k old)) (all k d old)
+  | inr more ↦
+      let last : length list ≡ k = omega (arith, length-append list (m ∷ [])) in
+      subst (IsGiven records) (sym (get_or_push list m d k last)) given
+]
+
+pub given_set : (records : List Record) (lists : List (List IdMessage)) (place : ℕ) (list : List IdMessage) → All (All (IsGiven records)) lists → All (IsGiven records) list → All (All (IsGiven records)) (set lists place list)
+given_set records lists place list all given k d within =
+    let inside : k < length lists = omega (arith, within, length-set lists place list) in
+    elim (cases_eq k place) [
+      | inl same ↦ subst (All (IsGiven records)) (sym (ap (λ n. get_or (set lists place list) n d) same ∙ get_or-set_same lists place list d (subst (λ n. n < length lists) same inside))) given
+      | inr differ ↦ subst (All (IsGiven records)) (sym (get_or-set_other lists place k list d differ)) (all k d inside)
+    ]
+
+-- what a push of a message keeps
+pub pushed_keeps : (records : List Record) (lists : List (List IdMessage)) (place count : ℕ) (m : IdMessage) (old new : List IdMessage)
+    → All (All (IsGiven records)) lists → count ≡ total lists → count ≤ message_limit → (count ≡ message_limit → ⊥) → place < length lists → IsGiven records m → old ≡ get_or lists place old → new ≡ old ++ m ∷ []
+    → All (All (IsGiven records)) (set lists place new) × (count + 1 ≡ total (set lists place new)) × (count + 1 ≤ message_limit)
+pushed_keeps records lists place count m old new all counted few more within given at is =
+    let same : old ≡ get_or lists place [] = at ∙ get_or_default lists place old [] within in
+    let longer : length new ≡ length (get_or lists place []) + 1 = ap length is ∙ length-append old (m ∷ []) ∙ ap (λ l. length l + 1) same in (
+      given_set records lists place new all (subst (All (IsGiven records)) (sym is) (given_push records old m (subst (All (IsGiven records)) (sym same) (all place [] within)) given)),
+      omega (arith, sum_by-set length lists place new [] within, longer, counted),
+      omega (arith, few, more),
+    )
+
+pub empty_keeps : (records : List Record) (lists : List (List IdMessage)) (n : ℕ) → lists ≡ replicate n [] → All (All (IsGiven records)) lists × (0 ≡ total lists) × (0 ≤ message_limit)
+empty_keeps records lists n are = (
+  λ k d within j e inside.
+      let here : k < n = omega (arith, within, ap length are, length-replicate {A = List IdMessage} n []) in
+      let none : get_or lists k d ≡ [] = ap (λ l. get_or l k d) are ∙ get_or-replicate n k [] d here in
+      absurd (omega (arith, inside, ap length none)),
+  sym (ap total are ∙ sum_by-replicate length n [] ∙ (let e : n * 0 ≡ 0 = omega arith in e)),
+  omega arith,
+)
+
+-- ---- the pool after a placing
+
+pub placed_with : (old new : List Record) (r : Record) → new ≡ with_record old r → IsPlaced old new r
+placed_with old new r is = by_number (number_of old r) refl
+  where
+    with_number : (o : Option ℕ) → number_of old r ≡ o → new ≡ (if is_some o then old else old ++ r ∷ [])
+    with_number o e = is ∙ ap (λ p. if is_some p then old else old ++ r ∷ []) e
+
+    by_number : (o : Option ℕ) → number_of old r ≡ o → IsPlaced old new r
+    by_number None e = record {
+      known = λ h. absurd (number_of-none old r e h);
+      last = λ fresh. with_number None e;
+    }
+    by_number (Some n) e = record {
+      known = λ h. with_number (Some n) e;
+      last = λ fresh. let no : Some n ≡ None = sym e ∙ number_of-lacks old r fresh in cc;
+    }
+
+-- ---- sets of outputs
+
+pub sets_all : (outs : Sets) (items : List (List Record)) (i : ℕ) → items ≡ outs → length items ≤ i → ((k : ℕ) → k < i → IsRowSet (set_at outs k)) → (n : ℕ) → IsRowSet (set_at outs n)
+sets_all outs items i same past all n = elim (cases_lt n i) [
+  | inl within ↦ all n within
+  | inr more ↦ subst IsRowSet (sym (get_or_past outs n [] (omega (arith, past, more, ap length same)))) (sorted_set_of [])
+]

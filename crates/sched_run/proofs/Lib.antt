@@ -1,0 +1,17 @@
+pub mod PlacesLemmas
+pub mod TakingLemmas
+pub mod OutputSets
+pub mod Emitting
+pub mod ListsLemmas
+pub mod OutletsLemmas
+pub mod RunningLemmas
+pub mod KeysLemmas
+pub mod ListSeals
+pub mod ListLoops
+pub mod FaultLemmas
+pub mod Ids
+pub mod SettingOff
+pub mod OwnOutlets
+pub mod Totals
+pub mod Showing
+pub mod Lifting

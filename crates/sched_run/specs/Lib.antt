@@ -1,0 +1,10 @@
+pub mod Numbered
+pub mod Limits
+pub mod Answers
+pub mod Bench
+pub mod Lists
+pub mod Places
+pub mod Outlets
+pub mod Shown
+pub mod Seated
+pub mod Code

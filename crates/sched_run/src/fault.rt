@@ -1,0 +1,89 @@
+//! Why a net isn't opened, and why an event or a forget is refused.
+ghost use Rattle.std.specs.Prelude.{◌≡◌};
+ghost use Rattle.sched_run.specs.declared.fault.EventFault.TheVariants as event;
+ghost use Rattle.sched_run.specs.declared.fault.OpenFault.TheVariants as open_fault;
+
+use std::alloc::{AllocError, AllocFailed};
+use thiserror::Error;
+
+/// Why a net isn't opened.
+#[derive(Debug, Drop, Error)]
+pub enum OpenFault {
+    /// A component has no body; it is the first such.
+    #[error("component {component} has no body")]
+    NoBody {
+        /// The number of the component.
+        component: u32,
+    },
+    /// The bench has no shell left for an instance of a component.
+    #[error("there is no shell for component {component}")]
+    NoShell {
+        /// The number of the component.
+        component: u32,
+    },
+    /// Memory ran out.
+    #[error("out of memory")]
+    NoMemory,
+}
+
+impl From<AllocError> for OpenFault {
+    ghost from_gives = { λ _ fault. fault ≡ open_fault.NoMemory };
+
+    fn from(_error: AllocError) -> OpenFault {
+        OpenFault::NoMemory
+    }
+}
+
+impl<T: Drop> From<AllocFailed<T>> for OpenFault {
+    ghost from_gives = { λ _ fault. fault ≡ open_fault.NoMemory };
+
+    fn from(_error: AllocFailed<T>) -> OpenFault {
+        OpenFault::NoMemory
+    }
+}
+
+/// Why an event is refused. The first three leave the net as it was, and the others end it.
+#[derive(Debug, Drop, Error)]
+pub enum EventFault {
+    /// The event names what isn't there: a component, a replica, a port, a stream, or a feed.
+    #[error("there is no such instance or feed")]
+    NoInstance,
+    /// The emitted list isn't so long.
+    #[error("the message isn't emitted yet")]
+    NoMessage,
+    /// The replica has taken all that the log has.
+    #[error("there is nothing to take")]
+    NothingToTake,
+    /// A set of a step would have more than 262,144 rows.
+    #[error("a set would have more than 262144 rows")]
+    TooManyRows,
+    /// The emitted lists together would have more than 262,144 messages.
+    #[error("there would be more than 262144 messages")]
+    TooManyMessages,
+    /// Memory ran out.
+    #[error("out of memory")]
+    NoMemory,
+}
+
+impl From<AllocError> for EventFault {
+    ghost from_gives = { λ _ fault. fault ≡ event.NoMemory };
+
+    fn from(_error: AllocError) -> EventFault {
+        EventFault::NoMemory
+    }
+}
+
+impl<T: Drop> From<AllocFailed<T>> for EventFault {
+    ghost from_gives = { λ _ fault. fault ≡ event.NoMemory };
+
+    fn from(_error: AllocFailed<T>) -> EventFault {
+        EventFault::NoMemory
+    }
+}
+
+/// Why a forget is refused.
+#[derive(Clone, Copy, Debug, PartialEq, Eq)]
+pub enum ForgetFault {
+    /// The component or the replica isn't there.
+    NoInstance,
+}

@@ -1,0 +1,125 @@
+//! Where an instance emits: the outputs that have a stream.
+ghost use Rattle.std.specs.Prelude.{◌≡◌, ◌<◌, ◌≤◌, ℕ, length, slice_get, slice_set, option_copied, Err, OnOk};
+ghost use Rattle.std.specs.List.{All};
+ghost use Rattle.blz_value.specs.Sets.{IsRowSet};
+ghost use Rattle.bloom_ast.specs.Step.{set_at};
+ghost use Rattle.inbox.specs.Emission.{with_rows, with_seals};
+ghost use Rattle.inbox.specs.Growth.{Continues};
+ghost use Rattle.sched_run.specs.Limits.{message_limit};
+ghost use Rattle.sched_run.specs.Lists.{OneListBecomes, IsExact, read_lists, list_at, total};
+ghost use Rattle.sched_run.specs.Code.Ids.{IsLimit};
+ghost use Rattle.sched_run.specs.Outlets.{emit_outlets, seal_outlets};
+ghost use Rattle.sched_run.specs.declared.fault.EventFault.TheVariants.{TooManyMessages};
+
+use crate::fault::EventFault;
+use crate::lists::Lists;
+use bloom_eval::Outs;
+use blz_set::RecordSet;
+use blz_value::{Items, Record};
+
+/// An output that has a stream: its number, the place of its emitted list, and the places of the
+/// key among its columns, where the stream carries one.
+#[derive(Debug, Drop)]
+pub(crate) struct Outlet {
+    pub(crate) output: u32,
+    pub(crate) place: usize,
+    pub(crate) key: Option<Items<u32>>,
+}
+
+/// That each output is a set; it takes a step for each.
+pub(crate) fn are_sets(outs: &Outs)
+    ensures { (n : ℕ) → IsRowSet (set_at outs.now n) }
+{
+    for set in outs.sets() {
+        let _ = set.rows();
+    }
+}
+
+// The set of an output, None past the end.
+fn set_in(outs: &Outs, output: u32) -> Option<&RecordSet>
+    ensures { option_copied result ≡ slice_get outs.now output }
+{
+    outs.sets().get(output as usize)
+}
+
+// Emits the set of an outlet's output.
+fn emit_output(lists: &mut Lists, outlet: &Outlet, outs: &Outs) -> Result<(), EventFault>
+    requires place { outlet.now.place < length lists.old.lists }
+    requires exact { IsExact lists.old }
+    ensures ok { OnOk result (OneListBecomes lists.old lists.new outlet.now.place (with_rows (list_at (read_lists lists.old) outlet.now.place) (set_at outs.now outlet.now.output))) }
+    ensures exact { OnOk result (IsExact lists.new) }
+    ensures few { OnOk result (total lists.new.lists ≤ message_limit) }
+    ensures too_many { result ≡ Err TooManyMessages → message_limit < total (slice_set (read_lists lists.old) outlet.now.place (with_rows (list_at (read_lists lists.old) outlet.now.place) (set_at outs.now outlet.now.output))) }
+    ensures legal { IsLimit result }
+{
+    lists.known();
+    match set_in(outs, outlet.output) {
+        Some(set) => lists.emit_rows(outlet.place, set.rows()),
+        None => Ok(()),
+    }
+}
+
+/// Emits what a step puts out, output by output. TooManyMessages comes exactly where the lists would
+/// have more messages together than they may. A fault leaves the lists with part of this.
+pub(crate) fn emit_outputs(
+    lists: &mut Lists,
+    outlets: &[Outlet],
+    outs: &Outs,
+) -> Result<(), EventFault>
+    requires places { All (λ o. o.place < length lists.old.lists) outlets.now }
+    requires exact { IsExact lists.old }
+    ensures ok { OnOk result (read_lists lists.new ≡ emit_outlets outlets.now outs.now (read_lists lists.old)) }
+    ensures records { OnOk result (Continues lists.old.records lists.new.records) }
+    ensures exact { OnOk result (IsExact lists.new) }
+    ensures count { OnOk result (length lists.new.lists ≡ length lists.old.lists) }
+    ensures few { OnOk result (total lists.new.lists ≤ message_limit) }
+    ensures too_many { result ≡ Err TooManyMessages → message_limit < total (emit_outlets outlets.now outs.now (read_lists lists.old)) }
+    ensures legal { IsLimit result }
+{
+    lists.known();
+    for outlet in outlets {
+        emit_output(lists, outlet, outs)?;
+    }
+    Ok(())
+}
+
+// Emits the seals of an outlet's list, where its stream carries the key.
+fn seal_output(lists: &mut Lists, outlet: &Outlet, keys: &[Record]) -> Result<(), EventFault>
+    requires place { outlet.now.place < length lists.old.lists }
+    requires exact { IsExact lists.old }
+    ensures ok { OnOk result (OneListBecomes lists.old lists.new outlet.now.place (with_seals outlet.now.key (list_at (read_lists lists.old) outlet.now.place) keys.now)) }
+    ensures exact { OnOk result (IsExact lists.new) }
+    ensures few { OnOk result (total lists.new.lists ≤ message_limit) }
+    ensures too_many { result ≡ Err TooManyMessages → message_limit < total (slice_set (read_lists lists.old) outlet.now.place (with_seals outlet.now.key (list_at (read_lists lists.old) outlet.now.place) keys.now)) }
+    ensures legal { IsLimit result }
+{
+    lists.known();
+    match &outlet.key {
+        Some(columns) => lists.emit_seals(outlet.place, columns.as_slice(), keys),
+        None => Ok(()),
+    }
+}
+
+/// Emits the seals of partitions that became whole, in the lists of the outlets whose streams carry
+/// the key, as `emit_outputs` does.
+pub(crate) fn emit_seals(
+    lists: &mut Lists,
+    outlets: &[Outlet],
+    keys: &[Record],
+) -> Result<(), EventFault>
+    requires places { All (λ o. o.place < length lists.old.lists) outlets.now }
+    requires exact { IsExact lists.old }
+    ensures ok { OnOk result (read_lists lists.new ≡ seal_outlets outlets.now keys.now (read_lists lists.old)) }
+    ensures records { OnOk result (Continues lists.old.records lists.new.records) }
+    ensures exact { OnOk result (IsExact lists.new) }
+    ensures count { OnOk result (length lists.new.lists ≡ length lists.old.lists) }
+    ensures few { OnOk result (total lists.new.lists ≤ message_limit) }
+    ensures too_many { result ≡ Err TooManyMessages → message_limit < total (seal_outlets outlets.now keys.now (read_lists lists.old)) }
+    ensures legal { IsLimit result }
+{
+    lists.known();
+    for outlet in outlets {
+        seal_output(lists, outlet, keys)?;
+    }
+    Ok(())
+}

@@ -13,6 +13,8 @@ mod label_tables;
 #[cfg(test)]
 mod labels;
 #[cfg(test)]
+mod modules;
+#[cfg(test)]
 mod plans;
 #[cfg(test)]
 mod program;

@@ -1,26 +1,11 @@
 //! Plans of worked topologies: what is written of each, read and labelled again.
+use crate::modules::{COMMIT, COUNT, NAME_SUMS};
 use crate::text::{answer, joined};
 use std::alloc::Global;
 use std::test::Fail;
 
 // The name of a module's file, and its text.
 type Named = (&'static str, &'static str);
-
-const COUNT: &str = "module count_words;
-input words(id, batch, at, word);
-output counts(word, batch, n);
-table seen(id, batch, at, word);
-seen <= words;
-counts <= group(seen, [word, batch], count as n);
-";
-
-const COMMIT: &str = "module commit;
-input counts(word, batch, n);
-output commits(word, batch, n);
-table committed(word, batch, n);
-committed <= counts;
-commits <= committed;
-";
 
 const WORD_COUNT_FILES: &[Named] = &[("count.bloom", COUNT), ("commit.bloom", COMMIT)];
 
@@ -88,14 +73,6 @@ replicas = 3
 [[stream]]
 name = 'response'
 from = 'report.response'
-";
-
-const NAME_SUMS: &str = "module sums;
-input clicks(campaign, name, uid);
-output sums(name, n);
-table seen(campaign, name, uid);
-seen <= clicks;
-sums <= group(seen, [name], count as n);
 ";
 
 const SITE_SUMS: &str = "module sums;

@@ -1,4 +1,5 @@
 //! Worked rows of the program, over files and a sink in memory.
+use crate::modules::{COMMIT, COUNT, NAME_SUMS};
 use crate::text::{AMPLE, answer, answer_over, held};
 use blazes_cli::Status;
 use blz_outside::MemFiles;
@@ -118,22 +119,6 @@ fn the_limit_of_a_module_file_is_exact(rt: HostRuntime) -> Result<(), Fail> {
     }
     Ok(())
 }
-
-const COUNT: &str = "module count_words;
-input words(id, batch, at, word);
-output counts(word, batch, n);
-table seen(id, batch, at, word);
-seen <= words;
-counts <= group(seen, [word, batch], count as n);
-";
-
-const COMMIT: &str = "module commit;
-input counts(word, batch, n);
-output commits(word, batch, n);
-table committed(word, batch, n);
-committed <= counts;
-commits <= committed;
-";
 
 // The word count of two files of modules, in parts: what a source goes to, what stands at count and
 // what stands at commit come between them.
@@ -344,14 +329,6 @@ from = "sums.sums"
 from = "name"
 to = "campaign"
 "#;
-
-const NAME_SUMS: &str = "module sums;
-input clicks(campaign, name, uid);
-output sums(name, n);
-table seen(campaign, name, uid);
-seen <= clicks;
-sums <= group(seen, [name], count as n);
-";
 
 // Whether a dependency has one name on each side, and these.
 fn leads(fd: &FdEntry, from: &str, to: &str) -> bool {

@@ -7,6 +7,7 @@ pub mod WeightLemmas
 pub mod TextWeight
 pub mod KeyOfSource
 pub mod DistinctLemmas
+pub mod CountingLemmas
 pub mod EarliestLemmas
 pub mod PairLemmas
 pub mod MakingLemmas

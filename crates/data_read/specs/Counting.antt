@@ -1,5 +1,6 @@
 -- The source with which there are too many rows and parts.
-use Rattle.std.specs.Prelude.{ℕ, ◌+◌, nat_lt, List, [], ◌∷◌, length, Option, Some, None, Result, Ok, Err, if◌then◌else◌}
+use Rattle.std.specs.Prelude.{ℕ, ◌+◌, ◌≤◌, nat_lt, List, [], ◌∷◌, length, Option, Some, None, Result, Ok, Err, if◌then◌else◌}
+use Rattle.std.specs.List.{sum_by}
 use Rattle.topo_types.specs.Data.{SourceData}
 use Rattle.topo_types.specs.View.{View, stream_at}
 use Rattle.data_read.specs.declared.counting.TheConstants.{MAX_ROWS}
@@ -23,3 +24,7 @@ few v (Some s) = Err (TooMany (stream_at v s).name)
 -- rows and parts are few enough
 abbrev pub counted : View → List SourceData → Result (Unit {0}) DataFault
 counted v lists = few v (passed_at 0 0 lists)
+
+-- all rows and parts together are no more than the limit
+abbrev pub AreFew : List SourceData → Type 0
+AreFew lists = sum_by count_of lists ≤ MAX_ROWS

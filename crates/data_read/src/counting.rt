@@ -1,5 +1,5 @@
 //! How many rows and parts there are.
-ghost use Rattle.std.specs.Prelude.{◌≡◌, ◌<◌, ◌≤◌, IfSome, length};
+ghost use Rattle.std.specs.Prelude.{◌≡◌, ◌<◌, ◌≤◌, IfSome, OnOk, length};
 ghost use Rattle.data_read.specs.Counting as spec;
 ghost use Rattle.data_read.specs.Gives.{Gives};
 ghost use Rattle.topo_types.specs.View as view;
@@ -30,7 +30,8 @@ fn passed_at(sources: &[Lists]) -> Option<usize>
 /// TooMany where rows and parts pass 65,536, repeats included, with the source at which they do.
 pub(crate) fn counted(valid: &Valid, sources: &[Lists]) -> Result<(), DataFault>
     requires { length sources.now ≤ length valid.now.view.streams }
-    ensures { Gives (λ _. tt) result (spec.counted valid.now.view sources.now) }
+    ensures count { Gives (λ _. tt) result (spec.counted valid.now.view sources.now) }
+    ensures few { OnOk result (spec.AreFew sources.now) }
 {
     valid.known();
     match passed_at(sources) {

@@ -1,5 +1,6 @@
 //! Data: what each source holds.
 ghost use Rattle.std.specs.Prelude.{◌≡◌, ◌<◌, IfOk, length};
+ghost use Rattle.data_read.specs.Counting.{AreFew};
 ghost use Rattle.topo_types.specs.Data.{source_data};
 
 use blz_value::Record;
@@ -22,7 +23,7 @@ impl Model for Lists {
 }
 
 /// What the sources of a topology hold: of each its distinct records and its distinct declared
-/// partitions, both in file order.
+/// partitions, both in file order. They are at most 65,536 together.
 #[derive(Debug, Drop)]
 pub struct Data {
     sources: Vec<Lists>,
@@ -31,18 +32,29 @@ pub struct Data {
 impl Model for Data {
     ghost use Rattle.std.specs.Prelude.{List};
     ghost use Rattle.topo_types.specs.Data.{SourceData};
+    ghost use Rattle.data_read.specs.Counting.{AreFew};
 
     ghost Value = { List SourceData };
 
     ghost view = { λ d. d.sources.items };
+
+    ghost invariant = { λ d. AreFew d.sources.items };
 }
 
 impl Data {
     /// The data of these sources.
     pub(crate) fn new(sources: Vec<Lists>) -> Data
+        requires { AreFew sources.items }
         ensures { result ≡ sources.items }
     {
         Data { sources }
+    }
+
+    /// How many records and partitions all sources together hold at most; the call does nothing.
+    pub fn known(&self)
+        ensures { AreFew self.now }
+    {
+        let _ = &self.sources;
     }
 
     /// The records of a source, each once, in file order.

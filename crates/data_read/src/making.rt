@@ -16,7 +16,7 @@ use blz_value::Record;
 use std::alloc::{AllocError, Global};
 use topo_types::Valid;
 
-#[tactic(auto, unfolding(crate::specs::Making::data_from), using(crate::proofs::MakingLemmas::few_lists, crate::proofs::MakingLemmas::few_distinct))]
+#[tactic(auto, unfolding(crate::specs::Making::data_from), using(crate::proofs::MakingLemmas::few_lists, crate::proofs::MakingLemmas::few_distinct, crate::proofs::CountingLemmas::few_once))]
 fn made_of(alloc: Global, valid: &Valid, sources: Vec<Lists>) -> Result<Data, DataFault>
     requires { IsData valid.now.view sources.items }
     ensures { Gives (λ d. d) result (data_from valid.now.view sources.items) }

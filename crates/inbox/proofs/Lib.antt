@@ -2,6 +2,7 @@ pub mod MessagesLemmas
 pub mod LogLemmas
 pub mod Ranges
 pub mod CarriedKeys
+pub mod SendersLemmas
 pub mod Keeping
 pub mod WiringLemmas
 pub mod TimestepLemmas

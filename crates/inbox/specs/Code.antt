@@ -2,6 +2,7 @@
 pub mod Known
 pub mod Counts
 pub mod Ports
+pub mod Senders
 pub mod Feeds
 pub mod Places
 pub mod Waiting

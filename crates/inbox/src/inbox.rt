@@ -19,7 +19,7 @@ ghost use Rattle.inbox.specs.Code.Feeds.{port_count, port_in, key_in, carries_in
 use crate::hearing::feeds::Feeds;
 use crate::hearing::step::{push_one_by_one, push_together, timestep};
 use crate::hearing::waiting::Waiting;
-use crate::instance::{feed_ports, key_of, ports_of};
+use crate::instance::{feeds_of, key_of, ports_of, ports_of_feeds};
 use crate::message::Message;
 use bloom_eval::Arrivals;
 use blz_pool::{Id, Pool};
@@ -78,7 +78,8 @@ impl Inbox {
     {
         let mode = valid.mode(component);
         let ports = ports_of(alloc, valid, component, key_of(mode))?;
-        let feed_ports = feed_ports(alloc, valid, component, replica)?;
+        let own = feeds_of(alloc, valid, component, replica)?;
+        let feed_ports = ports_of_feeds(alloc, &own)?;
         Ok(Inbox {
             sealing: is_sealing(mode),
             feeds: Feeds::new(alloc, ports, &feed_ports)?,
@@ -481,6 +482,13 @@ impl Inbox {
             steps: Items::from_vec(steps),
             whole: Items::from_vec(whole),
         })
+    }
+
+    /// The number of feeds; a message is heard on a feed below it.
+    pub fn feed_count(&self) -> usize
+        ensures { result ≡ feeds_in self.now }
+    {
+        self.feeds.feeds.len()
     }
 
     /// How many records wait, with their ports, each counted once. It is kept, not counted.

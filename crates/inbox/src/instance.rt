@@ -3,12 +3,14 @@ ghost use Rattle.std.specs.Prelude.{◌≡◌, ◌<◌, ◌++◌, ◌||◌, not,
 ghost use Rattle.std.specs.List.{flat_map, list_all};
 ghost use Rattle.topo_types.specs.Carried as carried;
 ghost use Rattle.topo_types.specs.Data.{key_places, place_of_attribute};
-ghost use Rattle.topo_types.specs.Feeds.{are_paired, paired_senders};
+ghost use Rattle.topo_types.specs.Feeds.{are_paired, feeds_from};
 ghost use Rattle.topo_types.specs.Sets.{set_of_numbers, below};
 ghost use Rattle.topo_types.specs.View as view;
-ghost use Rattle.inbox.specs.Wiring.{places_in_port, port_for};
+ghost use Rattle.inbox.specs.Wiring.{places_in_port, port_for, feeds_for};
 ghost use Rattle.inbox.specs.Code.Ports.{port_key, port_keys};
+ghost use Rattle.inbox.specs.Code.Senders.{is_sender, senders_for};
 
+use crate::feed::Feed;
 use crate::hearing::port::Port;
 use blz_value::Items;
 use std::alloc::{AllocError, Global};
@@ -200,7 +202,24 @@ fn is_paired(senders: u32, receivers: u32, i: u32, j: u32) -> bool
     }
 }
 
-// Adds a port once for each sending replica of a stream that is paired with a replica.
+fn is_order(mode: Mode) -> bool
+    ensures { result ≡ view.is_order_mode mode }
+{
+    matches!(mode, Mode::Order)
+}
+
+// Whether a sending replica of a stream feeds a replica of a component.
+fn is_sender(valid: &Valid, component: u32, replica: u32, stream: u32, sender: u32) -> bool
+    requires component { component < length valid.now.view.components }
+    requires stream { stream < length valid.now.view.streams }
+    ensures { result ≡ is_sender valid.now.view component replica stream sender }
+{
+    let senders = valid.stream_replicas(stream);
+    let receivers = valid.replicas(component);
+    is_order(valid.mode(component)) || is_paired(senders, receivers, sender, replica)
+}
+
+// Adds the feeds of a port from a stream.
 #[tactic(auto, using(crate::proofs::Ranges::below_steps))]
 fn push_from(
     valid: &Valid,
@@ -208,33 +227,35 @@ fn push_from(
     replica: u32,
     port: u32,
     stream: u32,
-    into: &mut Vec<u32>,
+    into: &mut Vec<Feed>,
 ) -> Result<(), AllocError>
     requires component { component < length valid.now.view.components }
     requires stream { stream < length valid.now.view.streams }
-    ensures { OnOk result (into.new.items ≡ into.old.items ++ map (λ sender. port) (paired_senders valid.now.view component replica stream)) }
+    ensures { OnOk result (into.new.items ≡ into.old.items ++ feeds_from port stream (senders_for valid.now.view component replica stream)) }
 {
-    let senders = valid.stream_replicas(stream);
-    let receivers = valid.replicas(component);
-    for sender in 0..senders {
-        if is_paired(senders, receivers, sender, replica) {
-            into.push(port)?;
+    for sender in 0..valid.stream_replicas(stream) {
+        if is_sender(valid, component, replica, stream, sender) {
+            into.push(Feed {
+                port,
+                stream,
+                sender,
+            })?;
         }
     }
     Ok(())
 }
 
-// Adds a port once for each of its feeds.
+// Adds the feeds of a port.
 #[tactic(auto, using(crate::proofs::Ranges::below_steps))]
 fn push_at(
     valid: &Valid,
     component: u32,
     replica: u32,
     port: u32,
-    into: &mut Vec<u32>,
+    into: &mut Vec<Feed>,
 ) -> Result<(), AllocError>
     requires { component < length valid.now.view.components }
-    ensures { OnOk result (into.new.items ≡ into.old.items ++ flat_map (λ s. map (λ sender. port) (paired_senders valid.now.view component replica s)) (view.streams_to valid.now.view component port)) }
+    ensures { OnOk result (into.new.items ≡ into.old.items ++ flat_map (λ s. feeds_from port s (senders_for valid.now.view component replica s)) (view.streams_to valid.now.view component port)) }
 {
     for stream in 0..valid.stream_count() {
         if goes_to(valid, component, port, stream) {
@@ -244,20 +265,33 @@ fn push_at(
     Ok(())
 }
 
-/// The port of each feed of an instance of a component that isn't Order, by the feeds' numbers.
+/// The feeds of an instance, by their numbers: by port, then by stream, then by sending replica. Into
+/// a component whose mode is Order every sending replica feeds the one log, so its replicas have the
+/// same feeds. The error is want of memory.
 #[tactic(auto, using(crate::proofs::Ranges::below_steps))]
-pub(crate) fn feed_ports(
+pub fn feeds_of(
     alloc: Global,
     valid: &Valid,
     component: u32,
     replica: u32,
-) -> Result<Vec<u32>, AllocError>
+) -> Result<Vec<Feed>, AllocError>
     requires { component < length valid.now.view.components }
-    ensures { IfOk result (λ ports. ports.items ≡ flat_map (λ p. flat_map (λ s. map (λ sender. p) (paired_senders valid.now.view component replica s)) (view.streams_to valid.now.view component p)) (view.port_numbers valid.now.view component)) }
+    ensures { IfOk result (λ feeds. feeds.items ≡ feeds_for valid.now.view component replica) }
+{
+    let mut feeds = Vec::new(alloc);
+    for port in 0..valid.port_count(component) {
+        push_at(valid, component, replica, port, &mut feeds)?;
+    }
+    Ok(feeds)
+}
+
+/// The ports of some feeds, in their order.
+pub(crate) fn ports_of_feeds(alloc: Global, feeds: &[Feed]) -> Result<Vec<u32>, AllocError>
+    ensures { IfOk result (λ ports. ports.items ≡ map (λ feed. feed.port) feeds.now) }
 {
     let mut ports = Vec::new(alloc);
-    for port in 0..valid.port_count(component) {
-        push_at(valid, component, replica, port, &mut ports)?;
+    for feed in feeds {
+        ports.push(feed.port)?;
     }
     Ok(ports)
 }

@@ -68,7 +68,7 @@ impl Log {
     }
 
     /// Whether a pair stands in the log.
-    pub(crate) fn knows(&self, entry: (u32, Id)) -> bool
+    pub fn knows(&self, entry: (u32, Id)) -> bool
         ensures { result ≡ list_any (is_same_entry_id entry) self.now }
     {
         self.known.contains(&(entry.0, entry.1.number()))

@@ -3,3 +3,4 @@ pub mod Lines
 pub mod Reports
 pub mod Uses
 pub mod Components
+pub mod Runs

@@ -19,6 +19,8 @@ pub(crate) enum Word<'a> {
     Escaped(&'a Str),
     /// A number in decimal.
     Number(u32),
+    /// A large number in decimal.
+    Large(u64),
     /// A word and a number behind it.
     Numbered(&'a str, u32),
     /// A record.
@@ -30,6 +32,12 @@ pub(crate) enum Word<'a> {
 }
 
 fn push_number(alloc: Global, number: u32, into: &mut Vec<u8>) -> Result<(), AllocError>
+    ensures { OnOk result (into.new.items ≡ into.old.items ++ decimal number) }
+{
+    into.extend_from_slice(number.to_string(alloc)?.as_bytes())
+}
+
+fn push_large(alloc: Global, number: u64, into: &mut Vec<u8>) -> Result<(), AllocError>
     ensures { OnOk result (into.new.items ≡ into.old.items ++ decimal number) }
 {
     into.extend_from_slice(number.to_string(alloc)?.as_bytes())
@@ -114,6 +122,7 @@ fn push_word(alloc: Global, word: &Word<'_>, into: &mut Vec<u8>) -> Result<(), A
         Word::Plain(text) => into.extend_from_slice(text.as_bytes()),
         Word::Escaped(text) => write_escaped(alloc, text.as_str(), into),
         Word::Number(number) => push_number(alloc, *number, into),
+        Word::Large(number) => push_large(alloc, *number, into),
         Word::Numbered(text, number) => {
             into.extend_from_slice(text.as_bytes())?;
             into.push(b' ')?;

@@ -32,10 +32,10 @@ use Rattle.sched_run.proofs.Showing.{is_there-true}
 
 -- ---- one seat
 
-same_seat : (c r : ℕ) (seat : Seat) (net : Seats) → (with_seat c r seat net).seats c r ≡ seat
+pub same_seat : (c r : ℕ) (seat : Seat) (net : Seats) → (with_seat c r seat net).seats c r ≡ seat
 same_seat c r seat net = ap (λ b. if b then seat else net.seats c r) (and_from (c == c) (r == r) (eq-eqb c c refl) (eq-eqb r r refl))
 
-other_seats : (c r : ℕ) (seat : Seat) (net : Seats) → OtherSeatsStay c r net (with_seat c r seat net)
+pub other_seats : (c r : ℕ) (seat : Seat) (net : Seats) → OtherSeatsStay c r net (with_seat c r seat net)
 other_seats c r seat net = record { others = λ m n off. ap (λ b. if b then seat else net.seats m n) off; logs = λ m. refl }
 
 -- ---- what shows it

@@ -167,7 +167,7 @@ one_put old mid new place id r placed is same kept put = record {
   lists = put ∙ ap (λ l. set l place (with_id (list_at l place) id)) same;
 }
 
-given-list : (l : Listed) (place : ℕ) → AllAreGiven l → All (IsGiven l.records) (list_at l.lists place)
+pub given-list : (l : Listed) (place : ℕ) → AllAreGiven l → All (IsGiven l.records) (list_at l.lists place)
 given-list l place given = elim (cases_lt place (length l.lists)) [
   | inl within ↦ given place [] within
   | inr past ↦ subst (λ list. All (IsGiven l.records) list) (sym (get_or_past l.lists place [] past)) (λ k d within. absurd (omega arith))

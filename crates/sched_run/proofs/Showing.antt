@@ -73,12 +73,12 @@ module _ (v : View) (given : Data) (x : Execution) (seats : Seats) (tables : Lis
           ∙ sym (ap (senders_of v) is)
 
 -- sums that are the same over the elements of a list
-sums_same : {X : Type 0} (f g : X → ℕ) (n : ℕ) (xs : List X) → ((x : X) → Has x xs → f x ≡ g x) → fold (λ a x. a + f x) n xs ≡ fold (λ a x. a + g x) n xs
+pub sums_same : {X : Type 0} (f g : X → ℕ) (n : ℕ) (xs : List X) → ((x : X) → Has x xs → f x ≡ g x) → fold (λ a x. a + f x) n xs ≡ fold (λ a x. a + g x) n xs
 sums_same f g n [] same = refl
 sums_same f g n (x ∷ xs) same = ap (λ k. fold (λ a y. a + f y) (n + k) xs) (same x (inl refl)) ∙ sums_same f g (n + g x) xs (λ y h. same y (inr h))
 
 -- a sum over numbered elements is one over their numbers
-sums_numbered : {X : Type 0} (f : ℕ → X → ℕ) (d : X) (xs ys : List X) (a n : ℕ) → ((k : ℕ) → k < length xs → get_or ys (a + k) d ≡ get_or xs k d)
+pub sums_numbered : {X : Type 0} (f : ℕ → X → ℕ) (d : X) (xs ys : List X) (a n : ℕ) → ((k : ℕ) → k < length xs → get_or ys (a + k) d ≡ get_or xs k d)
     → fold (λ s (place : ℕ × X). s + f place.0 place.1) n (enumerate_from a xs) ≡ fold (λ s k. s + f k (get_or ys k d)) n (range_with_len a (length xs))
 sums_numbered f d [] ys a n same = refl
 sums_numbered f d (x ∷ xs) ys a n same =
@@ -122,7 +122,7 @@ module _ (v : View) (given : Data) (x : Execution) (seats : Seats) (tables : Lis
   kept-is : (seats.seats c r).kept ≡ kept_after (instance_for v c r) (x.logs c) (x.lives c r)
   kept-is = (stands.seats c r (is_there-true v c r there within)).kept ∙ ap (λ i. kept_after i (x.logs c) (x.lives c r)) (instance-wired v c r there within)
 
-  outputs-shown : ShowsOutlets (outlets_for v c r) lists (seats.seats c r).kept
+  pub outputs-shown : ShowsOutlets (outlets_for v c r) lists (seats.seats c r).kept
   outputs-shown o h =
       let m = Has-from_map (outlet_for v r) o (streams_from v c) h in
       let comes = from_component v c m.0 m.1 in

@@ -7,4 +7,10 @@ pub mod Places
 pub mod Outlets
 pub mod Shown
 pub mod Seated
+pub mod Net
+pub mod Forgetting
+pub mod Closing
+pub mod Reading
+pub mod Applying
+pub mod Tables
 pub mod Code

@@ -195,8 +195,8 @@ fn take_all(
     Ok(shells)
 }
 
-// Puts shells behind a bench that has room for them.
-fn put_back(shells: Vec<Box<dyn Component>>, bench: &mut Vec<Box<dyn Component>>)
+/// Puts shells behind a bench that has room for them.
+pub(crate) fn put_back(shells: Vec<Box<dyn Component>>, bench: &mut Vec<Box<dyn Component>>)
     requires { length bench.old.items + length shells.items ≤ vec_capacity bench.old }
     ensures { bench.new.items ≡ bench.old.items ++ shells.items }
 {

@@ -1,10 +1,15 @@
 //! Keys of records.
-ghost use Rattle.std.specs.Prelude.{◌≡◌, ◌↔◌, IsTrue, option_copied, slice_get};
+ghost use Rattle.std.specs.Prelude.{◌≡◌, ◌<◌, ◌↔◌, IsTrue, IfOk, Some, length, option_copied, slice_get};
 ghost use Rattle.blz_value.specs.Operators.{cells};
 ghost use Rattle.blz_value.specs.Test.{cell};
+ghost use Rattle.path_annotate.specs.Roots.{are_same};
+ghost use Rattle.topo_types.specs.Data.{place_of_attribute, key_places};
 ghost use Rattle.topo_types.specs.Messages.{is_same_row};
+ghost use Rattle.topo_types.specs.View.{stream_at};
 
 use blz_value::{Record, Value, compare_values};
+use std::alloc::{AllocError, Global};
+use topo_types::{Attrs, Valid};
 
 // The value in a column, None past the end.
 fn value_in(row: &Record, column: u32) -> Option<&Value>
@@ -36,4 +41,65 @@ pub(crate) fn has_key(row: &Record, columns: &[u32], key: &Record) -> bool
         }
     }
     true
+}
+
+/// The key value of a record in some columns; past the end stands the number 0.
+pub(crate) fn key_of(alloc: Global, row: &Record, columns: &[u32]) -> Result<Record, AllocError>
+    ensures { IfOk result (λ key. key ≡ cells columns.now row.now) }
+{
+    let mut values = Vec::new(alloc);
+    for column in columns {
+        let value = match row.values().get(*column as usize) {
+            Some(value) => value.copy()?,
+            None => Value::Int(0),
+        };
+        values.push(value)?;
+    }
+    Ok(Record::from_values(values))
+}
+
+// ---- the columns of a key
+
+fn is_column(column: Option<u8>, attribute: u8) -> bool
+    ensures { result ≡ are_same column (Some attribute) }
+{
+    match column {
+        Some(own) => own == attribute,
+        None => false,
+    }
+}
+
+// The place of an attribute among the columns of a stream, and their number where it is none of them.
+fn place_of(valid: &Valid, stream: u32, attribute: u8) -> u32
+    requires { stream < length valid.now.view.streams }
+    ensures { result ≡ place_of_attribute (stream_at valid.now.view stream).columns attribute }
+{
+    let width = valid.stream_width(stream);
+    for place in 0..width {
+        if is_column(valid.stream_column(stream, place), attribute) {
+            return place;
+        }
+    }
+    width
+}
+
+/// The places of a key's columns in a stream, in the order of the attributes' numbers; past the end
+/// where the stream lacks one. The error is want of memory.
+#[tactic(auto, using(inbox::proofs::Ranges::below_steps))]
+pub(crate) fn key_columns(
+    alloc: Global,
+    valid: &Valid,
+    stream: u32,
+    key: Attrs,
+) -> Result<Vec<u32>, AllocError>
+    requires { stream < length valid.now.view.streams }
+    ensures { IfOk result (λ columns. columns.items ≡ key_places (stream_at valid.now.view stream).columns key.bits) }
+{
+    let mut columns = Vec::new(alloc);
+    for attribute in 0..64u8 {
+        if key.has(attribute) {
+            columns.push(place_of(valid, stream, attribute))?;
+        }
+    }
+    Ok(columns)
 }

@@ -1,24 +1,28 @@
 //! All emitted lists, and the pool of their records.
-ghost use Rattle.std.specs.Prelude.{◌≡◌, ◌<◌, ◌≤◌, ◌++◌, ◌∷◌, ℕ, [], length, replicate, slice_get, slice_set, false, Some, Err, IfOk, OnOk};
-ghost use Rattle.std.specs.List.{list_any};
-ghost use Rattle.blz_pool.specs.Pool.{record_limit, with_record};
+ghost use Rattle.std.specs.Prelude.{◌≡◌, ◌<◌, ◌≤◌, ◌+◌, ◌^◌, ◌++◌, ◌∷◌, ℕ, [], length, replicate, slice_get, slice_set, false, Some, Err, IfOk, OnOk, if◌then◌else◌};
+ghost use Rattle.std.specs.List.{All, list_any};
+ghost use Rattle.blz_pool.specs.Pool.{IsPool, record_limit, with_record};
 ghost use Rattle.blz_value.specs.Members.{Has};
+ghost use Rattle.blz_value.specs.Record.{Row};
 ghost use Rattle.inbox.specs.Emission.{count_in, with_row, with_rows, with_seal, with_seals};
 ghost use Rattle.inbox.specs.Ids.{IsGiven};
 ghost use Rattle.inbox.specs.declared.message.Message.TheVariants.{Seal};
 ghost use Rattle.sched_run.specs.Limits.{message_limit};
 ghost use Rattle.sched_run.specs.Lists.{OneListBecomes, AllAreGiven, IsExact, read_lists, list_at, total};
+ghost use Rattle.sched_run.specs.Code.Counts.{count_of, seals_of};
 ghost use Rattle.sched_run.specs.Code.Ids.{is_row_with, with_id, counts_in, IsLimit};
 ghost use Rattle.sched_run.specs.declared.fault.EventFault.TheVariants.{TooManyMessages};
 
+use crate::counts::{count_at, count_key};
 use crate::emitted::Emitted;
 use crate::fault::EventFault;
-use crate::keys::has_key;
+use crate::keys::{has_key, key_of};
 use crate::limits::MAX_MESSAGES;
 use blz_pool::{Id, Pool, PoolFault};
 use blz_value::Record;
 use inbox::Message;
 use std::alloc::{AllocError, Global};
+use std::collections::{BTreeMap, BTreeSet};
 use std::marker::Model;
 
 /// Emitted lists side by side, at most 262,144 messages together, with one pool of their records.
@@ -66,12 +70,29 @@ impl Lists {
         self.count
     }
 
+    /// The pool of the records of all lists.
+    pub(crate) fn pool(&self) -> &Pool
+        ensures { result.now ≡ self.now.records }
+    {
+        &self.pool
+    }
+
+    /// The messages of the list at a place.
+    pub(crate) fn list(&self, place: usize) -> &[Message]
+        requires { place < length self.now.lists }
+        ensures list { result.now ≡ list_at self.now.lists place }
+        ensures given { All (IsGiven self.now.records) result.now }
+    {
+        self.lists[place].messages()
+    }
+
     // What holds of all lists; the call does nothing.
     pub(crate) fn known(&self)
         ensures given { AllAreGiven self.now }
         ensures few { total self.now.lists ≤ message_limit }
+        ensures pool { IsPool self.now.records }
     {
-        let _ = &self.pool;
+        self.pool.known();
     }
 
     // The id of a record, which is placed where it is new. Where the pool is full, the lists together
@@ -177,6 +198,18 @@ impl Lists {
         count
     }
 
+    // Puts a seal behind a list, where there is room.
+    fn push_seal(&mut self, place: usize, key: &Record, count: u32) -> Result<(), AllocError>
+        requires place { place < length self.old.lists }
+        requires room { total self.old.lists < message_limit }
+        ensures records { self.new.records ≡ self.old.records }
+        ensures lists { OnOk result (self.new.lists ≡ slice_set self.old.lists place (list_at self.old.lists place ++ Seal key.now count ∷ [])) }
+    {
+        self.lists[place].push_seal(key.copy()?, count)?;
+        self.count += 1;
+        Ok(())
+    }
+
     // Puts a new seal behind a list.
     fn put_seal(&mut self, place: usize, key: &Record, count: u32) -> Result<(), EventFault>
         requires place { place < length self.old.lists }
@@ -188,8 +221,7 @@ impl Lists {
         if self.count == MAX_MESSAGES {
             return Err(EventFault::TooManyMessages);
         }
-        self.lists[place].push_seal(key.copy()?, count)?;
-        self.count += 1;
+        self.push_seal(place, key, count)?;
         Ok(())
     }
 
@@ -237,6 +269,65 @@ impl Lists {
         self.known();
         for key in keys {
             self.emit_seal(place, columns, key)?;
+        }
+        Ok(())
+    }
+
+    // Counts the record of a message by its key.
+    fn count_message(
+        &self,
+        alloc: Global,
+        message: &Message,
+        columns: &[u32],
+        counts: &mut BTreeMap<Record, u32>,
+    ) -> Result<(), AllocError>
+        requires given { IsGiven self.now.records message.now }
+        requires few { (key : Row) → count_of counts.old key + 1 < 2 ^ 32 }
+        ensures { OnOk result ((key : Row) → count_of counts.new key ≡ count_of counts.old key + (if counts_in self.now.records columns.now key message.now then 1 else 0)) }
+    {
+        if let Message::Row(id) = message {
+            count_key(counts, key_of(alloc, self.pool.get(*id), columns)?)?;
+        }
+        Ok(())
+    }
+
+    // How many records of each partition stand in a list, whose key columns are these. Walks over the
+    // list.
+    fn key_counts(
+        &self,
+        alloc: Global,
+        place: usize,
+        columns: &[u32],
+    ) -> Result<BTreeMap<Record, u32>, AllocError>
+        requires { place < length self.now.lists }
+        ensures { IfOk result (λ counts. (key : Row) → count_of counts key ≡ count_in columns.now (list_at (read_lists self.now) place) key) }
+    {
+        self.known();
+        let mut counts = BTreeMap::new(alloc);
+        for message in self.lists[place].messages() {
+            self.count_message(alloc, message, columns, &mut counts)?;
+        }
+        Ok(counts)
+    }
+
+    /// Emits a seal of each of some partitions behind a list, where there is room, with the number of
+    /// its records there. Takes one walk over the list, and a look-up for each record and partition.
+    pub(crate) fn seal_partitions(
+        &mut self,
+        alloc: Global,
+        place: usize,
+        columns: &[u32],
+        keys: &BTreeSet<Record>,
+    ) -> Result<(), AllocError>
+        requires place { place < length self.old.lists }
+        requires exact { IsExact self.old }
+        requires room { total self.old.lists + length keys.now.keys ≤ message_limit }
+        ensures ok { OnOk result (OneListBecomes self.old self.new place (list_at (read_lists self.old) place ++ seals_of columns.now (list_at (read_lists self.old) place) keys.now.keys)) }
+        ensures exact { OnOk result (IsExact self.new) }
+    {
+        let counts = self.key_counts(alloc, place, columns)?;
+        for key in keys {
+            self.push_seal(place, key, count_at(&counts, key))?;
         }
         Ok(())
     }

@@ -1,5 +1,5 @@
 //! Where an instance emits: the outputs that have a stream.
-ghost use Rattle.std.specs.Prelude.{◌≡◌, ◌<◌, ◌≤◌, ℕ, length, slice_get, slice_set, option_copied, Err, OnOk};
+ghost use Rattle.std.specs.Prelude.{◌≡◌, ◌<◌, ◌≤◌, ℕ, length, slice_get, slice_set, option_copied, Err, IfOk, OnOk};
 ghost use Rattle.std.specs.List.{All};
 ghost use Rattle.blz_value.specs.Sets.{IsRowSet};
 ghost use Rattle.bloom_ast.specs.Step.{set_at};
@@ -8,14 +8,21 @@ ghost use Rattle.inbox.specs.Growth.{Continues};
 ghost use Rattle.sched_run.specs.Limits.{message_limit};
 ghost use Rattle.sched_run.specs.Lists.{OneListBecomes, IsExact, read_lists, list_at, total};
 ghost use Rattle.sched_run.specs.Code.Ids.{IsLimit};
-ghost use Rattle.sched_run.specs.Outlets.{emit_outlets, seal_outlets};
+ghost use Rattle.inbox.specs.Wiring.{carried_places};
+ghost use Rattle.topo_types.specs.View as view;
+ghost use Rattle.sched_run.specs.Net.{ArePlaces};
+ghost use Rattle.sched_run.specs.Outlets.{emit_outlets, seal_outlets, output_number, outlet_for, outlets_for};
 ghost use Rattle.sched_run.specs.declared.fault.EventFault.TheVariants.{TooManyMessages};
 
 use crate::fault::EventFault;
+use crate::keys::key_columns;
 use crate::lists::Lists;
+use crate::places::Places;
 use bloom_eval::Outs;
 use blz_set::RecordSet;
 use blz_value::{Items, Record};
+use std::alloc::{AllocError, Global};
+use topo_types::{Valid, carries};
 
 /// An output that has a stream: its number, the place of its emitted list, and the places of the
 /// key among its columns, where the stream carries one.
@@ -122,4 +129,89 @@ pub(crate) fn emit_seals(
         seal_output(lists, outlet, keys)?;
     }
     Ok(())
+}
+
+// ---- the outlets of an instance
+
+// Whether a stream comes from a component.
+fn comes_from(valid: &Valid, component: u32, stream: u32) -> bool
+    requires { stream < length valid.now.view.streams }
+    ensures { result ≡ view.comes_from valid.now.view component stream }
+{
+    match valid.origin(stream) {
+        Some((own, _)) => own == component,
+        None => false,
+    }
+}
+
+// The output from which a stream comes, and 0 of a source.
+fn output_of(valid: &Valid, stream: u32) -> u32
+    requires { stream < length valid.now.view.streams }
+    ensures { result ≡ output_number (view.origin_of valid.now.view stream) }
+{
+    match valid.origin(stream) {
+        Some((_, output)) => output,
+        None => 0,
+    }
+}
+
+// The places of the key that a stream carries.
+fn carried_columns(
+    alloc: Global,
+    valid: &Valid,
+    stream: u32,
+) -> Result<Option<Items<u32>>, AllocError>
+    requires { stream < length valid.now.view.streams }
+    ensures { IfOk result (λ key. key ≡ carried_places valid.now.view stream) }
+{
+    match carries(valid, stream) {
+        Some(key) => {
+            let columns = key_columns(alloc, valid, stream, key)?;
+            Ok(Some(Items::from_vec(columns)))
+        }
+        None => Ok(None),
+    }
+}
+
+// The outlet for a stream that a replica sends.
+fn outlet_for(
+    alloc: Global,
+    valid: &Valid,
+    places: &Places,
+    replica: u32,
+    stream: u32,
+) -> Result<Outlet, AllocError>
+    requires places { ArePlaces valid.now.view places.now }
+    requires stream { stream < length valid.now.view.streams }
+    requires replica { replica < view.stream_replicas valid.now.view stream }
+    ensures { IfOk result (λ outlet. outlet ≡ outlet_for valid.now.view replica stream) }
+{
+    Ok(Outlet {
+        output: output_of(valid, stream),
+        place: places.list(valid, stream, replica),
+        key: carried_columns(alloc, valid, stream)?,
+    })
+}
+
+/// The outlets of an instance: one for each stream from its component, in order. The error is want of
+/// memory.
+#[tactic(auto, using(inbox::proofs::Ranges::below_steps))]
+pub(crate) fn outlets_of(
+    alloc: Global,
+    valid: &Valid,
+    places: &Places,
+    component: u32,
+    replica: u32,
+) -> Result<Items<Outlet>, AllocError>
+    requires places { ArePlaces valid.now.view places.now }
+    requires replica { replica < view.replicas_of valid.now.view component }
+    ensures { IfOk result (λ outlets. outlets ≡ outlets_for valid.now.view component replica) }
+{
+    let mut outlets = Vec::new(alloc);
+    for stream in 0..valid.stream_count() {
+        if comes_from(valid, component, stream) {
+            outlets.push(outlet_for(alloc, valid, places, replica, stream)?)?;
+        }
+    }
+    Ok(Items::from_vec(outlets))
 }

@@ -1,5 +1,5 @@
 //! How an instance goes through timesteps: its shell is stepped, and what it puts out is emitted.
-ghost use Rattle.std.specs.Prelude.{◌≡◌, ◌<◌, ◌≤◌, length, IsSome, Err, OnOk};
+ghost use Rattle.std.specs.Prelude.{◌≡◌, ◌<◌, ◌≤◌, None, length, map, slice_index_or, IsSome, Err, OnOk};
 ghost use Rattle.std.specs.List.{All};
 ghost use Rattle.bloom_eval.specs.StepAnswers.{SomeIsOver};
 ghost use Rattle.blz_boxes.specs.Step.{Arrive, counted_next};
@@ -9,6 +9,7 @@ ghost use Rattle.sched_run.specs.Lists.{IsExact, read_lists, total};
 ghost use Rattle.sched_run.specs.Outlets.{OthersStay};
 ghost use Rattle.sched_run.specs.Code.Ids.{IsLegal};
 ghost use Rattle.sched_run.specs.Code.Running.{HasStepped, HasOverflowed, GoesOn, MeetsLimit, Emits, MeetsFirst};
+ghost use Rattle.sched_run.specs.Code.Hearing.{EmitsAt, MeetsAt};
 ghost use Rattle.sched_run.specs.declared.fault.EventFault.TheVariants.{TooManyRows, TooManyMessages};
 
 use crate::fault::EventFault;
@@ -117,4 +118,34 @@ pub(crate) fn emit_set_off(
     go_through(alloc, shell, lists, outlets, steps)?;
     emit_seals(lists, outlets, whole)?;
     Ok(())
+}
+
+/// The shell at a place emits what is set off, as `emit_set_off` does.
+pub(crate) fn emit_at(
+    alloc: Global,
+    shells: &mut Vec<Box<dyn Component>>,
+    place: usize,
+    lists: &mut Lists,
+    outlets: &[Outlet],
+    steps: &[Arrivals],
+    whole: &[Record],
+) -> Result<(), EventFault>
+    requires place { place < length shells.old.items }
+    requires program { IsSome (slice_index_or (map (λ b. loaded b) shells.old.items) place None) }
+    requires arrivals { All (Arrive (slice_index_or (map (λ b. loaded b) shells.old.items) place None)) steps.now }
+    requires places { All (λ o. o.place < length lists.old.lists) outlets.now }
+    requires exact { IsExact lists.old }
+    ensures kinds { map (λ b. kind b) shells.new.items ≡ map (λ b. kind b) shells.old.items }
+    ensures loaded { map (λ b. loaded b) shells.new.items ≡ map (λ b. loaded b) shells.old.items }
+    ensures ok { OnOk result (EmitsAt (map (λ b. loaded b) shells.old.items) place outlets.now (map (λ b. kept b) shells.old.items) (map (λ b. kept b) shells.new.items) (read_lists lists.old) (read_lists lists.new) (record { steps = steps.now; whole = whole.now })) }
+    ensures records { OnOk result (Continues lists.old.records lists.new.records) }
+    ensures exact { OnOk result (IsExact lists.new) }
+    ensures others { OnOk result (OthersStay outlets.now (read_lists lists.old) (read_lists lists.new)) }
+    ensures count { OnOk result (length lists.new.lists ≡ length lists.old.lists) }
+    ensures few { OnOk result (total lists.new.lists ≤ message_limit) }
+    ensures rows { result ≡ Err TooManyRows → MeetsAt too_many_rows (map (λ b. loaded b) shells.old.items) place outlets.now (map (λ b. kept b) shells.old.items) (read_lists lists.old) (record { steps = steps.now; whole = whole.now }) }
+    ensures messages { result ≡ Err TooManyMessages → MeetsAt too_many_messages (map (λ b. loaded b) shells.old.items) place outlets.now (map (λ b. kept b) shells.old.items) (read_lists lists.old) (record { steps = steps.now; whole = whole.now }) }
+    ensures legal { IsLegal result }
+{
+    emit_set_off(alloc, &mut shells[place], lists, outlets, steps, whole)
 }

@@ -1,5 +1,5 @@
 //! Plans of worked topologies: what is written of each, read and labelled again.
-use crate::modules::{COMMIT, COUNT, NAME_SUMS};
+use crate::modules::{COMMIT, COUNT, NAME_SUMS, TELLING};
 use crate::text::{answer, joined};
 use std::alloc::Global;
 use std::test::Fail;
@@ -126,14 +126,6 @@ const SITE_FD: &str = "
 [[fd]]
 from = ['site', 'name']
 to = ['campaign']
-";
-
-const TELLING: &str = "module gossip;
-input told(item);
-output tells(item);
-table known(item);
-known <= told;
-tells <= known;
 ";
 
 const GROUPING: &str = "module grouping;

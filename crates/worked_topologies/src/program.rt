@@ -1,5 +1,5 @@
 //! Worked rows of the program, over files and a sink in memory.
-use crate::modules::{COMMIT, COUNT, NAME_SUMS};
+use crate::modules::{COMMIT, COUNT, NAME_SUMS, TELLING};
 use crate::text::{AMPLE, answer, answer_over, held};
 use blazes_cli::Status;
 use blz_outside::MemFiles;
@@ -175,9 +175,19 @@ fn word_count(
     ] {
         text.push_str(part)?;
     }
+    word_count_over(alloc, command, text.as_str(), COUNT)
+}
+
+// The same of a topology that is written so, with this text of the module that counts.
+fn word_count_over(
+    alloc: Global,
+    command: &str,
+    topology: &str,
+    count: &str,
+) -> Result<(Status, Vec<u8>), Fail> {
     let files = [
-        ("wc.toml", text.as_str()),
-        ("count.bloom", COUNT),
+        ("wc.toml", topology),
+        ("count.bloom", count),
         ("commit.bloom", COMMIT),
     ];
     answer(alloc, &files, &[command, "wc.toml"])
@@ -210,6 +220,62 @@ fn a_fault_of_the_word_count_is_named_at_its_place(rt: HostRuntime) -> Result<()
         assert_eq!(rt; status, Status::Refused);
         assert_eq!(rt; written.as_slice(), line.as_bytes());
     }
+    Ok(())
+}
+
+const WIDE_COUNT: &str = "module count_words;
+input words(id, batch, at, word);
+output counts(word, batch, n);
+table seen(id, batch, at, word, e, f, g, h, i);
+seen <= words;
+counts <= group(seen, [word, batch], count as n);
+";
+
+#[test]
+fn a_ninth_column_in_a_module_is_named_with_its_file(rt: HostRuntime) -> Result<(), Fail> {
+    let mut text = String::new(rt.alloc());
+    for part in [TO_SOURCE, r#""split.in""#, TO_COUNT, TO_COMMIT, TO_END] {
+        text.push_str(part)?;
+    }
+    let (status, written) = word_count_over(rt.alloc(), "label", text.as_str(), WIDE_COUNT)?;
+    assert_eq!(rt; status, Status::Refused);
+    let line = "refused Module count.bloom TooMany collection 3\n";
+    assert_eq!(rt; written.as_slice(), line.as_bytes());
+    Ok(())
+}
+
+// Two components tell each other all that they know, and the first passes seals on.
+const PASSING_GOSSIP: &str = r#"
+format = 2
+[[source]]
+name = "news"
+columns = ["item"]
+to = ["a.told"]
+[[component]]
+name = "a"
+module = "gossip.bloom"
+mode = "pass"
+key = ["item"]
+[[component]]
+name = "b"
+module = "gossip.bloom"
+[[stream]]
+name = "ta"
+from = "a.tells"
+to = ["b.told"]
+[[stream]]
+name = "tb"
+from = "b.tells"
+to = ["a.told"]
+"#;
+
+#[test]
+fn no_member_of_the_gossip_passes_seals_on(rt: HostRuntime) -> Result<(), Fail> {
+    let files = [("t.toml", PASSING_GOSSIP), ("gossip.bloom", TELLING)];
+    let (status, written) = answer(rt.alloc(), &files, &["label", "t.toml"])?;
+    assert_eq!(rt; status, Status::Refused);
+    let line = "refused Topology SealInCycle component 1\n";
+    assert_eq!(rt; written.as_slice(), line.as_bytes());
     Ok(())
 }
 

@@ -172,17 +172,3 @@ cleared_more first now n was f within is fresh before others k d below = elim (e
 
 pub others_more : (first now : List Feed) (n : ℕ) (f : Feed) → ((k : ℕ) (d : Feed) → n ≤ k → get_or now k d ≡ get_or first k d) → (k : ℕ) (d : Feed) → n + 1 ≤ k → get_or (set now n f) k d ≡ get_or first k d
 others_more first now n f others k d above = get_or-set_other now n k f d (let apart : k ≢ n = omega arith in apart) ∙ others k d (omega arith)
-
--- ---- the ports of the feeds
-
-map-const : (p s : ℕ) (senders : List ℕ) → map (λ (f : TopoFeed). f.port) (feeds_from p s senders) ≡ map (λ (sender : ℕ). p) senders
-map-const p s [] = refl
-map-const p s (i ∷ senders) = ap (λ l. p ∷ l) (map-const p s senders)
-
-map-flat : {X : Type 0} (g : X → List TopoFeed) (h : X → List ℕ) (xs : List X) → ((x : X) → map (λ (f : TopoFeed). f.port) (g x) ≡ h x) → map (λ (f : TopoFeed). f.port) (flat_map g xs) ≡ flat_map h xs
-map-flat g h [] same = refl
-map-flat g h (x ∷ xs) same = map-append (λ (f : TopoFeed). f.port) (g x) (flat_map g xs) ∙ ap (λ l. l ++ map (λ (f : TopoFeed). f.port) (flat_map g xs)) (same x) ∙ ap (λ l. h x ++ l) (map-flat g h xs same)
-
-pub feed_ports-are : (v : View) (c j : ℕ) → flat_map (λ p. flat_map (λ s. map (λ (sender : ℕ). p) (paired_senders v c j s)) (streams_to v c p)) (port_numbers v c) ≡ map (λ (f : TopoFeed). f.port) (feeds v c j)
-feed_ports-are v c j = sym (map-flat (feeds_at v c j) (λ p. flat_map (λ s. map (λ (sender : ℕ). p) (paired_senders v c j s)) (streams_to v c p)) (port_numbers v c)
-    (λ p. map-flat (λ s. feeds_from p s (paired_senders v c j s)) (λ s. map (λ (sender : ℕ). p) (paired_senders v c j s)) (streams_to v c p) (λ s. map-const p s (paired_senders v c j s))))

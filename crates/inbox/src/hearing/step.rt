@@ -74,7 +74,7 @@ fn set_at(
 /// The timestep of some entries: one set for each port. A pool never has more records than a set may
 /// have.
 #[tactic(auto, using(crate::proofs::Ranges::below_steps))]
-pub(crate) fn timestep(
+pub fn timestep(
     alloc: Global,
     pool: &Pool,
     ports: usize,

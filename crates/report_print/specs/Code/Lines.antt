@@ -12,6 +12,7 @@ abbrev pub word_text : Word → Text
 word_text (word.Plain text) = text.now
 word_text (word.Escaped text) = escaped text.now
 word_text (word.Number n) = decimal n
+word_text (word.Large n) = decimal n
 word_text (word.Numbered text n) = text.now ++ codes " " ++ decimal n
 word_text (word.Row row) = record_text row.now
 word_text (word.Names names) = names_text names.now

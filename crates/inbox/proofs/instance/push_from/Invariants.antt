@@ -1,9 +1,9 @@
--- the senders so far
-use Rattle.std.proofs.Common.{◌≡◌, ◌++◌, map, filter}
-use Rattle.topo_types.specs.Feeds.{are_paired}
+-- the feeds of the senders so far
+use Rattle.std.proofs.Common.{◌≡◌, ◌++◌, filter}
+use Rattle.topo_types.specs.Feeds.{feeds_from}
 use Rattle.topo_types.specs.Sets.{below}
-use Rattle.topo_types.specs.View.{stream_replicas, replicas_of}
+use Rattle.inbox.specs.Code.Senders.{is_sender}
 use Rattle.inbox.proofs.instance.push_from.Given as goal
 
 abbrev pub invariant-loop-sender : goal.invariant-loop-sender
-invariant-loop-sender l = l.into.items ≡ l.initial.into.items ++ map (λ sender. l.port) (filter (λ i. are_paired (stream_replicas l.valid.view l.stream) (replicas_of l.valid.view l.component) i l.replica) (below l.sender))
+invariant-loop-sender l = l.into.items ≡ l.initial.into.items ++ feeds_from l.port l.stream (filter (is_sender l.valid.view l.component l.replica l.stream) (below l.sender))

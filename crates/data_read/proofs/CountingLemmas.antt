@@ -1,0 +1,51 @@
+-- Rows and parts that nowhere pass the limit are few, and each once they are no more.
+use Rattle.std.proofs.Common.{◌≡◌, ◌≤◌, ◌+◌, ℕ, suc, Bool, true, false, not, nat_lt, cond, List, [], ◌∷◌, map, filter, length, Option, Some, None, Result, Ok, Err, OnOk, refl, ap, subst, sym, arith}
+use Rattle.std.specs.List.{sum_by}
+use Rattle.std.proofs.lemmas.Bool.{ltb-false}
+use Rattle.std.proofs.lemmas.List.Sums.{sum_by-cons}
+use Rattle.blz_value.specs.Record.{Row}
+use Rattle.topo_types.specs.Data.{Data, SourceData}
+use Rattle.topo_types.specs.Messages.{distinct_rows, is_same_row}
+use Rattle.topo_types.specs.View.{View}
+use Rattle.data_read.specs.Counting.{count_of, passed_at, few, counted, AreFew}
+use Rattle.data_read.specs.Gives.{Gives}
+use Rattle.data_read.specs.Making.{distinct_lists}
+use Rattle.data_read.specs.declared.counting.TheConstants.{MAX_ROWS}
+use Rattle.data_read.specs.declared.fault.DataFault.{DataFault}
+
+few_from : (so_far s : ℕ) (lists : List SourceData) → so_far ≤ MAX_ROWS → passed_at so_far s lists ≡ None → so_far + sum_by count_of lists ≤ MAX_ROWS
+few_from so_far s [] le none = omega arith
+few_from so_far s (d ∷ ds) le none = go (few_from (so_far + count_of d) (s + 1) ds) (nat_lt MAX_ROWS (so_far + count_of d)) refl none
+  where
+    go : (so_far + count_of d ≤ MAX_ROWS → passed_at (so_far + count_of d) (s + 1) ds ≡ None → so_far + count_of d + sum_by count_of ds ≤ MAX_ROWS)
+        → (b : Bool) → nat_lt MAX_ROWS (so_far + count_of d) ≡ b → cond b (Some s) (passed_at (so_far + count_of d) (s + 1) ds) ≡ None → so_far + sum_by count_of (d ∷ ds) ≤ MAX_ROWS
+    go rest true t e = cc
+    go rest false t e = omega (arith, rest (ltb-false MAX_ROWS (so_far + count_of d) t) e, sum_by-cons count_of d ds)
+
+-- what isn't refused
+pub few_counted : (v : View) (lists : List SourceData) → counted v lists ≡ Ok tt → AreFew lists
+few_counted v lists e = go (passed_at 0 0 lists) refl e
+  where
+    go : (o : Option ℕ) → passed_at 0 0 lists ≡ o → few v o ≡ Ok tt → AreFew lists
+    go None none e = omega (arith, few_from 0 0 lists (omega arith) none)
+    go (Some s) some e = cc
+
+-- ---- each once
+
+filtered : {X : Type 0} (p : X → Bool) (xs : List X) → length (filter p xs) ≤ length xs
+filtered p [] = omega arith
+filtered p (x ∷ xs) = elim (p x) as (λ b. length (cond b (x ∷ filter p xs) (filter p xs)) ≤ suc (length xs)) [
+  | true ↦ omega (arith, filtered p xs)
+  | false ↦ omega (arith, filtered p xs)
+]
+
+pub no_more_rows : (rows : List Row) → length (distinct_rows rows) ≤ length rows
+no_more_rows [] = omega arith
+no_more_rows (x ∷ xs) = omega (arith, filtered (λ y. not (is_same_row x y)) (distinct_rows xs), no_more_rows xs)
+
+no_more : (lists : List SourceData) → sum_by count_of (map distinct_lists lists) ≤ sum_by count_of lists
+no_more [] = omega arith
+no_more (d ∷ ds) = omega (arith, no_more ds, no_more_rows d.rows, no_more_rows d.parts, sum_by-cons count_of d ds, sum_by-cons count_of (distinct_lists d) (map distinct_lists ds))
+
+pub few_once : (lists distinct : Data) → distinct ≡ map distinct_lists lists → AreFew lists → AreFew distinct
+few_once lists distinct same few = subst AreFew (sym same) (omega (arith, no_more lists, few))

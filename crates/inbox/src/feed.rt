@@ -1,0 +1,21 @@
+//! On which ways messages come to an instance.
+use std::marker::Model;
+
+/// A feed of an instance: one port of it, one stream into that port, and one sending replica of the
+/// stream, all by their numbers.
+#[derive(Clone, Copy, Debug)]
+pub struct Feed {
+    pub port: u32,
+    pub stream: u32,
+    pub sender: u32,
+}
+
+impl Model for Feed {
+    ghost use Rattle.topo_types.specs.Feeds.{Feed};
+
+    ghost Value = { Feed };
+
+    ghost view = { λ feed. record { port = feed.port; stream = feed.stream; sender = feed.sender } };
+
+    ghost inverse = { λ feed. record { port = feed.port; stream = feed.stream; sender = feed.sender } };
+}

@@ -1,0 +1,39 @@
+//! The events of a schedule, applied in order.
+ghost use Rattle.std.specs.Prelude.{◌≡◌, map};
+ghost use Rattle.sched_run.specs.Applying.{AppliesLines};
+ghost use Rattle.sched_run.specs.Net.{Runs};
+
+use crate::fault::EventFault;
+use crate::net::Net;
+use sched_text::Event;
+
+/// An event of a schedule that is refused.
+#[derive(Debug, Drop)]
+pub struct EventRefusal {
+    /// The number of its line.
+    pub line: u32,
+    /// Why it is refused.
+    pub fault: EventFault,
+}
+
+impl Net<'_> {
+    /// Applies the events of a schedule in order, each with the number of its line, up to the first
+    /// that is refused. Those before it were applied, and the net is as `event` leaves it.
+    pub fn apply(&mut self, lines: &[(u32, Event)]) -> Result<(), EventRefusal>
+        requires runs { Runs self.old.valid.now.view (map (λ b. loaded b) self.old.shells.items) (map (λ b. kept b) self.old.shells.items) self.old.books }
+
+        // Of all steps for which the net stood: what the lines make of their execution, and of the net.
+        ensures applies { AppliesLines self.old.valid.now.view (map (λ b. loaded b) self.old.shells.items) (map (λ b. kept b) self.old.shells.items) (map (λ b. kept b) self.new.shells.items) self.old.books self.new.books lines.now result }
+
+        ensures valid { self.new.valid ≡ self.old.valid }
+        ensures kinds { map (λ b. kind b) self.new.shells.items ≡ map (λ b. kind b) self.old.shells.items }
+        ensures loaded { map (λ b. loaded b) self.new.shells.items ≡ map (λ b. loaded b) self.old.shells.items }
+    {
+        for (line, event) in lines {
+            if let Err(fault) = self.event(event) {
+                return Err(EventRefusal { line: *line, fault });
+            }
+        }
+        Ok(())
+    }
+}

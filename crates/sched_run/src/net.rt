@@ -1,0 +1,72 @@
+//! A topology at work: boxed shells beside the books of what was emitted, heard and logged.
+ghost use Rattle.std.specs.Prelude.{◌≡◌, map};
+ghost use Rattle.sched_run.specs.Net.{Runs, EventAnswers, EventLeaves};
+ghost use Rattle.sched_run.specs.Numbered.{numbered};
+
+use crate::books::Books;
+use crate::fault::EventFault;
+use crate::numbered::{component_of, part_of};
+use blz_boxes::Component;
+use sched_text::Event;
+use std::alloc::Global;
+use topo_types::Valid;
+
+/// The instances of a topology with the shells that evaluate them, and all that was emitted, heard
+/// and logged. It stands for the events and forgets that were applied since it was opened.
+#[derive(Drop)]
+pub struct Net<'a> {
+    pub(crate) alloc: Global,
+    pub(crate) valid: &'a Valid,
+    pub(crate) books: Books,
+    pub(crate) shells: Vec<Box<dyn Component>>,
+}
+
+impl Net<'_> {
+    /// Applies an event. NoInstance, NoMessage and NothingToTake say that it isn't legal now, and change
+    /// nothing. TooManyRows comes where a step of it would have a set of more than 262,144 rows, and
+    /// TooManyMessages where the emitted lists together would have more than 262,144 messages,
+    /// whichever is met first; these and want of memory end the net.
+    pub fn event(&mut self, event: &Event) -> Result<(), EventFault>
+        requires runs { Runs self.old.valid.now.view (map (λ b. loaded b) self.old.shells.items) (map (λ b. kept b) self.old.shells.items) self.old.books }
+
+        // Of all steps for which the net stood: the answer, and for which it stands then.
+        ensures answer { EventAnswers self.old.valid.now.view (map (λ b. loaded b) self.old.shells.items) (map (λ b. kept b) self.old.shells.items) self.old.books (numbered self.old.valid.now.view event.now) result }
+        ensures leaves { EventLeaves self.old.valid.now.view (map (λ b. loaded b) self.old.shells.items) (map (λ b. kept b) self.old.shells.items) (map (λ b. kept b) self.new.shells.items) self.old.books self.new.books (numbered self.old.valid.now.view event.now) result }
+
+        ensures valid { self.new.valid ≡ self.old.valid }
+        ensures kinds { map (λ b. kind b) self.new.shells.items ≡ map (λ b. kind b) self.old.shells.items }
+        ensures loaded { map (λ b. loaded b) self.new.shells.items ≡ map (λ b. loaded b) self.old.shells.items }
+    {
+        match event {
+            Event::Deliver {
+                sent,
+                component,
+                port,
+                replica,
+            } => {
+                let number = component_of(self.valid, component);
+                self.deliver(number, *replica, sent, port)
+            }
+            Event::Batch {
+                component,
+                replica,
+                parts,
+            } => {
+                let number = component_of(self.valid, component);
+                self.deliver_all(number, *replica, parts.as_slice())
+            }
+            Event::Order {
+                sent,
+                component,
+                port,
+            } => {
+                let number = component_of(self.valid, component);
+                self.order(number, sent, port)
+            }
+            Event::Take { component, replica } => {
+                let number = component_of(self.valid, component);
+                self.take(number, *replica)
+            }
+        }
+    }
+}

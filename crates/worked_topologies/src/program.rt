@@ -179,11 +179,11 @@ fn word_count(
 }
 
 // The same of a topology that is written so, with this text of the module that counts.
-fn word_count_over(
+fn word_count_over<'a>(
     alloc: Global,
     command: &str,
-    topology: &str,
-    count: &str,
+    topology: &'a str,
+    count: &'a str,
 ) -> Result<(Status, Vec<u8>), Fail> {
     let files = [
         ("wc.toml", topology),

@@ -1,5 +1,5 @@
 -- Whatever labels the rules allow decide whether a component is good, and whether a cyclic region wants an order.
-use Rattle.std.proofs.Common.{◌≡◌, ℕ, not, Bool, List, ap, sym}
+use Rattle.std.proofs.Common.{◌≡◌, ℕ, not, List, ap}
 use Rattle.std.specs.List.{list_all}
 use Rattle.topo_types.specs.Valid.{IsValid}
 use Rattle.topo_types.specs.View.{View, streams_from}

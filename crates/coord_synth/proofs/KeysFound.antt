@@ -5,7 +5,6 @@ use Rattle.std.specs.Option.{option_and_then}
 use Rattle.std.specs.Str.{bytes_eq}
 use Rattle.std.proofs.Math.Pow.{pow-lt}
 use Rattle.std.proofs.lemmas.Bool.{true≢false}
-use Rattle.std.proofs.lemmas.Bool.Decides.{nat_tests}
 use Rattle.std.proofs.lemmas.Nat.{or_lt, pow_pos}
 use Rattle.fd_closure.specs.declared.attrs.Attrs.{Attrs}
 use Rattle.fd_closure.specs.Bits.{bit_of, meets}
@@ -27,15 +26,15 @@ use Rattle.topo_types.specs.declared.topology.Topology.{Topology}
 use Rattle.topo_types.specs.Allowed.{IsAllowed, allows_source, allows_body, allows_component, allows_note, allows_key, are_names}
 use Rattle.topo_types.specs.Carried.{carries_key, key_before, carries}
 use Rattle.topo_types.specs.Sets.{set_of_numbers}
-use Rattle.topo_types.specs.Sites.{Site, site_at, sites_of, attribute_number, no_entry, no_site}
+use Rattle.topo_types.specs.Sites.{Site, site_at, attribute_number, no_entry, no_site}
 use Rattle.topo_types.specs.Valid.{IsValid, IsWhole, Validated}
 use Rattle.topo_types.specs.Validity.{fault_of}
 use Rattle.topo_types.specs.Validity.Twice.{names_within}
 use Rattle.topo_types.specs.Validity.Unknown.{misses_port, misses_attribute, misses_note, unknown_in_body}
-use Rattle.topo_types.specs.View.{View, Component, End, Stream, stream_at, component_at, origin_of, mode_of, mode_key}
-use Rattle.topo_types.specs.ViewOf.{attribute_set, key_of, mode_from, source_view, stream_view, view_of, modules_in}
+use Rattle.topo_types.specs.View.{View, Component, End, Stream, stream_at, origin_of, mode_of, mode_key}
+use Rattle.topo_types.specs.ViewOf.{attribute_set, key_of, mode_from, view_of, modules_in}
 use Rattle.topo_types.proofs.Columns.AttributeNames.{source_column-has}
-use Rattle.topo_types.proofs.Faults.NoFault.{no_source, no_written, not_false, source_fine, site_fine, few_attributes, length_sites}
+use Rattle.topo_types.proofs.Faults.NoFault.{no_source, not_false, source_fine, site_fine, few_attributes, length_sites}
 use Rattle.topo_types.proofs.Regions.Spreading.{both_true}
 use Rattle.topo_types.proofs.Views.ViewNumbers.{site_entry, length_components}
 use Rattle.topo_types.proofs.Views.ViewParts.{sites, attributes, seen, same_bytes, at_component, at_source, at_stream, which_stream}

@@ -15,5 +15,6 @@ mod CountLemmas
 mod NoteLemmas
 mod GoodLemmas
 mod TrialLemmas
+mod TriedLemmas
 mod KeptLemmas
 mod FirstLemmas

@@ -4,7 +4,7 @@ use Rattle.std.specs.List.{filter_map, flat_map, list_any}
 use Rattle.std.proofs.lemmas.List.Folds.{list_any-append}
 use Rattle.path_annotate.specs.declared.note.Note.{Note}
 use Rattle.topo_types.specs.Carried.{is_confluent}
-use Rattle.coord_synth.specs.Code.Notes.{is_order_note, has_order_in}
+use Rattle.coord_synth.specs.Code.Notes.{has_order_in}
 
 abbrev is_o : Note → Bool
 is_o note = not (is_confluent note)

@@ -2,14 +2,14 @@
 use Rattle.std.proofs.Common.{◌≡◌, ◌≢◌, ◌≤◌, ◌<◌, ◌⊎◌, inl, inr, ℕ, not, nat_eq, nat_lt, Bool, true, false, ◌&&◌, ◌||◌, if◌then◌else◌, Option, None, Some, List, [], ◌∷◌, length, map, fold, set, refl, arith, ap, sym, subst, ◌∙◌, bit_or}
 use Rattle.std.specs.List.{list_any, flat_map, filter_map}
 use Rattle.std.specs.Option.{option_map_or}
-use Rattle.std.proofs.lemmas.Bool.{cases_eq, or_cases, true≢false, false_from_ne_true, eq-eqb, eqb-true, ltb-false}
+use Rattle.std.proofs.lemmas.Bool.{cases_eq, or_cases, true≢false, false_from_ne_true, eq-eqb, ltb-false}
 use Rattle.std.proofs.lemmas.List.{get_or-set_same, get_or-set_other}
 use Rattle.std.proofs.Math.Seq.{map-set_same}
 use Rattle.fd_closure.specs.declared.attrs.Attrs.{Attrs}
 use Rattle.fd_closure.specs.Bits.{bit_of, meets}
 use Rattle.fd_closure.proofs.Members.{in-or, in-empty}
 use Rattle.blz_value.specs.Members.{Has}
-use Rattle.blz_value.proofs.Membership.{Has-filter, Has-from_filter, Has-from_any, any_from_Has, all_member}
+use Rattle.blz_value.proofs.Membership.{Has-filter, Has-from_filter, all_member}
 use Rattle.topo_types.specs.declared.mode.Mode.{Mode}
 use Rattle.topo_types.specs.declared.mode.Mode.TheVariants as mode
 use Rattle.topo_types.specs.Carried.{is_confluent}
@@ -21,7 +21,7 @@ use Rattle.topo_types.specs.Valid.{IsValid}
 use Rattle.topo_types.specs.View.{View, End, Component, no_component, component_at, component_with_mode, comes_from, origin_of, is_order, is_order_mode, is_replicated, mode_of, mode_key, stream_numbers, streams_from, with_mode}
 use Rattle.topo_types.proofs.Regions.Lower.{given}
 use Rattle.topo_types.proofs.Regions.RegionOrder.{edge_within}
-use Rattle.topo_types.proofs.Regions.Spreading.{both_true, in_below}
+use Rattle.topo_types.proofs.Regions.Spreading.{in_below}
 use Rattle.label_rules.specs.declared.label.Label.{Label}
 use Rattle.label_rules.specs.declared.label.Label.TheVariants.{Run}
 use Rattle.label_rules.specs.Label.{severity}
@@ -34,7 +34,7 @@ use Rattle.label_walk.proofs.Upstream.UpstreamLabels.{label_same}
 use Rattle.coord_synth.specs.Plan.{all_steps, has_order_note, is_bad, is_good, tried_mode, trial, tried_keys, kept_key, wants_order, ordered, with_key, plan_component, order_member, cycle_wants_order, plan_cycle, plan_region}
 use Rattle.coord_synth.proofs.FreshRegions.{AreFresh, are_fresh, find-some}
 use Rattle.coord_synth.proofs.CyclesLater as cycles
-use Rattle.coord_synth.proofs.Later.{Later, valid_still, edge_before, edge_after, edge_unordered, region_kept, region_of_member, own_member, small}
+use Rattle.coord_synth.proofs.Later.{Later, valid_still, edge_before, region_of_member, own_member, small}
 use Rattle.label_walk.proofs.Tests.{not_so, or_first, or_second, any-none}
 
 -- ---- another mode of one component

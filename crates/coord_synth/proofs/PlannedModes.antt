@@ -1,5 +1,5 @@
 -- A planned topology differs in modes alone, and what is Order stays so, whichever steps are taken; and it is planned step by step from a member of each region.
-use Rattle.std.proofs.Common.{◌≡◌, ◌≤◌, ◌<◌, inl, inr, ℕ, zero, suc, nat_eq, nat_lt, Bool, true, false, ◌&&◌, ◌||◌, if◌then◌else◌, Option, None, Some, List, [], ◌∷◌, length, get_or, fold, refl, arith, ap, sym, subst, ◌∙◌, bit_or}
+use Rattle.std.proofs.Common.{◌≡◌, ◌≤◌, ◌<◌, inl, inr, ℕ, suc, nat_eq, nat_lt, Bool, true, false, ◌&&◌, ◌||◌, if◌then◌else◌, Option, None, Some, List, [], ◌∷◌, length, get_or, fold, refl, arith, ap, sym, subst, ◌∙◌, bit_or}
 use Rattle.std.specs.List.{list_any}
 use Rattle.std.proofs.lemmas.Bool.{true≢false, ltb-false}
 use Rattle.fd_closure.specs.declared.attrs.Attrs.{Attrs}

@@ -1,8 +1,8 @@
 -- The key that a port carries, by its first stream and a walk over all of them.
-use Rattle.std.proofs.Common.{◌≡◌, ◌<◌, ◌≤◌, ◌&&◌, ◌||◌, ◌⊎◌, inl, inr, ℕ, Bool, true, false, cond, if◌then◌else◌, Option, None, Some, List, [], ◌∷◌, length, filter, refl, arith, ap, sym, subst, ◌∙◌}
+use Rattle.std.proofs.Common.{◌≡◌, ◌<◌, ◌&&◌, inl, inr, ℕ, Bool, true, false, cond, if◌then◌else◌, Option, None, Some, List, [], ◌∷◌, length, filter, refl, arith, ap, sym, subst, ◌∙◌}
 use Rattle.std.specs.List.{find, list_all}
 use Rattle.std.specs.Option.{option_and_then}
-use Rattle.std.proofs.lemmas.Bool.{eqb-true, eq-eqb, or_cases, true≢false, false_from_ne_true}
+use Rattle.std.proofs.lemmas.Bool.{eqb-true, eq-eqb, or_cases, true≢false}
 use Rattle.fd_closure.specs.declared.attrs.Attrs.{Attrs}
 use Rattle.topo_types.specs.Carried.{is_key, may_carry, streams_towards, carries_key, key_before, carries, common_key, port_key}
 use Rattle.topo_types.specs.Laws.{carries_next}

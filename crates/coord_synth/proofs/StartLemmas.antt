@@ -1,7 +1,7 @@
 -- Freeing component by component gives the topology where a plan begins, as it is written too.
-use Rattle.std.proofs.Common.{◌≡◌, ◌≢◌, ◌<◌, ◌≤◌, ◌+◌, ◌⊎◌, inl, inr, ℕ, zero, suc, Bool, true, false, if◌then◌else◌, List, [], ◌∷◌, length, map, get_or, slice_set, fold, refl, arith, ap, sym, subst, ◌∙◌}
-use Rattle.std.specs.List.{list_all, enumerate_from, range_with_len}
-use Rattle.std.proofs.lemmas.Bool.{cases_eq, cases_lt, true≢false}
+use Rattle.std.proofs.Common.{◌≡◌, ◌≢◌, ◌<◌, ◌≤◌, ◌+◌, ◌⊎◌, inl, inr, ℕ, zero, suc, Bool, true, false, if◌then◌else◌, None, List, [], ◌∷◌, length, map, get_or, fold, refl, arith, ap, sym, subst, ◌∙◌}
+use Rattle.std.specs.List.{list_all, range_with_len}
+use Rattle.std.proofs.lemmas.Bool.{cases_lt, true≢false}
 use Rattle.std.proofs.lemmas.List.{ext_get_or, length-map, length-set, get_or-map, get_or-set_same, get_or-set_other}
 use Rattle.std.proofs.lemmas.List.Sums.{fold-append}
 use Rattle.blz_value.specs.Name.{is_name}
@@ -14,13 +14,12 @@ use Rattle.topo_types.specs.declared.topology.ComponentEntry.{ComponentEntry}
 use Rattle.topo_types.specs.declared.topology.ModeName.{ModeName}
 use Rattle.topo_types.specs.declared.topology.ModeName.TheVariants as written
 use Rattle.topo_types.specs.declared.topology.Topology.{Topology}
-use Rattle.topo_types.specs.Allowed.{IsAllowed, is_empty, allows_source, allows_body, allows_component, allows_note, allows_key}
+use Rattle.topo_types.specs.Allowed.{is_empty, allows_source, allows_body, allows_component, allows_note, allows_key}
 use Rattle.topo_types.specs.Laws.{validated_with_mode}
 use Rattle.topo_types.specs.Modes.{entry_with_mode}
-use Rattle.topo_types.specs.Sites.{Site, site_at, no_entry}
+use Rattle.topo_types.specs.Sites.{no_entry}
 use Rattle.topo_types.specs.Valid.{IsWhole, Validated}
-use Rattle.topo_types.specs.Validity.{fault_of}
-use Rattle.topo_types.specs.View.{View, Component, no_component, component_at, component_with_mode, is_order, is_order_mode, mode_of, with_mode}
+use Rattle.topo_types.specs.View.{View, Component, no_component, component_at, component_with_mode, is_order, is_order_mode, mode_key, mode_of}
 use Rattle.topo_types.specs.ViewOf.{mode_from, view_of, modules_in}
 use Rattle.topo_types.proofs.Faults.NoFault.{length_sites}
 use Rattle.topo_types.proofs.Regions.Spreading.{both_true}
@@ -28,9 +27,10 @@ use Rattle.topo_types.proofs.Views.ViewNumbers.{site_entry, length_components}
 use Rattle.topo_types.proofs.Views.ViewParts.{sites, attributes, seen, at_component}
 use Rattle.label_walk.proofs.Loops.{below_more}
 use Rattle.coord_synth.specs.Plan.{freed, freed_component, topology_with_modes}
-use Rattle.coord_synth.specs.Code.Start.{free_component}
+use Rattle.coord_synth.specs.Code.Start.{free_component, is_free_mode}
 use Rattle.coord_synth.specs.Code.Written.{IsWritten}
-use Rattle.coord_synth.proofs.WrittenLemmas.{mode_set, mode_other, entry_at, count_entries}
+use Rattle.coord_synth.proofs.TrialLemmas.{set_own}
+use Rattle.coord_synth.proofs.WrittenLemmas.{entry_at, count_entries}
 
 -- ---- the components so far
 
@@ -187,19 +187,61 @@ module _ (now : Validated) where
     pub counts : length v.components ≡ length now.topology.components
     counts = ap (λ (x : View). length x.components) view_is ∙ length_components now.topology modules whole.clean ∙ length_sites now.topology.components modules
 
-    -- a component that is written Order has no key
-    order_entry : (ats : List Name) (e : ComponentEntry) → allows_key e.mode e.key ≡ true → is_order_mode (mode_from ats e.mode e.key) ≡ true → e ≡ entry_with_mode ats Order e
-    order_entry ats e allowed ordered = by e.mode e.key allowed ordered
+    -- an entry without a key is that with its own mode
+    own_entry : (ats : List Name) (e : ComponentEntry) → allows_key e.mode e.key ≡ true → mode_key (mode_from ats e.mode e.key) ≡ None → e ≡ entry_with_mode ats (mode_from ats e.mode e.key) e
+    own_entry ats e allowed keyless = by e.mode e.key allowed keyless
       where
         no_key : (key : List Name) → is_empty key ≡ true → key ≡ []
         no_key [] empty = refl
         no_key (name ∷ key) empty = absurd (true≢false (sym empty))
 
-        by : (m : ModeName) (key : List Name) → allows_key m key ≡ true → is_order_mode (mode_from ats m key) ≡ true → record e { mode = m; key = key } ≡ entry_with_mode ats Order e
-        by written.Free key allowed ordered = absurd (true≢false (sym ordered))
-        by written.Pass key allowed ordered = absurd (true≢false (sym ordered))
-        by written.Seal key allowed ordered = absurd (true≢false (sym ordered))
-        by written.Order key allowed ordered = ap (λ (k : List Name). record e { mode = written.Order; key = k }) (no_key key allowed)
+        by : (m : ModeName) (key : List Name) → allows_key m key ≡ true → mode_key (mode_from ats m key) ≡ None → record e { mode = m; key = key } ≡ entry_with_mode ats (mode_from ats m key) e
+        by written.Free key allowed keyless = ap (λ (k : List Name). record e { mode = written.Free; key = k }) (no_key key allowed)
+        by written.Pass key allowed keyless = absurd cc
+        by written.Seal key allowed keyless = absurd cc
+        by written.Order key allowed keyless = ap (λ (k : List Name). record e { mode = written.Order; key = k }) (no_key key allowed)
+
+    -- a component without a key is written with its mode
+    entry_is : (d : ℕ) → d < length now.topology.components → mode_key (mode_of v d) ≡ None → get_or now.topology.components d no_entry ≡ entry_with_mode v.attributes (mode_of v d) (get_or now.topology.components d no_entry)
+    entry_is d lt keyless =
+        let t = now.topology in
+        let entry : ComponentEntry = get_or t.components d no_entry in
+        let ls : d < length (sites t modules) = omega (arith, lt, length_sites t.components modules) in
+        let mode_is : mode_of v d ≡ mode_from (attributes t modules) entry.mode entry.key =
+        ap (λ (x : View). mode_of x d) view_is ∙ ap (λ (x : Component). x.mode) (at_component t modules d ls) ∙ ap (λ (x : ComponentEntry). mode_from (attributes t modules) x.mode x.key) (site_entry t.components modules d lt) in
+        let one = both_true _ _ whole.allowed in
+        let two = both_true (list_all allows_source t.sources) _ one.1 in
+        let three = both_true (list_all allows_component t.components) _ two.1 in
+        let own : allows_component entry ≡ true = all_member allows_component t.components entry three.0 (Has-get_or t.components d no_entry lt) in
+        let body = both_true (is_name entry.name) _ own in
+        let notes = both_true (allows_body entry.body entry.inputs entry.outputs) _ body.1 in
+        let allows : allows_key entry.mode entry.key ≡ true = (both_true (list_all allows_note entry.notes) (allows_key entry.mode entry.key) notes.1).1 in
+        written_as entry allows mode_is
+      where
+        written_as : (entry : ComponentEntry) → allows_key entry.mode entry.key ≡ true → mode_of v d ≡ mode_from (attributes now.topology modules) entry.mode entry.key → entry ≡ entry_with_mode v.attributes (mode_of v d) entry
+        written_as entry allows is =
+            let named : mode_of v d ≡ mode_from v.attributes entry.mode entry.key = is ∙ sym (ap (λ (x : View). mode_from x.attributes entry.mode entry.key) view_is) in
+            own_entry v.attributes entry allows (sym (ap mode_key named) ∙ keyless) ∙ ap (λ (m : Mode). entry_with_mode v.attributes m entry) (sym named)
+
+    -- one that is Free stays as it is where it is freed
+    pub free_stays : (c : ℕ) → c < length v.components → mode_of v c ≡ Free → now ≡ validated_with_mode now c Free
+    free_stays c lc is =
+        let le : c < length now.topology.components = (let same = counts in omega (arith, lc, same)) in
+        let entry : ComponentEntry = get_or now.topology.components c no_entry in
+        let own : Free ≡ mode_of v c = sym is in
+        let written = entry_is c le (ap mode_key is) ∙ ap (λ (m : Mode). entry_with_mode v.attributes m entry) is in
+        let entries = sym (set_own now.topology.components c no_entry (entry_with_mode v.attributes Free entry) (sym written)) in
+        let components = sym (set_own v.components c no_component (component_with_mode Free (component_at v c)) (λ i. component_with_mode (own i) (component_at v c))) in
+        λ i. record { topology = record now.topology { components = entries i }; view = record v { components = components i } }
+
+    pub free_is : (c : ℕ) → c < length v.components → is_free_mode (mode_of v c) ≡ true → now ≡ free_component now c
+    free_is c lc free = by (mode_of v c) refl free
+      where
+        by : (m : Mode) → mode_of v c ≡ m → is_free_mode m ≡ true → now ≡ free_component now c
+        by Free is free = free_stays c lc is ∙ ap (λ (m : Mode). if is_order_mode m then now else validated_with_mode now c Free) (sym is)
+        by (Pass key) is free = absurd (true≢false (sym free))
+        by (Seal key) is free = absurd (true≢false (sym free))
+        by Order is free = absurd (true≢false (sym free))
 
     free_written : (d : ℕ) → d < length now.topology.components → free_entry d ≡ entry_with_mode v.attributes (if is_order v d then Order else Free) (get_or now.topology.components d no_entry)
     free_written d lt = by (is_order v d) refl
@@ -207,23 +249,8 @@ module _ (now : Validated) where
         by : (b : Bool) → is_order v d ≡ b → (if b then get_or now.topology.components d no_entry else entry_with_mode v.attributes Free (get_or now.topology.components d no_entry)) ≡ entry_with_mode v.attributes (if b then Order else Free) (get_or now.topology.components d no_entry)
         by false e = refl
         by true e =
-            let t = now.topology in
-            let entry : ComponentEntry = get_or t.components d no_entry in
-            let ls : d < length (sites t modules) = omega (arith, lt, length_sites t.components modules) in
-            let ats : List Name = attributes t modules in
-            let mode_is : mode_of v d ≡ mode_from ats entry.mode entry.key =
-            ap (λ (x : View). mode_of x d) view_is ∙ ap (λ (x : Component). x.mode) (at_component t modules d ls) ∙ ap (λ (x : ComponentEntry). mode_from ats x.mode x.key) (site_entry t.components modules d lt) in
-            let one = both_true _ _ whole.allowed in
-            let two = both_true (list_all allows_source t.sources) _ one.1 in
-            let three = both_true (list_all allows_component t.components) _ two.1 in
-            let own : allows_component entry ≡ true = all_member allows_component t.components entry three.0 (Has-get_or t.components d no_entry lt) in
-            let body = both_true (is_name entry.name) _ own in
-            let notes = both_true (allows_body entry.body entry.inputs entry.outputs) _ body.1 in
-            let allows : allows_key entry.mode entry.key ≡ true = (both_true (list_all allows_note entry.notes) (allows_key entry.mode entry.key) notes.1).1 in
-            order_entry v.attributes entry allows (ordered_from entry mode_is)
-          where
-            ordered_from : (entry : ComponentEntry) → mode_of v d ≡ mode_from (attributes now.topology modules) entry.mode entry.key → is_order_mode (mode_from v.attributes entry.mode entry.key) ≡ true
-            ordered_from entry is = ap (λ (x : View). is_order_mode (mode_from x.attributes entry.mode entry.key)) view_is ∙ ap is_order_mode (sym is) ∙ e
+            let is : mode_of v d ≡ Order = order_mode (mode_of v d) e in
+            entry_is d lt (ap mode_key is) ∙ ap (λ (m : Mode). entry_with_mode v.attributes m (get_or now.topology.components d no_entry)) is
 
     abbrev start : Validated
     start = freed_so_far now (length v.components)

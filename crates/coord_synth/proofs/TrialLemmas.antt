@@ -47,7 +47,8 @@ view_with seen next c m is = ap (λ (x : Validated). x.view) is
 
 -- ---- a member of a cyclic region
 
-set_own : {X : Type 0} (xs : List X) (i : ℕ) (d x : X) → x ≡ get_or xs i d → slice_set xs i x ≡ xs
+-- an element that is set anew
+pub set_own : {X : Type 0} (xs : List X) (i : ℕ) (d x : X) → x ≡ get_or xs i d → slice_set xs i x ≡ xs
 set_own [] i d x own = refl
 set_own (y ∷ xs) zero d x own = ap (λ z. z ∷ xs) own
 set_own (y ∷ xs) (suc i) d x own = ap (λ ys. y ∷ ys) (set_own xs i d x own)

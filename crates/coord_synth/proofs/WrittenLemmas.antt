@@ -1,10 +1,9 @@
 -- A topology that is written with the modes of its view is so still with another mode.
-use Rattle.std.proofs.Common.{◌≡◌, ◌≢◌, ◌<◌, ◌≤◌, ◌+◌, ◌⊎◌, inl, inr, ℕ, IfOk, Result, Ok, Err, List, [], length, map, get_or, slice_set, refl, arith, ap, sym, subst, ◌∙◌}
+use Rattle.std.proofs.Common.{◌≡◌, ◌≢◌, ◌<◌, ◌+◌, inl, inr, ℕ, IfOk, Result, Ok, Err, List, length, get_or, slice_set, arith, ap, sym, subst, ◌∙◌}
 use Rattle.std.specs.List.{enumerate_from}
 use Rattle.std.proofs.lemmas.Bool.{cases_eq}
 use Rattle.std.proofs.lemmas.List.{ext_get_or, length-map, length-set, get_or-map, get_or-set_same, get_or-set_other}
 use Rattle.std.proofs.lemmas.List.FromFn.{get_or-enumerate_from, length-enumerate_from}
-use Rattle.bloom_ast.specs.Query.{Name}
 use Rattle.topo_types.specs.declared.mode.Mode.{Mode}
 use Rattle.topo_types.specs.declared.topology.ComponentEntry.{ComponentEntry}
 use Rattle.topo_types.specs.declared.topology.Topology.{Topology}

@@ -4,4 +4,5 @@ pub mod Notes
 pub mod Regions
 pub mod Shapes
 pub mod Start
+pub mod Tried
 pub mod Written

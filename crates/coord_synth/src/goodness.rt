@@ -1,13 +1,13 @@
 //! Which components have output streams that are Seal or Async alone.
-ghost use Rattle.std.specs.Prelude.{◌≡◌, ◌<◌, ◌&&◌, IfOk, length, not};
+ghost use Rattle.std.specs.Prelude.{◌≡◌, ◌<◌, ◌&&◌, length, not};
 ghost use Rattle.std.specs.List.{list_all};
 ghost use Rattle.coord_synth.specs.Plan as spec;
+ghost use Rattle.label_walk.specs.Labels.{AreLabels};
 ghost use Rattle.label_walk.specs.Paths.{label_at};
 ghost use Rattle.topo_types.specs.View as view;
 
 use label_rules::{Label, severity};
-use label_walk::{Labels, labels};
-use std::alloc::{AllocError, Global};
+use label_walk::Labels;
 use topo_types::Valid;
 
 /// Whether a label is worse than Async.
@@ -27,11 +27,19 @@ fn comes_from(valid: &Valid, component: u32, stream: u32) -> bool
     }
 }
 
+/// The label of a stream.
+pub(crate) fn label_of(labels: &Labels, stream: u32) -> Label
+    requires { stream < length labels.now }
+    ensures { result ≡ label_at labels.now stream }
+{
+    labels.of(stream)
+}
+
 fn is_fine(labels: &Labels, stream: u32) -> bool
     requires { stream < length labels.now }
     ensures { result ≡ not (spec.is_bad (label_at labels.now stream)) }
 {
-    !is_bad(labels.of(stream))
+    !is_bad(label_of(labels, stream))
 }
 
 // Whether a stream comes from a component and is worse than Async.
@@ -56,11 +64,12 @@ fn are_good(valid: &Valid, labels: &Labels, component: u32) -> bool
     true
 }
 
-/// Whether all output streams of a component are Seal or Async. Labels the topology.
-pub(crate) fn is_good(alloc: Global, valid: &Valid, component: u32) -> Result<bool, AllocError>
-    ensures { IfOk result (λ good. good ≡ spec.is_good valid.now.view component) }
+/// Whether all output streams of a component are Seal or Async. `labels` are those of the
+/// topology.
+pub(crate) fn is_good(valid: &Valid, labels: &Labels, component: u32) -> bool
+    requires { AreLabels valid.now.view labels.now }
+    ensures { result ≡ spec.is_good valid.now.view component }
 {
     valid.known();
-    let labels = labels(alloc, valid)?;
-    Ok(are_good(valid, &labels, component))
+    are_good(valid, labels, component)
 }

@@ -11,6 +11,7 @@ mod planning;
 mod ports;
 mod start;
 mod steps;
+mod tried;
 
 pub use laws::{after_planning_law, plan_law, plan_modes_law};
 pub use planning::{order_plan, plan, seal_plan};

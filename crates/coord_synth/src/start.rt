@@ -3,16 +3,33 @@ ghost use Rattle.std.specs.Prelude.{◌≡◌, ◌<◌, IfOk, length};
 ghost use Rattle.coord_synth.specs.Code.Start as code;
 ghost use Rattle.coord_synth.specs.Code.Written.{IsWritten};
 ghost use Rattle.coord_synth.specs.Plan as spec;
+ghost use Rattle.topo_types.specs.View as view;
 
 use label_walk::is_order;
 use std::alloc::{AllocError, Global};
 use topo_types::{Mode, Valid};
 
+fn is_free(valid: &Valid, component: u32) -> bool
+    requires { component < length valid.now.view.components }
+    ensures { result ≡ code.is_free_mode (view.mode_of valid.now.view component) }
+{
+    match valid.mode(component) {
+        Mode::Free => true,
+        Mode::Pass(_) | Mode::Seal(_) | Mode::Order => false,
+    }
+}
+
+// The topology in which the component is Free where it isn't Order. One that is Free already isn't
+// copied.
 fn free_component(alloc: Global, now: Valid, component: u32) -> Result<Valid, AllocError>
     requires { component < length now.view.components }
     ensures { IfOk result (λ next. next ≡ code.free_component now component) }
 {
+    now.whole();
     if is_order(&now, component) {
+        return Ok(now);
+    }
+    if is_free(&now, component) {
         return Ok(now);
     }
     now.with_mode(alloc, component, Mode::Free)

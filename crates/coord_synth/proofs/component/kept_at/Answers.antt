@@ -1,13 +1,9 @@
 -- The key of the port decides.
-use Rattle.std.proofs.Common.{◌≡◌, Option, None, Some, IfOk, ap, if◌then◌else◌, sym, subst, ◌∙◌}
+use Rattle.std.proofs.Common.{◌≡◌, Option, None, Some, IfOk, ap, if◌then◌else◌, subst}
 use Rattle.std.specs.Option.{option_and_then}
 use Rattle.fd_closure.specs.declared.attrs.Attrs.{Attrs}
 use Rattle.coord_synth.specs.Plan.{is_good, trial}
-use Rattle.coord_synth.proofs.KeptLemmas.{port_key_fits}
 use Rattle.coord_synth.proofs.component.kept_at.Goals as goal
-
-pub if_kept-requires-clause-key : goal.if_kept-requires-clause-key
-if_kept-requires-clause-key c = port_key_fits c.args.now.now c.whole.ensures c.known.ensures c.args.component c.args.port c.in-Some.key (sym c.in-Some.ensures)
 
 pub returns-in-Some : goal.returns-in-Some
 returns-in-Some c =

@@ -1,5 +1,5 @@
 -- The first key that is kept, or none.
-use Rattle.std.proofs.Common.{◌≡◌, ◌<◌, length, arith, sym, ◌∙◌}
+use Rattle.std.proofs.Common.{◌<◌, length, arith, sym, ◌∙◌}
 use Rattle.topo_types.specs.Carried.{port_key}
 use Rattle.topo_types.specs.View.{component_at}
 use Rattle.coord_synth.specs.Plan.{is_good, trial}

@@ -1,5 +1,5 @@
 -- The component becomes Order, or stays as it is.
-use Rattle.std.proofs.Common.{◌≡◌, ap, sym, ◌∙◌}
+use Rattle.std.proofs.Common.{◌≡◌, sym, ◌∙◌}
 use Rattle.std.proofs.lemmas.Result.{IfOk-weaker}
 use Rattle.topo_types.specs.declared.mode.Mode.TheVariants.{Order}
 use Rattle.topo_types.specs.Laws.{validated_with_mode}
@@ -15,13 +15,13 @@ with_mode-requires c = can_order c.args.now.view c.args.component c.requires.com
 pub returns-then-becomes : goal.returns-then-becomes
 returns-then-becomes c = record {
   view = IfOk-weaker c.with_mode.result (λ n. n ≡ validated_with_mode c.args.now c.args.component Order) (λ n. n.view ≡ ordered c.args.steps c.args.now.view c.args.component)
-      (λ n is. view_with c.args.now n c.args.component Order is ∙ order_taken c.args.steps c.args.now.view c.args.component (sym c.in_ok-becomes.ensures ∙ c.if-becomes.true)) c.with_mode.ensures;
+      (λ n is. view_with c.args.now n c.args.component Order is ∙ order_taken c.args.steps c.args.now.view c.args.component (sym c.becomes_order-becomes.ensures ∙ c.if-becomes.true)) c.with_mode.ensures;
   written = IfOk-weaker c.with_mode.result (λ n. n ≡ validated_with_mode c.args.now c.args.component Order) (λ n. StaysWritten c.args.now n)
       (λ n is. stays_with c.args.now n c.args.component Order c.requires.component is) c.with_mode.ensures;
 }
 
 pub returns-else-becomes : goal.returns-else-becomes
 returns-else-becomes c = record {
-  view = order_left c.args.steps c.args.now.view c.args.component (sym c.in_ok-becomes.ensures ∙ c.if-becomes.false);
+  view = order_left c.args.steps c.args.now.view c.args.component (sym c.becomes_order-becomes.ensures ∙ c.if-becomes.false);
   written = stays_same c.args.now;
 }

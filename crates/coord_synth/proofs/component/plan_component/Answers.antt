@@ -1,7 +1,6 @@
 -- What is Order stays so.
 use Rattle.std.proofs.Common.{◌≡◌, sym, ◌∙◌}
 use Rattle.std.proofs.lemmas.Result.{IfOk-weaker}
-use Rattle.coord_synth.specs.Code.Written.{StaysWritten}
 use Rattle.coord_synth.specs.Plan.{with_key, kept_key, plan_component}
 use Rattle.coord_synth.proofs.KeptLemmas.{plan_order, plan_free}
 use Rattle.coord_synth.proofs.TrialLemmas.{stays_same}

@@ -1,9 +1,8 @@
 -- The mode may be written, and gives the trial.
-use Rattle.std.proofs.Common.{◌≡◌, Option, None, Some, ap, sym, subst, ◌∙◌}
+use Rattle.std.proofs.Common.{◌≡◌, ap, ◌∙◌}
 use Rattle.std.proofs.lemmas.Result.{IfOk-weaker}
 use Rattle.topo_types.specs.Laws.{validated_with_mode}
-use Rattle.topo_types.specs.Valid.{Validated}
-use Rattle.topo_types.specs.View.{View, with_mode}
+use Rattle.topo_types.specs.View.{with_mode}
 use Rattle.coord_synth.specs.Code.Written.{StaysWritten}
 use Rattle.coord_synth.specs.Plan.{trial}
 use Rattle.coord_synth.proofs.TrialLemmas.{can_try, stays_with, view_with}

@@ -1,9 +1,7 @@
 -- Another mode of a component that has an O note and isn't Order yet.
-use Rattle.std.proofs.Common.{◌≡◌, ap, sym, ◌∙◌}
+use Rattle.std.proofs.Common.{◌≡◌, sym, ◌∙◌}
 use Rattle.std.proofs.lemmas.Result.{IfOk-weaker}
 use Rattle.topo_types.specs.Laws.{validated_with_mode}
-use Rattle.topo_types.specs.Valid.{Validated}
-use Rattle.topo_types.specs.View.{with_mode}
 use Rattle.coord_synth.specs.Code.Written.{StaysWritten}
 use Rattle.topo_types.specs.declared.mode.Mode.TheVariants.{Order}
 use Rattle.coord_synth.specs.Plan.{order_member}

@@ -1,5 +1,5 @@
 -- One member more.
-use Rattle.std.proofs.Common.{◌≡◌, ◌<◌, ◌+◌, length, get_or, arith, ap, ◌∙◌}
+use Rattle.std.proofs.Common.{◌<◌, length, get_or, arith, ap, ◌∙◌}
 use Rattle.topo_types.specs.View.{View}
 use Rattle.coord_synth.specs.Plan.{order_member}
 use Rattle.coord_synth.proofs.CountLemmas.{order_member_count}

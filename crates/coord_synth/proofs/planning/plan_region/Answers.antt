@@ -3,8 +3,8 @@ use Rattle.std.proofs.Common.{◌≡◌, ◌∙◌}
 use Rattle.std.proofs.lemmas.Result.{IfOk-weaker}
 use Rattle.label_walk.specs.Paths.{region_at}
 use Rattle.coord_synth.specs.Code.Shapes.{plan_at}
-use Rattle.coord_synth.specs.Plan.{plan_component, plan_cycle}
-use Rattle.coord_synth.proofs.FirstLemmas.{at_cycle, at_component}
+use Rattle.coord_synth.specs.Plan.{plan_cycle}
+use Rattle.coord_synth.proofs.FirstLemmas.{at_cycle}
 use Rattle.coord_synth.proofs.planning.plan_region.Goals as goal
 
 pub returns-in-Some-clause-view : goal.returns-in-Some-clause-view

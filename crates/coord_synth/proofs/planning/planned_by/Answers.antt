@@ -1,11 +1,10 @@
 -- The plan goes by the first members.
-use Rattle.std.proofs.Common.{◌≡◌, ℕ, List, fold, ap, sym, subst, ◌∙◌}
+use Rattle.std.proofs.Common.{◌≡◌, ℕ, List, fold, sym, subst, ◌∙◌}
 use Rattle.std.proofs.lemmas.Result.{IfOk-weaker}
 use Rattle.label_walk.specs.Paths.{AreComponents}
 use Rattle.topo_types.specs.View.{View}
 use Rattle.coord_synth.specs.Code.Shapes.{AreFirsts, plan_at}
-use Rattle.coord_synth.specs.Code.Written.{StaysWritten}
-use Rattle.coord_synth.specs.Plan.{freed, planned_by, topology_with_modes}
+use Rattle.coord_synth.specs.Plan.{freed, planned_by}
 use Rattle.coord_synth.proofs.FirstLemmas.{first_within}
 use Rattle.coord_synth.proofs.WrittenLemmas.{both}
 use Rattle.coord_synth.proofs.PlannedModes.{by_firsts}

@@ -1,5 +1,5 @@
 -- All components were gone through.
-use Rattle.std.proofs.Common.{◌≡◌, ◌≤◌, ◌<◌, ℕ, length, arith, refl, ap, sym, subst, ◌∙◌}
+use Rattle.std.proofs.Common.{◌≡◌, length, arith, ap, sym, subst, ◌∙◌}
 use Rattle.topo_types.specs.Valid.{Validated}
 use Rattle.coord_synth.specs.Code.Start.{free_component}
 use Rattle.coord_synth.specs.Code.Written.{IsWritten}

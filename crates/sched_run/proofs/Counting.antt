@@ -69,12 +69,12 @@ rows_counted p records list = go list 0 ∙ sym (length-filter p (rows_in (read_
 
 -- ---- pairs in an ordered set
 
-is_eq-then : (o p : Ordering) → is_eq (ordering_then o p) ≡ (is_eq o && is_eq p)
+pub is_eq-then : (o p : Ordering) → is_eq (ordering_then o p) ≡ (is_eq o && is_eq p)
 is_eq-then Less p = refl
 is_eq-then Equal p = refl
 is_eq-then Greater p = refl
 
-is_eq-numbers : (a b : ℕ) → is_eq (nat_cmp a b) ≡ (a == b)
+pub is_eq-numbers : (a b : ℕ) → is_eq (nat_cmp a b) ≡ (a == b)
 is_eq-numbers a b =
     same_truth (is_eq (nat_cmp a b)) (a == b)
     (λ e. eq-eqb a b (nat_cmp-IsAntisymmetric a b ((Equal-is (nat_cmp a b)).0 e)))

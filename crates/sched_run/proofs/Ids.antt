@@ -1,6 +1,7 @@
 -- The ids of an emitted list, one message more, and what a push keeps of the lists.
-use Rattle.std.proofs.Common.{◌≡◌, ◌<◌, ◌≤◌, ◌+◌, ◌*◌, ◌||◌, append-nil, ℕ, false, Option, None, Some, List, [], ◌∷◌, ◌++◌, length, set, get_or, replicate, refl, ap, ◌∙◌, sym, subst, inl, inr, arith, length-append, eqb}
-use Rattle.std.specs.Prelude.{if◌then◌else◌, ◌==◌, is_some}
+use Rattle.std.proofs.Common.{◌≡◌, ◌<◌, ◌≤◌, ◌+◌, ◌*◌, ◌||◌, append-nil, ℕ, true, false, Option, None, Some, List, [], ◌∷◌, ◌++◌, length, set, get_or, replicate, refl, ap, ◌∙◌, sym, subst, inl, inr, arith, length-append, eqb}
+use Rattle.std.specs.Prelude.{if◌then◌else◌, ◌==◌, is_some, Result, Ok, Err, OnOk, OnErr}
+use Rattle.std.specs.BTreeSet.{insert_key as insert_ordered}
 use Rattle.std.specs.List.{All, list_any}
 use Rattle.std.proofs.lemmas.Bool.{cases_eq, cases_lt}
 use Rattle.std.proofs.lemmas.List.{get_or-set_same, get_or-set_other, get_or_append_left, get_or_push, length-set, get_or_default, get_or-replicate, length-replicate, get_or_past}
@@ -10,17 +11,24 @@ use Rattle.std.proofs.lemmas.List.Folds.{sum_by-replicate}
 use Rattle.indexmap.specs.IndexSet.{insert_key}
 use Rattle.blz_pool.specs.Pool.{number_of, with_record}
 use Rattle.blz_pool.proofs.Records.{number_of-none, number_of-lacks}
-use Rattle.blz_value.specs.Record.{Row as Record}
-use Rattle.blz_value.specs.Sets.{IsRowSet}
-use Rattle.blz_value.proofs.SetLaws.{sorted_set_of}
+use Rattle.blz_value.specs.Members.{Has}
+use Rattle.blz_value.specs.Record.{Row as Record, record_cmp}
+use Rattle.blz_value.specs.Sets.{IsRowSet, set_of}
+use Rattle.blz_value.proofs.Membership.{any_from_Has, Has-from_any}
+use Rattle.blz_value.proofs.RowSets.{set_of-push}
+use Rattle.blz_value.proofs.SetLaws.{sorted_set_of, Has-set_of, Has-from_set_of}
 use Rattle.bloom_ast.specs.Step.{Sets, set_at}
+use Rattle.topo_types.specs.Messages.{is_same_row}
+use Rattle.topo_types.proofs.Regions.Spreading.{same_truth}
+use Rattle.inbox.specs.Growth.{Continues}
 use Rattle.inbox.specs.Ids.{IsGiven}
 use Rattle.inbox.specs.declared.message.Message.{Message as IdMessage}
 use Rattle.inbox.specs.declared.message.Message.TheVariants.{Row, Seal}
+use Rattle.inbox.proofs.Lists.Growing.{continues_itself}
 use Rattle.sched_run.specs.Limits.{message_limit}
 use Rattle.sched_run.specs.Lists.{total}
-use Rattle.sched_run.specs.Code.Ids.{id_in, ids_in, is_row_with}
-use Rattle.sched_run.proofs.ListsLemmas.{IsPlaced}
+use Rattle.sched_run.specs.Code.Ids.{id_in, ids_in, sealed_by, all_sealed, is_row_with, is_seal_of}
+use Rattle.sched_run.proofs.ListsLemmas.{IsPlaced, placed-on}
 
 -- ---- the index of ids
 
@@ -44,6 +52,38 @@ ids_push list now new keys next id n same are is none inserted pushed =
 pub ids_seal : (list new : List IdMessage) (keys : List ℕ) (key : Record) (count : ℕ) → keys ≡ ids_in list → new ≡ list ++ Seal key count ∷ [] → keys ≡ ids_in new
 ids_seal list new keys key count are pushed =
     are ∙ sym (ap ids_in pushed ∙ filter_map-append id_in list (Seal key count ∷ []) ∙ append-nil (ids_in list))
+
+-- ---- the index of seals
+
+sealed_any : (key : Record) (list : List IdMessage) → list_any (is_same_row key) (all_sealed list) ≡ list_any (is_seal_of key) list
+sealed_any key [] = refl
+sealed_any key (Row id ∷ list) = sealed_any key list
+sealed_any key (Seal other count ∷ list) = ap (λ b. is_same_row key other || b) (sealed_any key list)
+
+any_carried : (key : Record) (xs ys : List Record) → ((q : Record) → Has q xs → Has q ys) → list_any (is_same_row key) xs ≡ true → list_any (is_same_row key) ys ≡ true
+any_carried key xs ys into t =
+    let m = Has-from_any (is_same_row key) xs t in
+    any_from_Has (is_same_row key) m.0 ys (into m.0 m.1) m.2
+
+any_of_set : (key : Record) (rows : List Record) → list_any (is_same_row key) (set_of rows) ≡ list_any (is_same_row key) rows
+any_of_set key rows =
+    same_truth (list_any (is_same_row key) (set_of rows)) (list_any (is_same_row key) rows)
+    (any_carried key (set_of rows) rows (λ q h. Has-from_set_of q rows h))
+    (any_carried key rows (set_of rows) (λ q h. Has-set_of q rows h))
+
+pub seal_test : (key : Record) (list now : List IdMessage) (keys : List Record) → keys ≡ set_of (all_sealed list) → list ≡ now → list_any (is_same_row key) keys ≡ list_any (is_seal_of key) now
+seal_test key list now keys are is = ap (list_any (is_same_row key)) are ∙ any_of_set key (all_sealed list) ∙ sealed_any key list ∙ ap (list_any (is_seal_of key)) is
+
+pub sealed_push : (list new : List IdMessage) (keys next : List Record) (key copy : Record) (count : ℕ) → copy ≡ key → keys ≡ set_of (all_sealed list) → next ≡ insert_ordered record_cmp keys key → new ≡ list ++ Seal copy count ∷ [] → next ≡ set_of (all_sealed new)
+sealed_push list new keys next key copy count same are inserted pushed =
+    inserted
+    ∙ ap (λ ks. insert_ordered record_cmp ks key) are
+    ∙ sym (set_of-push key (all_sealed list))
+    ∙ ap set_of (sym (ap all_sealed (pushed ∙ ap (λ k. list ++ Seal k count ∷ []) same) ∙ filter_map-append sealed_by list (Seal key count ∷ [])))
+
+pub sealed_row : (list new : List IdMessage) (keys : List Record) (id : ℕ) → keys ≡ set_of (all_sealed list) → new ≡ list ++ Row id ∷ [] → keys ≡ set_of (all_sealed new)
+sealed_row list new keys id are pushed =
+    are ∙ ap set_of (sym (ap all_sealed pushed ∙ filter_map-append sealed_by list (Row id ∷ []) ∙ append-nil (all_sealed list)))
 
 -- ---- what holds of all lists, one message more
 
@@ -102,6 +142,11 @@ placed_with old new r is = by_number (number_of old r) refl
       known = λ h. with_number (Some n) e;
       last = λ fresh. let no : Some n ≡ None = sym e ∙ number_of-lacks old r fresh in cc;
     }
+
+-- so it goes on, whether the record is placed or not
+pub pool_on : {E : Type 0} (answer : Result ℕ E) (old new : List Record) (r : Record) → OnOk answer (new ≡ with_record old r) → OnErr answer (new ≡ old) → Continues old new
+pool_on (Ok id) old new r placed same = placed-on old new r (placed_with old new r placed)
+pool_on (Err fault) old new r placed same = subst (Continues old) (sym same) (continues_itself old)
 
 -- ---- sets of outputs
 

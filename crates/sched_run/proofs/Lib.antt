@@ -5,8 +5,8 @@ pub mod Emitting
 pub mod ListsLemmas
 pub mod OutletsLemmas
 pub mod RunningLemmas
-pub mod KeysLemmas
 pub mod ListSeals
+pub mod Tallies
 pub mod ListLoops
 pub mod FaultLemmas
 pub mod Ids
@@ -20,6 +20,7 @@ pub mod ArrivingLemmas
 pub mod ShellsLemmas
 pub mod PlacesFound
 pub mod PartsFound
+pub mod FeedsSorted
 pub mod CourseLemmas
 pub mod OrderingLemmas
 pub mod LoggingLemmas

@@ -62,6 +62,16 @@ length-filter_push p (q ∷ rows) r b is = go (p q) (length-filter_push p rows r
     go true rest = omega (arith, rest)
     go false rest = rest
 
+-- a record behind a list is counted, where it is of the partition, and a seal never is
+pub count_in-row : (columns : List ℕ) (list : List Message) (r key : Record) (b : Bool) → is_same_row (cells columns r) key ≡ b → count_in columns (list ++ row r ∷ []) key ≡ count_in columns list key + (if b then 1 else 0)
+count_in-row columns list r key b is =
+    ap (λ rows. length (filter (has_this columns key) rows)) (rows_in-append list (row r ∷ []))
+    ∙ length-filter_push (has_this columns key) (rows_in list) r b is
+
+pub count_in-seal : (columns : List ℕ) (list : List Message) (sealed : Record) (n : ℕ) (key : Record) → count_in columns (list ++ seal sealed n ∷ []) key ≡ count_in columns list key
+count_in-seal columns list sealed n key =
+    ap (λ rows. length (filter (has_this columns key) rows)) (rows_in-append list (seal sealed n ∷ []) ∙ append-nil (rows_in list))
+
 -- one message more is counted, where it is a record of the partition
 pub count-row : (records : List Record) (list : List IdMessage) (index id : ℕ) (columns : List ℕ) (key : Record) (b : Bool) → index < length list → Row id ≡ get_or list index (Row id) → is_same_row (cells columns (row_with_id records id)) key ≡ b
     → count_in columns (read_list records (take (index + 1) list)) key ≡ count_in columns (read_list records (take index list)) key + (if b then 1 else 0)
@@ -70,8 +80,7 @@ count-row records list index id columns key b within at is =
     let r : Record = row_with_id records id in
     ap (λ l. count_in columns (read_list records l) key) (take_more list index (Row id) within ∙ ap (λ m. take index list ++ m ∷ []) (sym at))
     ∙ ap (λ l. count_in columns l key) (map-append (message_with_id records) (take index list) (Row id ∷ []))
-    ∙ ap (λ rows. length (filter (has_this columns key) rows)) (rows_in-append front (row r ∷ []))
-    ∙ length-filter_push (has_this columns key) (rows_in front) r b is
+    ∙ count_in-row columns front r key b is
 
 pub count-seal : (records : List Record) (list : List IdMessage) (index : ℕ) (sealed : Record) (n : ℕ) (columns : List ℕ) (key : Record) → index < length list → Seal sealed n ≡ get_or list index (Seal sealed n)
     → count_in columns (read_list records (take (index + 1) list)) key ≡ count_in columns (read_list records (take index list)) key
@@ -79,7 +88,7 @@ count-seal records list index sealed n columns key within at =
     let front : List Message = read_list records (take index list) in
     ap (λ l. count_in columns (read_list records l) key) (take_more list index (Seal sealed n) within ∙ ap (λ m. take index list ++ m ∷ []) (sym at))
     ∙ ap (λ l. count_in columns l key) (map-append (message_with_id records) (take index list) (Seal sealed n ∷ []))
-    ∙ ap (λ rows. length (filter (has_this columns key) rows)) (rows_in-append front (seal sealed n ∷ []) ∙ append-nil (rows_in front))
+    ∙ count_in-seal columns front sealed n key
 
 -- one message more
 pub count-more : (records : List Record) (list : List IdMessage) (index : ℕ) (m : IdMessage) (columns : List ℕ) (key : Record) (b : Bool) → index < length list → m ≡ get_or list index m → counts_in records columns key m ≡ b

@@ -55,6 +55,9 @@ given-longer records more (Seal key count) given = tt
 pub given_on : (records later : List Record) (m : IdMessage) → Continues records later → IsGiven records m → IsGiven later m
 given_on records later m on given = subst (λ l. IsGiven l m) on.with_more (given-longer records on.more m given)
 
+pub all_given_on : (records later : List Record) (lists : List (List IdMessage)) → Continues records later → All (All (IsGiven records)) lists → All (All (IsGiven later)) lists
+all_given_on records later lists on given k d within j e inside = given_on records later (get_or (get_or lists k d) j e) on (given k d within j e inside)
+
 -- one list read alone
 pub read-at : (records : List Record) (lists : List (List IdMessage)) (place : ℕ) → read_list records (list_at lists place) ≡ list_at (map (read_list records) lists) place
 read-at records [] place = refl
@@ -138,7 +141,7 @@ pub record IsPlaced (old new : List Record) (r : Record) : Type 0 where
   pub known : Has r old → new ≡ old
   pub last : ¬ Has r old → new ≡ old ++ r ∷ []
 
-placed-on : (old new : List Record) (r : Record) → IsPlaced old new r → Continues old new
+pub placed-on : (old new : List Record) (r : Record) → IsPlaced old new r → Continues old new
 placed-on old new r placed = elim (has_test r old) [
   | inl known ↦ subst (λ l. Continues old l) (sym (placed.known known)) (continues_itself old)
   | inr fresh ↦ subst (λ l. Continues old l) (sym (placed.last fresh)) (continues_with old (r ∷ []))

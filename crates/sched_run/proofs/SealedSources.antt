@@ -1,15 +1,15 @@
 -- Seals behind a list, one partition after the other.
-use Rattle.std.proofs.Common.{◌≡◌, ◌<◌, ◌≤◌, ◌+◌, ℕ, List, [], ◌∷◌, ◌++◌, length, map, set, get_or, refl, ap, ◌∙◌, sym, subst, inl, inr, arith, append-nil, append_assoc, length-append}
+use Rattle.std.proofs.Common.{◌≡◌, ◌<◌, ◌≤◌, ◌+◌, ℕ, List, [], ◌∷◌, ◌++◌, length, map, filter, set, refl, ap, ◌∙◌, sym, subst, inl, inr, arith, append-nil, append_assoc, length-append}
 use Rattle.std.proofs.lemmas.Bool.{cases_eq}
-use Rattle.std.proofs.lemmas.List.{map-append, map-set, length-map, length-set, set-set, set-get_or, get_or-set_same, get_or-set_other}
+use Rattle.std.proofs.lemmas.List.{map-append, map-set, set-set, set-get_or, get_or-set_same, get_or-set_other}
 use Rattle.std.proofs.lemmas.List.Sums.{sum_by-set}
 use Rattle.blz_value.specs.Members.{Has}
+use Rattle.blz_value.specs.Operators.{cells}
 use Rattle.blz_value.specs.Record.{Row as Record}
-use Rattle.topo_types.specs.Messages.{Message, seal, rows_in}
+use Rattle.topo_types.specs.Messages.{Message, seal, is_same_row, rows_in}
 use Rattle.inbox.specs.Emission.{count_in}
 use Rattle.inbox.specs.Growth.{Continues}
 use Rattle.inbox.specs.Ids.{message_with_id}
-use Rattle.inbox.specs.declared.message.Message.{Message as IdMessage}
 use Rattle.inbox.specs.declared.message.Message.TheVariants.{Seal}
 use Rattle.inbox.proofs.Lists.Growing.{continues_itself, continues_on}
 use Rattle.inbox.proofs.Lists.Rows.{rows_in-append}
@@ -112,6 +112,23 @@ sealed_next old now new place columns key rest keys count within s counted same 
       within = subst (λ n. place < n) (sym (same_count now new place _ step)) s.within;
       room = omega (arith, s.room, one_longer now new place key count s.within same lists);
     }
+
+-- seals aren't counted
+rows_of_seals : (count : Record → ℕ) (keys : List Record) → rows_in (map (λ key. seal key (count key)) keys) ≡ []
+rows_of_seals count [] = refl
+rows_of_seals count (key ∷ keys) = rows_of_seals count keys
+
+pub count_stays : (old now : Listed) (place : ℕ) (columns : List ℕ) (key : Record) (rest keys : List Record) → place < length old.lists → IsSealedBy old now place columns rest keys
+    → count_in columns (list_at (read_lists now) place) key ≡ count_in columns (list_at (read_lists old) place) key
+count_stays old now place columns key rest keys within s =
+    let list : List Message = list_at (read_lists old) place in
+    let so_far : List Message = list ++ seals_of columns list s.done in
+    let seen : list_at (read_lists now) place ≡ so_far = ap (λ l. list_at l place) s.becomes.lists ∙ get_or-set_same (read_lists old) place so_far [] (subst (λ n. place < n) (sym (length-read_lists old)) within) in
+    ap (λ l. count_in columns l key) seen
+    ∙ ap (λ rows. length (filter (λ r. is_same_row (cells columns r) key) rows))
+    (rows_in-append list (seals_of columns list s.done)
+    ∙ ap (λ rows. rows_in list ++ rows) (rows_of_seals (λ k. count_in columns list k) s.done)
+    ∙ append-nil (rows_in list))
 
 -- at the end
 pub sealed_all : (old now : Listed) (place : ℕ) (columns : List ℕ) (keys : List Record) → IsSealedBy old now place columns [] keys → OneListBecomes old now place (list_at (read_lists old) place ++ seals_of columns (list_at (read_lists old) place) keys)

@@ -5,30 +5,33 @@ ghost use Rattle.sched_run.specs.Code.Ids.{is_row_with, is_seal_of};
 ghost use Rattle.inbox.specs.declared.message.Message.TheVariants.{Row, Seal};
 
 use blz_pool::Id;
-use blz_value::{Record, compare};
+use blz_value::Record;
 use inbox::Message;
 use indexmap::IndexSet;
 use std::alloc::{AllocError, Global};
+use std::collections::BTreeSet;
 use std::marker::Model;
 
-/// The messages that a sender of a stream emitted, in order. An index tells whether a record stands
-/// among them.
+/// The messages that a sender of a stream emitted, in order. Indexes tell whether a record stands
+/// among them, and whether a seal of a partition does.
 #[derive(Drop)]
 pub(crate) struct Emitted {
     messages: Vec<Message>,
     ids: IndexSet<u32>,
+    seals: BTreeSet<Record>,
 }
 
 impl Model for Emitted {
     ghost use Rattle.std.specs.Prelude.{◌≡◌, List};
+    ghost use Rattle.blz_value.specs.Sets.{set_of};
     ghost use Rattle.inbox.specs.declared.message.Message.{Message};
-    ghost use Rattle.sched_run.specs.Code.Ids.{ids_in};
+    ghost use Rattle.sched_run.specs.Code.Ids.{ids_in, all_sealed};
 
     ghost Value = { List Message };
 
     ghost view = { λ list. list.messages.items };
 
-    ghost invariant = { λ list. list.ids.keys ≡ ids_in list.messages.items };
+    ghost invariant = { λ list. (list.ids.keys ≡ ids_in list.messages.items) × (list.seals.keys ≡ set_of (all_sealed list.messages.items)) };
 }
 
 impl Emitted {
@@ -39,6 +42,7 @@ impl Emitted {
         Emitted {
             messages: Vec::new(alloc),
             ids: IndexSet::new(alloc),
+            seals: BTreeSet::new(alloc),
         }
     }
 
@@ -70,18 +74,11 @@ impl Emitted {
         self.ids.contains(&id.number())
     }
 
-    /// Whether a seal of a partition stands in the list. Walks over the list.
+    /// Whether a seal of a partition stands in the list, by the index.
     pub(crate) fn has_seal(&self, key: &Record) -> bool
         ensures { result ≡ list_any (is_seal_of key.now) self.now }
     {
-        for message in &self.messages {
-            if let Message::Seal { key: other, .. } = message {
-                if compare(key, other).is_eq() {
-                    return true;
-                }
-            }
-        }
-        false
+        self.seals.contains(key)
     }
 
     /// Puts a record behind the others that isn't there yet. The error is want of memory and leaves
@@ -106,7 +103,16 @@ impl Emitted {
         ensures ok { OnOk result (self.new ≡ self.old ++ Seal key count ∷ []) }
         ensures err { OnErr result (self.new ≡ self.old) }
     {
-        self.messages.push(Message::Seal { key, count })?;
-        Ok(())
+        self.messages.push(Message::Seal {
+            key: key.copy()?,
+            count,
+        })?;
+        match self.seals.insert(key) {
+            Ok(_) => Ok(()),
+            Err(error) => {
+                let _ = self.messages.pop();
+                Err(AllocError::from(error))
+            }
+        }
     }
 }

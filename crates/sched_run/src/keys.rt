@@ -1,47 +1,13 @@
 //! Keys of records.
-ghost use Rattle.std.specs.Prelude.{◌≡◌, ◌<◌, ◌↔◌, IsTrue, IfOk, Some, length, option_copied, slice_get};
+ghost use Rattle.std.specs.Prelude.{◌≡◌, ◌<◌, IfOk, Some, length};
 ghost use Rattle.blz_value.specs.Operators.{cells};
-ghost use Rattle.blz_value.specs.Test.{cell};
 ghost use Rattle.path_annotate.specs.Roots.{are_same};
 ghost use Rattle.topo_types.specs.Data.{place_of_attribute, key_places};
-ghost use Rattle.topo_types.specs.Messages.{is_same_row};
 ghost use Rattle.topo_types.specs.View.{stream_at};
 
-use blz_value::{Record, Value, compare_values};
+use blz_value::{Record, Value};
 use std::alloc::{AllocError, Global};
 use topo_types::{Attrs, Valid};
-
-// The value in a column, None past the end.
-fn value_in(row: &Record, column: u32) -> Option<&Value>
-    ensures { option_copied result ≡ slice_get row.now column }
-{
-    row.values().get(column as usize)
-}
-
-// Whether a record has a value in a column; past the end stands the number 0.
-fn has_value(row: &Record, column: u32, value: &Value) -> bool
-    ensures { IsTrue result ↔ (cell row.now column ≡ value.now) }
-{
-    match value_in(row, column) {
-        Some(own) => compare_values(own, value).is_eq(),
-        None => compare_values(&Value::Int(0), value).is_eq(),
-    }
-}
-
-/// Whether a record has a key value in some columns.
-pub(crate) fn has_key(row: &Record, columns: &[u32], key: &Record) -> bool
-    ensures { result ≡ is_same_row (cells columns.now row.now) key.now }
-{
-    if columns.len() != key.values().len() {
-        return false;
-    }
-    for i in 0..columns.len() {
-        if !has_value(row, columns[i], &key.values()[i]) {
-            return false;
-        }
-    }
-    true
-}
 
 /// The key value of a record in some columns; past the end stands the number 0.
 pub(crate) fn key_of(alloc: Global, row: &Record, columns: &[u32]) -> Result<Record, AllocError>

@@ -1,5 +1,5 @@
 //! All emitted lists, and the pool of their records.
-ghost use Rattle.std.specs.Prelude.{◌≡◌, ◌<◌, ◌≤◌, ◌+◌, ◌^◌, ◌++◌, ◌∷◌, ℕ, [], length, replicate, slice_get, slice_set, false, Some, Err, IfOk, OnOk, if◌then◌else◌};
+ghost use Rattle.std.specs.Prelude.{◌≡◌, ◌<◌, ◌≤◌, ◌+◌, ◌++◌, ◌∷◌, ℕ, [], length, replicate, slice_get, slice_index_or, slice_set, false, None, Some, Err, IfOk, OnOk, if◌then◌else◌};
 ghost use Rattle.std.specs.List.{All, list_any};
 ghost use Rattle.blz_pool.specs.Pool.{IsPool, record_limit, with_record};
 ghost use Rattle.blz_value.specs.Members.{Has};
@@ -9,40 +9,54 @@ ghost use Rattle.inbox.specs.Ids.{IsGiven};
 ghost use Rattle.inbox.specs.declared.message.Message.TheVariants.{Seal};
 ghost use Rattle.sched_run.specs.Limits.{message_limit};
 ghost use Rattle.sched_run.specs.Lists.{OneListBecomes, AllAreGiven, IsExact, read_lists, list_at, total};
-ghost use Rattle.sched_run.specs.Code.Counts.{count_of, seals_of};
+ghost use Rattle.sched_run.specs.Code.Counts.{count_of, seals_of, HasRoom, IsTallyOf, IsTallied};
 ghost use Rattle.sched_run.specs.Code.Ids.{is_row_with, with_id, counts_in, IsLimit};
 ghost use Rattle.sched_run.specs.declared.fault.EventFault.TheVariants.{TooManyMessages};
 
-use crate::counts::{count_at, count_key};
+use crate::counts::{Tally, with_one};
 use crate::emitted::Emitted;
 use crate::fault::EventFault;
-use crate::keys::{has_key, key_of};
 use crate::limits::MAX_MESSAGES;
 use blz_pool::{Id, Pool, PoolFault};
 use blz_value::Record;
 use inbox::Message;
 use std::alloc::{AllocError, Global};
-use std::collections::{BTreeMap, BTreeSet};
+use std::collections::BTreeSet;
 use std::marker::Model;
 
 /// Emitted lists side by side, at most 262,144 messages together, with one pool of their records.
+///
+/// A list gets a tally of its records by their key values when it is first asked for a count, and
+/// keeps it from then on, so each message is counted once.
 #[derive(Drop)]
 pub(crate) struct Lists {
+    alloc: Global,
     pool: Pool,
     lists: Vec<Emitted>,
+    tallies: Vec<Option<Tally>>,
     count: usize,
 }
 
 impl Model for Lists {
-    ghost use Rattle.std.specs.Prelude.{◌≡◌, ◌≤◌};
+    ghost use Rattle.std.specs.Prelude.{◌≡◌, ◌≤◌, length};
     ghost use Rattle.sched_run.specs.Limits.{message_limit};
-    ghost use Rattle.sched_run.specs.Lists.{Listed, AllAreGiven, total};
+    ghost use Rattle.sched_run.specs.Lists.{Listed, AllAreGiven, read_lists, total};
+    ghost use Rattle.sched_run.specs.Code.Counts.{AreTallied};
 
     ghost Value = { Listed };
 
     ghost view = { λ l. record { records = l.pool; lists = l.lists.items } };
 
-    ghost invariant = { λ l. AllAreGiven (record { records = l.pool; lists = l.lists.items }) × (l.count ≡ total l.lists.items) × (l.count ≤ message_limit) };
+    ghost invariant = { λ l. AllAreGiven (record { records = l.pool; lists = l.lists.items }) × (l.count ≡ total l.lists.items) × (l.count ≤ message_limit) × (length l.tallies.items ≡ length l.lists.items) × AreTallied l.tallies.items (read_lists (record { records = l.pool; lists = l.lists.items })) };
+}
+
+// Takes the tally at a place away, where there is one.
+fn take_tally(tallies: &mut Vec<Option<Tally>>, place: usize) -> Option<Tally>
+    requires { place < length tallies.old.items }
+    ensures taken { result ≡ slice_index_or tallies.old.items place None }
+    ensures left { tallies.new.items ≡ slice_set tallies.old.items place None }
+{
+    tallies[place].take()
 }
 
 impl Lists {
@@ -52,12 +66,16 @@ impl Lists {
         ensures exact { IfOk result IsExact }
     {
         let mut lists = Vec::new(alloc);
+        let mut tallies = Vec::new(alloc);
         for _ in 0..count {
             lists.push(Emitted::new(alloc))?;
+            tallies.push(None)?;
         }
         Ok(Lists {
+            alloc,
             pool: Pool::new(alloc),
             lists,
+            tallies,
             count: 0,
         })
     }
@@ -133,6 +151,8 @@ impl Lists {
         }
         self.lists[place].push_row(id)?;
         self.count += 1;
+        let tally = take_tally(&mut self.tallies, place);
+        self.tallies[place] = with_one(self.alloc, tally, self.pool.get(id))?;
         Ok(())
     }
 
@@ -171,31 +191,70 @@ impl Lists {
         Ok(())
     }
 
-    // Whether a message is a record of a partition.
-    fn counts(&self, message: &Message, columns: &[u32], key: &Record) -> bool
-        requires { IsGiven self.now.records message.now }
-        ensures { result ≡ counts_in self.now.records columns.now key.now message.now }
+    // Counts the record of a message.
+    fn count_message(&self, message: &Message, tally: &mut Tally) -> Result<(), AllocError>
+        requires given { IsGiven self.now.records message.now }
+        requires room { HasRoom tally.old }
+        ensures columns { tally.new.columns ≡ tally.old.columns }
+        ensures counts { OnOk result ((key : Row) → count_of tally.new.counts key ≡ count_of tally.old.counts key + (if counts_in self.now.records tally.old.columns key message.now then 1 else 0)) }
     {
         match message {
-            Message::Row(id) => has_key(self.pool.get(*id), columns, key),
-            Message::Seal { .. } => false,
+            Message::Row(id) => tally.add(self.alloc, self.pool.get(*id)),
+            Message::Seal { .. } => Ok(()),
         }
     }
 
-    // How many records of a partition stand in a list, whose key columns are these. Walks over the
-    // list.
-    fn count_with_key(&self, place: usize, columns: &[u32], key: &Record) -> u32
+    // A tally of a list, whose key columns are these. Walks over the list.
+    fn tally_of(&self, place: usize, columns: &[u32]) -> Result<Tally, AllocError>
         requires { place < length self.now.lists }
-        ensures count { result ≡ count_in columns.now (list_at (read_lists self.now) place) key.now }
+        ensures columns { IfOk result (λ tally. tally.columns ≡ columns.now) }
+        ensures counts { IfOk result (λ tally. IsTallyOf tally (list_at (read_lists self.now) place)) }
     {
         self.known();
-        let mut count = 0;
+        let mut tally = Tally::new(self.alloc, columns)?;
         for message in self.lists[place].messages() {
-            if self.counts(message, columns, key) {
-                count += 1;
+            self.count_message(message, &mut tally)?;
+        }
+        Ok(tally)
+    }
+
+    // The tally that was kept of a list, if its key columns are these, and else one that a walk makes.
+    fn tally_by(
+        &self,
+        kept: Option<Tally>,
+        place: usize,
+        columns: &[u32],
+    ) -> Result<Tally, AllocError>
+        requires place { place < length self.now.lists }
+        requires kept { IsTallied kept (list_at (read_lists self.now) place) }
+        ensures columns { IfOk result (λ tally. tally.columns ≡ columns.now) }
+        ensures counts { IfOk result (λ tally. IsTallyOf tally (list_at (read_lists self.now) place)) }
+    {
+        if let Some(tally) = kept {
+            if tally.is_by(columns) {
+                return Ok(tally);
             }
         }
-        count
+        self.tally_of(place, columns)
+    }
+
+    // How many records of a partition stand in a list, whose key columns are these. Walks over the
+    // list where it has no tally by them yet, and keeps the tally. The error is want of memory.
+    fn count_with_key(
+        &mut self,
+        place: usize,
+        columns: &[u32],
+        key: &Record,
+    ) -> Result<u32, AllocError>
+        requires { place < length self.old.lists }
+        ensures same { self.new ≡ self.old }
+        ensures count { IfOk result (λ count. count ≡ count_in columns.now (list_at (read_lists self.old) place) key.now) }
+    {
+        let kept = take_tally(&mut self.tallies, place);
+        let tally = self.tally_by(kept, place, columns)?;
+        let count = tally.count(key);
+        self.tallies[place] = Some(tally);
+        Ok(count)
     }
 
     // Puts a seal behind a list, where there is room.
@@ -245,7 +304,7 @@ impl Lists {
         if self.lists[place].has_seal(key) {
             return Ok(());
         }
-        let count = self.count_with_key(place, columns, key);
+        let count = self.count_with_key(place, columns, key)?;
         self.put_seal(place, key, count)?;
         self.known();
         Ok(())
@@ -273,48 +332,10 @@ impl Lists {
         Ok(())
     }
 
-    // Counts the record of a message by its key.
-    fn count_message(
-        &self,
-        alloc: Global,
-        message: &Message,
-        columns: &[u32],
-        counts: &mut BTreeMap<Record, u32>,
-    ) -> Result<(), AllocError>
-        requires given { IsGiven self.now.records message.now }
-        requires few { (key : Row) → count_of counts.old key + 1 < 2 ^ 32 }
-        ensures { OnOk result ((key : Row) → count_of counts.new key ≡ count_of counts.old key + (if counts_in self.now.records columns.now key message.now then 1 else 0)) }
-    {
-        if let Message::Row(id) = message {
-            count_key(counts, key_of(alloc, self.pool.get(*id), columns)?)?;
-        }
-        Ok(())
-    }
-
-    // How many records of each partition stand in a list, whose key columns are these. Walks over the
-    // list.
-    fn key_counts(
-        &self,
-        alloc: Global,
-        place: usize,
-        columns: &[u32],
-    ) -> Result<BTreeMap<Record, u32>, AllocError>
-        requires { place < length self.now.lists }
-        ensures { IfOk result (λ counts. (key : Row) → count_of counts key ≡ count_in columns.now (list_at (read_lists self.now) place) key) }
-    {
-        self.known();
-        let mut counts = BTreeMap::new(alloc);
-        for message in self.lists[place].messages() {
-            self.count_message(alloc, message, columns, &mut counts)?;
-        }
-        Ok(counts)
-    }
-
     /// Emits a seal of each of some partitions behind a list, where there is room, with the number of
-    /// its records there. Takes one walk over the list, and a look-up for each record and partition.
+    /// its records there. Takes a look-up for each partition, and the walk that makes the list's tally.
     pub(crate) fn seal_partitions(
         &mut self,
-        alloc: Global,
         place: usize,
         columns: &[u32],
         keys: &BTreeSet<Record>,
@@ -325,9 +346,9 @@ impl Lists {
         ensures ok { OnOk result (OneListBecomes self.old self.new place (list_at (read_lists self.old) place ++ seals_of columns.now (list_at (read_lists self.old) place) keys.now.keys)) }
         ensures exact { OnOk result (IsExact self.new) }
     {
-        let counts = self.key_counts(alloc, place, columns)?;
         for key in keys {
-            self.push_seal(place, key, count_at(&counts, key))?;
+            let count = self.count_with_key(place, columns, key)?;
+            self.push_seal(place, key, count)?;
         }
         Ok(())
     }

@@ -9,7 +9,7 @@ ghost use Rattle.sched_run.specs.Lists.{read_lists, list_at};
 ghost use Rattle.sched_run.specs.Net.{BooksRun};
 ghost use Rattle.sched_run.specs.Places.{list_place};
 ghost use Rattle.sched_run.specs.Code.Ids.{IsLimit};
-ghost use Rattle.sched_run.specs.Code.Parts.{PairAnswers, PairsAnswer, StandsAt, HaveIndexes};
+ghost use Rattle.sched_run.specs.Code.Parts.{FeedsRise, PairAnswers, PairsAnswer, StandsAt, HaveIndexes};
 
 use crate::books::Books;
 use crate::fault::EventFault;
@@ -28,13 +28,16 @@ pub(crate) struct Pairs {
     pub(crate) indexes: Vec<(u32, u32)>,
 }
 
-// The number of the feed on which a part comes, None where there is none. Walks over the feeds.
+// The number of the feed on which a part comes, None where there is none. Feeds go by port, stream
+// and sender, so it is a binary search.
 fn feed_of(feeds: &[Feed], part: PartNumbers) -> Option<usize>
+    requires { FeedsRise feeds.now }
     ensures { result ≡ position (λ feed. feed.port == part.port && (feed.stream == part.sent.stream && feed.sender == part.sent.replica)) feeds.now }
 {
-    feeds.iter().position(|feed| {
-        feed.port == part.port && (feed.stream == part.stream && feed.sender == part.replica)
-    })
+    let wanted = (part.port, part.stream, part.replica);
+    feeds
+        .binary_search_by_key(&wanted, |feed| (feed.port, feed.stream, feed.sender))
+        .ok()
 }
 
 // The number of a feed as an inbox has it; an instance never has so many that there is none.

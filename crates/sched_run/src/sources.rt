@@ -101,7 +101,7 @@ fn emit_partitions(
 {
     let columns = key_columns(alloc, valid, source, key)?;
     let keys = partitions_of(alloc, &columns, given.rows(source), given.parts(source))?;
-    lists.seal_partitions(alloc, place, &columns, &keys)?;
+    lists.seal_partitions(place, &columns, &keys)?;
     Ok(())
 }
 

@@ -17,6 +17,15 @@ id_in (Seal key count) = None
 abbrev pub ids_in : List IdMessage → List ℕ
 ids_in list = filter_map id_in list
 
+-- the partition of a message, where it is a seal
+abbrev pub sealed_by : IdMessage → Option Record
+sealed_by (Row id) = None
+sealed_by (Seal key count) = Some key
+
+-- the partitions of the seals of a list
+abbrev pub all_sealed : List IdMessage → List Record
+all_sealed list = filter_map sealed_by list
+
 -- the message is the record with this id
 abbrev pub is_row_with : (id : ℕ) → IdMessage → Bool
 is_row_with id (Row other) = id == other

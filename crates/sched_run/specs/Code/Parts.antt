@@ -1,7 +1,12 @@
 -- What is read of the parts of an event: pairs by the ids of their records, or the first refusal.
 use Rattle.std.specs.Prelude.{◌≡◌, ◌<◌, ◌&&◌, ℕ, not, nat_lt, Bool, Some, Result, Ok, Err, List, length, slice_get}
+use Rattle.std.specs.List.{AllPairs}
+use Rattle.std.specs.Ordering.{ordering_then, nat_cmp}
+use Rattle.std.specs.declared.cmp.Ordering.{Ordering}
+use Rattle.std.specs.declared.cmp.Ordering.TheVariants.{Less}
 use Rattle.blz_value.specs.Members.{Has}
 use Rattle.topo_types.specs.Data.{Data}
+use Rattle.topo_types.specs.Feeds.{Feed}
 use Rattle.topo_types.specs.Messages.{Message}
 use Rattle.topo_types.specs.View.{View, replicas_of, is_order}
 use Rattle.inbox.specs.Messages.{Pair}
@@ -16,6 +21,14 @@ use Rattle.sched_run.specs.Net.{BooksStand, execution_in, list_on}
 use Rattle.sched_run.specs.declared.books.Books.{Books}
 use Rattle.sched_run.specs.declared.fault.EventFault.{EventFault}
 use Rattle.sched_run.specs.declared.fault.EventFault.TheVariants.{NoInstance, NoMessage, NothingToTake, TooManyRows, TooManyMessages, NoMemory}
+
+-- feeds go by port, then by stream, then by sender
+abbrev pub feed_cmp : Feed → Feed → Ordering
+feed_cmp f g = ordering_then (ordering_then (nat_cmp f.port g.port) (nat_cmp f.stream g.stream)) (nat_cmp f.sender g.sender)
+
+-- each feed is before those behind it
+abbrev pub FeedsRise : List Feed → Type 0
+FeedsRise feeds = AllPairs (λ f g. feed_cmp f g ≡ Less) feeds
 
 -- what is asked for is this as it is read, or it is refused so; want of memory says nothing
 abbrev pub IsReadAs : {X Y : Type 0} → (read : X → Y) → (asked : Result Y Refusal) → Result X EventFault → Type 0

@@ -4,7 +4,10 @@ use Rattle.blz_value.specs.Record.{Row}
 use Rattle.inbox.specs.Emission.{count_in}
 use Rattle.sched_run.specs.Lists.{read_list, list_at}
 use Rattle.sched_run.specs.Code.Counts.{count_of}
-use Rattle.sched_run.proofs.lists.Lists.key_counts.Given as goal
+use Rattle.sched_run.proofs.lists.Lists.tally_of.Given as goal
 
 abbrev pub invariant-loop-message : goal.invariant-loop-message
-invariant-loop-message l = (key : Row) → count_of l.counts key ≡ count_in l.columns (read_list l.self.records (take l.message-index (list_at l.self.lists l.place))) key
+invariant-loop-message l = record {
+  columns : l.tally.columns ≡ l.columns;
+  counts : (key : Row) → count_of l.tally.counts key ≡ count_in l.columns (read_list l.self.records (take l.message-index (list_at l.self.lists l.place))) key;
+}

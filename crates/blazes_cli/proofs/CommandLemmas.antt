@@ -2,6 +2,7 @@
 use Rattle.std.proofs.Common.{◌≡◌, Ok, Err, IfOk, Result, List, sym, subst}
 use Rattle.std.specs.declared.alloc.AllocError.{AllocError}
 use Rattle.std.specs.Result.{IsErrAnd}
+use Rattle.blazes_cli.specs.Bench.{BenchStates, HasSameKinds}
 use Rattle.blazes_cli.specs.Script.{Script, ◌>>=◌}
 use Rattle.blazes_cli.specs.Script.Script.{gives}
 use Rattle.blazes_cli.specs.Script.Ending.{gave, refused, failed}
@@ -15,39 +16,82 @@ use Rattle.bloom_ast.specs.Form.{Accepted}
 use Rattle.blazes_cli.specs.Checks.{checked, each, module_file, module_names, topology_file, valid_topology, valid_with}
 use Rattle.blazes_cli.specs.Script.{Bytes}
 use Rattle.blazes_cli.specs.Code.Ran.{Gives, Ran, Replies, Stopped, Concludes, answer_of}
+use Rattle.blazes_cli.specs.Code.Runs.{KeepsKinds}
 use Rattle.blazes_cli.specs.declared.reply.Reply.{Reply}
 use Rattle.blazes_cli.specs.declared.stop.Stop.{Stop}
 use Rattle.blazes_cli.specs.declared.stop.Stop.TheVariants.{Refused, Failed, NoMemory}
 use Rattle.blazes_cli.proofs.ScriptLemmas.{came_then, came_at_once, gives_ran, stop_then, then_ran, then_stop}
 
 -- the reply at the end of a command is the answer of its script
-pub concluded : (files : FilesStates) (outcome : Result Reply Stop) (checks : Script Work) (answer : Answer)
-    → Replies files outcome checks → Concludes outcome answer → IsAnswered checks files answer
-concluded files (Ok reply) checks answer replies is = subst (IsAnswered checks files) (sym is) replies
-concluded files (Err (Refused line)) checks answer stopped is = record { ending = refused line.items; came = stopped; answers = is }
-concluded files (Err (Failed name)) checks answer stopped is = record { ending = failed name; came = stopped; answers = is }
-concluded files (Err NoMemory) checks answer stopped is = absurd is
+pub concluded : (files : FilesStates) (bench : BenchStates) (outcome : Result Reply Stop) (checks : Script Work) (answer : Answer)
+    → Replies files bench outcome checks → Concludes outcome answer → IsAnswered checks files bench answer
+concluded files bench (Ok reply) checks answer replies is = subst (IsAnswered checks files bench) (sym is) replies
+concluded files bench (Err (Refused line)) checks answer stopped is = record { ending = refused line.items; came = stopped; answers = is }
+concluded files bench (Err (Failed name)) checks answer stopped is = record { ending = failed name; came = stopped; answers = is }
+concluded files bench (Err NoMemory) checks answer stopped is = absurd is
 
 -- what a command says of what its checks gave is the answer of its script
-pub followed : {X : Type 0} (a b : Source) (s : Script X) (work : X → Work) (x : X) (answer : Answer) → Came (files_states a b) s (gave x)
-    → Says (work x) answer → IsAnswered (s >>= λ x. gives (work x)) (files_states a b) answer
-followed a b s work x answer came says = record {
+pub followed : {X : Type 0} (a b : Source) (bench : BenchStates) (s : Script X) (work : X → Work) (x : X) (answer : Answer) → Came (files_states a b) s (gave x)
+    → Says (work x) bench answer → IsAnswered (s >>= λ x. gives (work x)) (files_states a b) bench answer
+followed a b bench s work x answer came says = record {
   ending = gave (work x);
   came = came_then a b b s (λ x. gives (work x)) x (gave (work x)) came (came_at_once b (work x));
   answers = says;
 }
 
 -- a command whose checks stop
-pub stop_replies : {X : Type 0} (files : FilesStates) (s : Script X) (work : X → Work) (result : Result Reply Stop) (stop : Stop)
-    → IsErrAnd result (λ given. given ≡ stop) → Stopped files stop s → Replies files result (s >>= λ x. gives (work x))
-stop_replies files s work (Ok reply) stop is stopped = absurd is
-stop_replies files s work (Err given) stop is stopped = stop_then files given s (λ x. gives (work x)) (subst (λ given. Stopped files given s) (sym is) stopped)
+pub stop_replies : {X : Type 0} (files : FilesStates) (bench : BenchStates) (s : Script X) (next : X → Script Work) (result : Result Reply Stop) (stop : Stop)
+    → IsErrAnd result (λ given. given ≡ stop) → Stopped files stop s → Replies files bench result (s >>= next)
+stop_replies files bench s next (Ok reply) stop is stopped = absurd is
+stop_replies files bench s next (Err given) stop is stopped = stop_then files given s next (subst (λ given. Stopped files given s) (sym is) stopped)
+
+-- a command that is lost to want of memory
+pub lost_replies : (files : FilesStates) (bench : BenchStates) (checks : Script Work) (result : Result Reply Stop) → IsErrAnd result (λ stop. stop ≡ NoMemory) → Replies files bench result checks
+lost_replies files bench checks (Ok reply) is = absurd is
+lost_replies files bench checks (Err stop) is = subst (λ given. Stopped files given checks) (sym is) tt
+
+pub lost_kinds : (bench : BenchStates) (result : Result Reply Stop) → IsErrAnd result (λ stop. stop ≡ NoMemory) → KeepsKinds bench result
+lost_kinds bench (Ok reply) is = absurd is
+lost_kinds bench (Err stop) is = subst (λ given. KeepsKinds bench (Err given)) (sym is) tt
+
+-- a command whose checks go on with what the first of them gave
+pub then_replies : {X : Type 0} (a b c : Source) (bench : BenchStates) (s : Script X) (next : X → Script Work) (x : X) (result : Result Reply Stop)
+    → Came (files_states a b) s (gave x) → Replies (files_states b c) bench result (next x) → Replies (files_states a c) bench result (s >>= next)
+then_replies a b c bench s next x (Ok reply) first rest = record {
+  ending = rest.ending;
+  came = came_then a b c s next x rest.ending first rest.came;
+  answers = rest.answers;
+}
+then_replies a b c bench s next x (Err stop) first rest = then_stop a b c s next x stop first rest
 
 -- the reply of a command, where it could be made, is the answer of its script
-pub outcome_concluded : (files : FilesStates) (outcome : Result Reply Stop) (checks : Script Work) (result : Result Reply AllocError)
-    → Replies files outcome checks → IfOk result (λ reply. Concludes outcome (answer_of reply)) → IfOk result (λ reply. IsAnswered checks files (answer_of reply))
-outcome_concluded files outcome checks (Ok reply) replies concludes = concluded files outcome checks (answer_of reply) replies concludes
-outcome_concluded files outcome checks (Err want) replies concludes = tt
+pub outcome_concluded : (files : FilesStates) (bench : BenchStates) (outcome : Result Reply Stop) (checks : Script Work) (result : Result Reply AllocError)
+    → Replies files bench outcome checks → IfOk result (λ reply. Concludes outcome (answer_of reply)) → IfOk result (λ reply. IsAnswered checks files bench (answer_of reply))
+outcome_concluded files bench outcome checks (Ok reply) replies concludes = concluded files bench outcome checks (answer_of reply) replies concludes
+outcome_concluded files bench outcome checks (Err want) replies concludes = tt
+
+-- and no shell is lost
+kept_concluded : (bench : BenchStates) (outcome : Result Reply Stop) (answer : Answer) → KeepsKinds bench outcome → Concludes outcome answer → HasSameKinds bench
+kept_concluded bench (Ok reply) answer keeps is = keeps
+kept_concluded bench (Err (Refused line)) answer keeps is = keeps
+kept_concluded bench (Err (Failed name)) answer keeps is = keeps
+kept_concluded bench (Err NoMemory) answer keeps is = absurd is
+
+pub kinds_concluded : (bench : BenchStates) (outcome : Result Reply Stop) (result : Result Reply AllocError)
+    → KeepsKinds bench outcome → IfOk result (λ reply. Concludes outcome (answer_of reply)) → IfOk result (λ reply. HasSameKinds bench)
+kinds_concluded bench outcome (Ok reply) keeps concludes = kept_concluded bench outcome (answer_of reply) keeps concludes
+kinds_concluded bench outcome (Err want) keeps concludes = tt
+
+-- where no shell is lost whatever is returned
+pub kept_anyway : (bench : BenchStates) (result : Result Reply Stop) → HasSameKinds bench → KeepsKinds bench result
+kept_anyway bench (Ok reply) same = same
+kept_anyway bench (Err (Refused line)) same = same
+kept_anyway bench (Err (Failed name)) same = same
+kept_anyway bench (Err NoMemory) same = tt
+
+pub same_anyway : (bench : BenchStates) (result : Result Reply AllocError) → HasSameKinds bench → IfOk result (λ reply. HasSameKinds bench)
+same_anyway bench (Ok reply) same = same
+same_anyway bench (Err want) same = tt
 
 -- what follows on a topology with its modules, and on a topology alone
 abbrev from_modules : Topology → List Accepted → Script Validated

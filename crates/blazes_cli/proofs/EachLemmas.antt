@@ -3,7 +3,7 @@ use Rattle.std.proofs.Common.{◌≡◌, ◌∙◌, ◌<◌, ◌+◌, ◌++◌, 
 use Rattle.std.specs.List.{filter_map}
 use Rattle.std.proofs.lemmas.List.{append_assoc, take-append-drop, take_more}
 use Rattle.std.proofs.lemmas.List.Elements.{filter_map-append}
-use Rattle.blazes_cli.specs.Script.{Bytes, Script, Ending, ◌>>=◌}
+use Rattle.blazes_cli.specs.Script.{Bytes, Script, ◌>>=◌}
 use Rattle.blazes_cli.specs.Script.Script.{gives, refuses, reads}
 use Rattle.blazes_cli.specs.Script.Ending.{gave, refused, failed}
 use Rattle.blazes_cli.specs.Checks.{each}

@@ -4,3 +4,5 @@ pub mod FileLemmas
 pub mod ReplyLemmas
 pub mod ScriptLemmas
 pub mod SteadyLemmas
+pub mod RunLemmas
+pub mod GivenLemmas

@@ -92,7 +92,7 @@ pub came_checked : {A : Type 0} (files : Source) (given : Result A Bytes) (x : A
 came_checked files given x is = subst (λ r. Came (files_states files files) (checked r) (gave x)) (sym is) (record { kept = refl; ends = refl; counts = refl })
 
 -- a check of what was read refuses it with the line that it says
-came_refused : {A : Type 0} (files : Source) (given : Result A Bytes) (line : Bytes) → given ≡ Err line → Came (files_states files files) (checked given) (refused line)
+pub came_refused : {A : Type 0} (files : Source) (given : Result A Bytes) (line : Bytes) → given ≡ Err line → Came (files_states files files) (checked given) (refused line)
 came_refused files given line is = subst (λ r. Came (files_states files files) (checked r) (refused line)) (sym is) (record { kept = refl; ends = refl; counts = refl })
 
 -- a check of what was read ends as its script

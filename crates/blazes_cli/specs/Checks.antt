@@ -2,12 +2,28 @@
 use Rattle.std.specs.Prelude.{ℕ, nat_lt, List, [], ◌∷◌, length, Option, Some, None, Result, Ok, Err, if◌then◌else◌}
 use Rattle.std.specs.List.{filter_map}
 use Rattle.toml.specs.Data.{Members}
+use Rattle.blz_boxes.specs.declared.kind.ProgramKind.{ProgramKind}
 use Rattle.bloom_ast.specs.declared.fault.ModuleFault.{ModuleFault}
 use Rattle.bloom_ast.specs.FirstFault.{first_fault}
 use Rattle.bloom_ast.specs.Form.{Accepted, Form}
 use Rattle.bloom_ast.specs.HeadOrder.{heads_of}
 use Rattle.bloom_parse.specs.declared.refusal.TextFault.{TextFault}
 use Rattle.bloom_parse.specs.Reading.{reading_of}
+use Rattle.data_read.specs.declared.fault.DataFault.{DataFault}
+use Rattle.data_read.specs.declared.fault.DataFault.TheVariants as data_faults
+use Rattle.data_read.specs.Reading.{data_of}
+use Rattle.inbox.specs.Executions.{Execution, first_execution}
+use Rattle.sched_run.specs.Applying.{Line, after_lines}
+use Rattle.sched_run.specs.Bench.{fault_of_opening}
+use Rattle.sched_run.specs.declared.applying.EventRefusal.{EventRefusal}
+use Rattle.sched_run.specs.declared.fault.EventFault.{EventFault}
+use Rattle.sched_run.specs.declared.fault.EventFault.TheVariants as event_faults
+use Rattle.sched_run.specs.declared.fault.OpenFault.{OpenFault}
+use Rattle.sched_run.specs.declared.fault.OpenFault.TheVariants as open_faults
+use Rattle.sched_text.specs.Reading.{bad_line, entries_of, event_reading}
+use Rattle.topo_types.specs.Data.{Data}
+use Rattle.topo_types.specs.Modes.{names_in}
+use Rattle.topo_types.specs.View.{View, component_at, fd_at}
 use Rattle.topo_types.specs.declared.fault.TopoFault.{TopoFault}
 use Rattle.topo_types.specs.declared.topology.Topology.{Topology}
 use Rattle.topo_types.specs.Valid.{Validated, needs_module}
@@ -15,10 +31,14 @@ use Rattle.topo_types.specs.Validity.{fault_of}
 use Rattle.topo_types.specs.ViewOf.{view_of}
 use Rattle.topo_read.specs.Document.{document_of}
 use Rattle.topo_read.specs.Topology.{topology_of}
+use Rattle.report_print.specs.declared.refusal.Refusal.{Refusal}
 use Rattle.report_print.specs.declared.refusal.Refusal.TheVariants as refusal
+use Rattle.report_print.specs.declared.refusal.EventKind.TheVariants as event_kinds
 use Rattle.report_print.specs.Refusals.{refusal_line}
 use Rattle.blazes_cli.specs.Script.{Bytes, Script, ◌>>=◌}
+use Rattle.blazes_cli.specs.declared.data_file.TheConstants.{DATA_LIMIT}
 use Rattle.blazes_cli.specs.declared.module_file.TheConstants.{MODULE_LIMIT}
+use Rattle.blazes_cli.specs.declared.schedule_file.TheConstants.{SCHEDULE_LIMIT}
 use Rattle.blazes_cli.specs.declared.topology_file.TheConstants.{TOPOLOGY_LIMIT}
 
 -- what a check gives, or its line
@@ -91,3 +111,78 @@ valid_topology name = do
   t ← topology_file name
   modules ← each module_file (module_names t)
   checked (valid_with t modules (fault_of t modules))
+
+-- ---- data
+
+-- the line of a refusal; want of memory is none, and no check gives it
+abbrev pub line_of : Option Refusal → Bytes
+line_of None = []
+line_of (Some refused) = refusal_line refused
+
+-- the refusal of data
+abbrev pub data_refusal : View → DataFault → Option Refusal
+data_refusal v data_faults.NotJson = Some refusal.NotJson
+data_refusal v (data_faults.DataForm name row) = Some (refusal.DataForm name row)
+data_refusal v (data_faults.TooMany name) = Some (refusal.DataTooMany name)
+data_refusal v (data_faults.FdBroken fd first second) =
+    Some (refusal.FdBroken (names_in v.attributes (fd_at v fd).from.bits) (names_in v.attributes (fd_at v fd).to.bits) first second)
+data_refusal v data_faults.NoMemory = None
+
+-- data as they were read
+abbrev pub data_in : View → Result Data DataFault → Result Data Bytes
+data_in v (Ok given) = Ok given
+data_in v (Err fault) = Err (line_of (data_refusal v fault))
+
+-- a data file: read, length, JSON, rows, dependencies
+abbrev pub data_file : Validated → Bytes → Script Data
+data_file seen name = do
+  bytes ← file DATA_LIMIT name
+  checked (data_in seen.view (data_of seen bytes))
+
+-- ---- a schedule
+
+-- the events of a text, each with its line, unless a line is none that a schedule may have
+abbrev pub schedule_in : (bad : Option ℕ) → List Line → Result (List Line) Bytes
+schedule_in None lines = Ok lines
+schedule_in (Some line) lines = Err (refusal_line (refusal.ScheduleText line))
+
+-- a schedule file: read, length, text
+abbrev pub schedule_file : Bytes → Script (List Line)
+schedule_file name = do
+  bytes ← file SCHEDULE_LIMIT name
+  checked (schedule_in (bad_line event_reading bytes) (entries_of event_reading bytes))
+
+-- ---- the opening of a net
+
+-- the refusal of an opening
+abbrev pub opening_refusal : View → OpenFault → Option Refusal
+opening_refusal v (open_faults.NoBody c) = Some (refusal.NoBody (component_at v c).name)
+opening_refusal v (open_faults.NoShell c) = Some (refusal.NoShell (component_at v c).name)
+opening_refusal v open_faults.NoMemory = None
+
+abbrev pub opened : View → Option OpenFault → Result (Unit {0}) Bytes
+opened v None = Ok tt
+opened v (Some fault) = Err (line_of (opening_refusal v fault))
+
+-- there is a body for each component, and on a bench with shells of these kinds a shell for each instance
+abbrev pub opening : View → List ProgramKind → Script (Unit {0})
+opening v kinds = checked (opened v (fault_of_opening v (λ kind. kind) kinds))
+
+-- ---- events
+
+-- the refusal of the event in a line
+abbrev pub event_refusal : (line : ℕ) → EventFault → Option Refusal
+event_refusal line event_faults.NoInstance = Some (refusal.Event line event_kinds.NoInstance)
+event_refusal line event_faults.NoMessage = Some (refusal.Event line event_kinds.NoMessage)
+event_refusal line event_faults.NothingToTake = Some (refusal.Event line event_kinds.NothingToTake)
+event_refusal line event_faults.TooManyRows = Some (refusal.Event line event_kinds.TooManyRows)
+event_refusal line event_faults.TooManyMessages = Some (refusal.Event line event_kinds.TooManyMessages)
+event_refusal line event_faults.NoMemory = None
+
+abbrev pub executed : Result Execution EventRefusal → Result Execution Bytes
+executed (Ok x) = Ok x
+executed (Err refused) = Err (line_of (event_refusal refused.line refused.fault))
+
+-- the events in order, up to the first that is refused
+abbrev pub execution : View → Data → List Line → Script Execution
+execution v given lines = checked (executed (after_lines v given lines first_execution))

@@ -1,3 +1,4 @@
 -- What private functions give.
 pub mod Ran
 pub mod Requests
+pub mod Runs

@@ -3,6 +3,7 @@ pub mod Ends
 pub mod Words
 pub mod Lines
 pub mod Checks
+pub mod Bench
 pub mod Commands
 pub mod Answer
 pub mod Outcome

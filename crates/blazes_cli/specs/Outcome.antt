@@ -3,6 +3,8 @@ use Rattle.std.specs.Prelude.{◌≡◌, ◌⊎◌, ℕ, ◌<◌, ◌≤◌, Lis
 use Rattle.blz_outside.specs.Counts.{Rose}
 use Rattle.blz_outside.specs.Files.{FileMap}
 use Rattle.blz_outside.specs.Sink.{Grows, Falls}
+use Rattle.blz_boxes.specs.declared.kind.ProgramKind.{ProgramKind}
+use Rattle.blazes_cli.specs.Bench.{BenchStates}
 use Rattle.blazes_cli.specs.Script.{Bytes, IsFailed}
 use Rattle.blazes_cli.specs.Ends.{FilesStates, ended}
 use Rattle.blazes_cli.specs.Words.{request_of}
@@ -50,14 +52,14 @@ abbrev pub IsSaid : SinkStates → Status → List ℕ → Status → Type 0
 IsSaid sink status text result = ((result ≡ status) × WroteAll sink text) ⊎ ((result ≡ WriteFault) × WroteFront sink text)
 
 -- how the call ends, by its status
-abbrev pub IsOutcome : List Bytes → FilesStates → SinkStates → Status → Type 0
-IsOutcome words files sink NoMemory = WroteNothing sink
-IsOutcome words files sink WriteFault = (answer : Answer) × IsReply (request_of words) files answer × WroteFront sink answer.text
-IsOutcome words files sink status = (text : Bytes) × IsReply (request_of words) files (record { status = status; text = text }) × WroteAll sink text
+abbrev pub IsOutcome : List Bytes → FilesStates → BenchStates → SinkStates → Status → Type 0
+IsOutcome words files bench sink NoMemory = WroteNothing sink
+IsOutcome words files bench sink WriteFault = (answer : Answer) × IsReply (request_of words) files bench answer × WroteFront sink answer.text
+IsOutcome words files bench sink status = (text : Bytes) × IsReply (request_of words) files bench (record { status = status; text = text }) × WroteAll sink text
 
 -- over these files, the checks of what the words ask for reach the name of a file that isn't held
-abbrev pub Misses : FileMap → List Bytes → Type 0
-Misses held words = IsSomeAnd (request_of words) (λ asked. IsFailed (ended held (script asked)))
+abbrev pub Misses : List ProgramKind → FileMap → List Bytes → Type 0
+Misses kinds held words = IsSomeAnd (request_of words) (λ asked. IsFailed (ended held (script kinds asked)))
 
 -- the answer to words that ask for nothing
 abbrev pub IsUsageOrLost : Status → Type 0

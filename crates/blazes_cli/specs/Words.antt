@@ -27,6 +27,13 @@ abbrev pub simple_command : App
 simple_command =
     with_rule (with_rule (with_rule (with_rule bare_command command_rule) file_rule) (option_rule (codes "seed"))) (option_rule (codes "count"))
 
+-- the names of the files of a run
+pub record RunFiles : Type 0 where
+  pub topology : Text
+  -- the data
+  pub given : Text
+  pub schedule : Text
+
 -- what a command line asks for, with the names of its files
 pub data Asked : Type 0 where
   -- the labels of the topology in this file
@@ -35,6 +42,8 @@ pub data Asked : Type 0 where
   derive : Text → Asked
   -- its plan
   plan : Text → Asked
+  -- what its instances emit under a schedule over data
+  run : RunFiles → Asked
 
 -- the words of a command line, taken apart: COMMAND, the words after it, and the values of the options
 pub record Line : Type 0 where
@@ -59,9 +68,22 @@ only [] = None
 only (text ∷ []) = Some text
 only (text ∷ next ∷ more) = None
 
+-- the three texts of a list of three: TOPOLOGY DATA SCHEDULE
+abbrev pub three : List Text → Option RunFiles
+three (topology ∷ given ∷ schedule ∷ []) = Some (record { topology = topology; given = given; schedule = schedule })
+three texts = None
+
+-- what the words after a command without options stand for
+abbrev pub without_options : {A : Type 0} → (List Text → Option A) → Line → Option A
+without_options meaning line = if is_some line.seed || is_some line.count then None else meaning line.words
+
 -- the one word after a command without options
 abbrev pub only_word : Line → Option Text
-only_word line = if is_some line.seed || is_some line.count then None else only line.words
+only_word line = without_options only line
+
+-- the three words after a command without options
+abbrev pub run_files : Line → Option RunFiles
+run_files line = without_options three line
 
 -- a command: its name, and what a line with it asks for
 pub record Command : Type 0 where
@@ -74,6 +96,7 @@ commands =
     record { name = codes "label"; asks = λ line. option_map Asked.label (only_word line) }
     ∷ record { name = codes "derive"; asks = λ line. option_map Asked.derive (only_word line) }
     ∷ record { name = codes "plan"; asks = λ line. option_map Asked.plan (only_word line) }
+    ∷ record { name = codes "run"; asks = λ line. option_map Asked.run (run_files line) }
     ∷ []
 
 -- what a line asks for

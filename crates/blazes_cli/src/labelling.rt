@@ -4,8 +4,9 @@ ghost use Rattle.confluence.specs.Sound.{Sound, RestartSound};
 ghost use Rattle.label_walk.specs.Labels.{AreLabels};
 ghost use Rattle.report_print.specs.DeriveText.{derive_text as derivation};
 ghost use Rattle.report_print.specs.LabelText.{label_text as listing};
-ghost use Rattle.blazes_cli.specs.Code.Ran.{Replies, answer_of};
-ghost use Rattle.blazes_cli.specs.Commands.{HasLabels, script};
+ghost use Rattle.blazes_cli.specs.Bench.{BenchStates};
+ghost use Rattle.blazes_cli.specs.Code.Ran.{RepliesTo, answer_of};
+ghost use Rattle.blazes_cli.specs.Commands.{HasLabels};
 ghost use Rattle.blazes_cli.specs.Ends.{files_states, source};
 ghost use Rattle.blazes_cli.specs.Words.{Asked};
 
@@ -48,10 +49,10 @@ fn derived(alloc: Global, valid: &Valid) -> Result<Reply, AllocError>
 
 /// The labels of the topology in the file of this name.
 pub fn label<F: Files>(alloc: Global, name: &str, files: &mut F) -> Result<Reply, Stop>
-    ensures { Replies
+    ensures { (bench : BenchStates) → RepliesTo (Asked.label name.now)
         (files_states (source (F.held files.old) (F.steady files.old) (F.faults files.old))
         (source (F.held files.new) (F.steady files.new) (F.faults files.new)))
-        result (script (Asked.label name.now)) }
+        bench result }
 {
     let valid = valid_topology(alloc, name, files)?;
     Ok(listed(alloc, &valid)?)
@@ -59,10 +60,10 @@ pub fn label<F: Files>(alloc: Global, name: &str, files: &mut F) -> Result<Reply
 
 /// How the labels of the topology in the file of this name come about.
 pub fn derive<F: Files>(alloc: Global, name: &str, files: &mut F) -> Result<Reply, Stop>
-    ensures { Replies
+    ensures { (bench : BenchStates) → RepliesTo (Asked.derive name.now)
         (files_states (source (F.held files.old) (F.steady files.old) (F.faults files.old))
         (source (F.held files.new) (F.steady files.new) (F.faults files.new)))
-        result (script (Asked.derive name.now)) }
+        bench result }
 {
     let valid = valid_topology(alloc, name, files)?;
     Ok(derived(alloc, &valid)?)

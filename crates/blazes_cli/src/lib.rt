@@ -2,12 +2,15 @@
 //! and the bytes that are written.
 #![tactic(auto)]
 
+mod data_file;
 mod file;
 mod labelling;
 mod module_file;
 mod planning;
 mod program;
 mod reply;
+mod running;
+mod schedule_file;
 mod status;
 mod stop;
 mod topology_file;

@@ -1,7 +1,8 @@
 //! The command that plans a topology.
 ghost use Rattle.std.specs.Prelude.{◌≡◌, IfOk};
-ghost use Rattle.blazes_cli.specs.Code.Ran.{Replies, answer_of};
-ghost use Rattle.blazes_cli.specs.Commands.{HasPlan, script};
+ghost use Rattle.blazes_cli.specs.Bench.{BenchStates};
+ghost use Rattle.blazes_cli.specs.Code.Ran.{RepliesTo, answer_of};
+ghost use Rattle.blazes_cli.specs.Commands.{HasPlan};
 ghost use Rattle.blazes_cli.specs.Ends.{files_states, source};
 ghost use Rattle.blazes_cli.specs.Words.{Asked};
 
@@ -23,10 +24,10 @@ fn planned(alloc: Global, valid: &Valid) -> Result<Reply, AllocError>
 
 /// The plan of the topology in the file of this name, as a file of a topology.
 pub fn plan<F: Files>(alloc: Global, name: &str, files: &mut F) -> Result<Reply, Stop>
-    ensures { Replies
+    ensures { (bench : BenchStates) → RepliesTo (Asked.plan name.now)
         (files_states (source (F.held files.old) (F.steady files.old) (F.faults files.old))
         (source (F.held files.new) (F.steady files.new) (F.faults files.new)))
-        result (script (Asked.plan name.now)) }
+        bench result }
 {
     let valid = valid_topology(alloc, name, files)?;
     Ok(planned(alloc, &valid)?)

@@ -1,10 +1,11 @@
 //! The call that the program makes.
-ghost use Rattle.std.specs.Prelude.{◌≡◌, ◌≢◌, ◌<◌, None, IfOk, IfSome, IsTrue, map, string_bytes};
+ghost use Rattle.std.specs.Prelude.{◌≡◌, ◌≢◌, ◌<◌, None, Some, IfOk, IfSome, IsTrue, map, string_bytes};
 ghost use Rattle.blz_outside.specs.Counts.{Rose};
-ghost use Rattle.blazes_cli.specs.Answer.{IsAnswered, IsReply};
-ghost use Rattle.blazes_cli.specs.Code.Ran.{Replies, answer_of};
+ghost use Rattle.blazes_cli.specs.Answer.{IsReply};
+ghost use Rattle.blazes_cli.specs.Bench.{bench_states, HasSameKinds};
+ghost use Rattle.blazes_cli.specs.Code.Ran.{RepliesTo, answer_of};
 ghost use Rattle.blazes_cli.specs.Code.Requests.{asked_by};
-ghost use Rattle.blazes_cli.specs.Commands.{script};
+ghost use Rattle.blazes_cli.specs.Code.Runs.{KeepsKinds};
 ghost use Rattle.blazes_cli.specs.Ends.{files_states, source};
 ghost use Rattle.blazes_cli.specs.Lines.{usage_line};
 ghost use Rattle.blazes_cli.specs.Outcome.{sink_states, IsSaid, IsOutcome, IsUsageOrLost, IsReadFaultOrLost, Misses};
@@ -13,35 +14,59 @@ ghost use Rattle.blazes_cli.specs.Words.{request_of};
 use crate::labelling::{derive, label};
 use crate::planning::plan;
 use crate::reply::{Reply, conclusion, line};
+use crate::running::run;
 use crate::status::Status;
 use crate::stop::Stop;
 use crate::words::{Request, request_of};
+use blz_boxes::Component;
 use blz_outside::{Files, Sink};
 use std::alloc::{AllocError, Global};
 
 const USAGE: &str =
     "usage: blazes label|derive|plan TOPOLOGY | run TOPOLOGY DATA SCHEDULE | make TOPOLOGY DATA [--seed N] | soak [--seed N] [--count N] | shard TOPOLOGY COMPONENT COLUMN BOUND.. | restart TOPOLOGY DATA SCHEDULE | witness TOPOLOGY DATA SCHEDULE SCHEDULE | why TOPOLOGY DATA SCHEDULE STREAM REPLICA INDEX\n";
 
-fn outcome_of<F: Files>(alloc: Global, request: Request<'_>, files: &mut F) -> Result<Reply, Stop>
-    ensures { Replies
+fn outcome_of<F: Files>(
+    alloc: Global,
+    request: Request<'_>,
+    files: &mut F,
+    bench: &mut Vec<Box<dyn Component>>,
+) -> Result<Reply, Stop>
+    ensures replies { RepliesTo (asked_by request.entry)
         (files_states (source (F.held files.old) (F.steady files.old) (F.faults files.old))
         (source (F.held files.new) (F.steady files.new) (F.faults files.new)))
-        result (script (asked_by request.entry)) }
+        (bench_states (map (λ b. kind b) bench.old.items) (map (λ b. kind b) bench.new.items)
+        (map (λ b. loaded b) bench.new.items) (map (λ b. kept b) bench.new.items))
+        result }
+    ensures kinds { KeepsKinds
+        (bench_states (map (λ b. kind b) bench.old.items) (map (λ b. kind b) bench.new.items)
+        (map (λ b. loaded b) bench.new.items) (map (λ b. kept b) bench.new.items))
+        result }
 {
     match request {
         Request::Label { topology } => label(alloc, topology, files),
         Request::Derive { topology } => derive(alloc, topology, files),
         Request::Plan { topology } => plan(alloc, topology, files),
+        Request::Run(names) => run(alloc, names, files, bench),
     }
 }
 
-fn answer<F: Files>(alloc: Global, request: Request<'_>, files: &mut F) -> Result<Reply, AllocError>
-    ensures { IfOk result (λ reply. IsAnswered (script (asked_by request.entry))
+fn answer<F: Files>(
+    alloc: Global,
+    request: Request<'_>,
+    files: &mut F,
+    bench: &mut Vec<Box<dyn Component>>,
+) -> Result<Reply, AllocError>
+    ensures answered { IfOk result (λ reply. IsReply (Some (asked_by request.entry))
         (files_states (source (F.held files.old) (F.steady files.old) (F.faults files.old))
         (source (F.held files.new) (F.steady files.new) (F.faults files.new)))
+        (bench_states (map (λ b. kind b) bench.old.items) (map (λ b. kind b) bench.new.items)
+        (map (λ b. loaded b) bench.new.items) (map (λ b. kept b) bench.new.items))
         (answer_of reply)) }
+    ensures kinds { IfOk result (λ reply. HasSameKinds
+        (bench_states (map (λ b. kind b) bench.old.items) (map (λ b. kind b) bench.new.items)
+        (map (λ b. loaded b) bench.new.items) (map (λ b. kept b) bench.new.items))) }
 {
-    let outcome = outcome_of(alloc, request, files);
+    let outcome = outcome_of(alloc, request, files, bench);
     conclusion(alloc, outcome)
 }
 
@@ -54,14 +79,24 @@ fn usage_reply(alloc: Global) -> Result<Reply, AllocError>
     })
 }
 
-fn reply_to<F: Files>(alloc: Global, words: &[String], files: &mut F) -> Result<Reply, AllocError>
-    ensures { IfOk result (λ reply. IsReply (request_of (map string_bytes words.now))
+fn reply_to<F: Files>(
+    alloc: Global,
+    words: &[String],
+    files: &mut F,
+    bench: &mut Vec<Box<dyn Component>>,
+) -> Result<Reply, AllocError>
+    ensures reply { IfOk result (λ reply. IsReply (request_of (map string_bytes words.now))
         (files_states (source (F.held files.old) (F.steady files.old) (F.faults files.old))
         (source (F.held files.new) (F.steady files.new) (F.faults files.new)))
+        (bench_states (map (λ b. kind b) bench.old.items) (map (λ b. kind b) bench.new.items)
+        (map (λ b. loaded b) bench.new.items) (map (λ b. kept b) bench.new.items))
         (answer_of reply)) }
+    ensures kinds { IfOk result (λ reply. HasSameKinds
+        (bench_states (map (λ b. kind b) bench.old.items) (map (λ b. kind b) bench.new.items)
+        (map (λ b. loaded b) bench.new.items) (map (λ b. kept b) bench.new.items))) }
 {
     match request_of(alloc, words)? {
-        Some(request) => answer(alloc, request, files),
+        Some(request) => answer(alloc, request, files, bench),
         None => usage_reply(alloc),
     }
 }
@@ -79,19 +114,28 @@ fn say<K: Sink>(out: &mut K, status: Status, text: &[u8]) -> Status
 }
 
 /// Answers to the words after the program's name: reads the files that they name and writes one
-/// text to `out`. Memory may be wanting at any point before that, and then nothing is written.
+/// text to `out`. Instances run in shells of the bench, which go back to its end. Memory may be wanting
+/// at any point before that, and then nothing is written.
 pub fn blazes<F: Files, K: Sink>(
     alloc: Global,
     words: &[String],
     files: &mut F,
     out: &mut K,
+    bench: &mut Vec<Box<dyn Component>>,
 ) -> Status
     ensures outcome { IsOutcome (map string_bytes words.now)
         (files_states (source (F.held files.old) (F.steady files.old) (F.faults files.old))
         (source (F.held files.new) (F.steady files.new) (F.faults files.new)))
+        (bench_states (map (λ b. kind b) bench.old.items) (map (λ b. kind b) bench.new.items)
+        (map (λ b. loaded b) bench.new.items) (map (λ b. kept b) bench.new.items))
         (sink_states (K.written out.old) (K.written out.new) (K.room out.old) (K.room out.new)
         (K.faults out.old) (K.faults out.new))
         result }
+
+    // The bench keeps as many shells of each kind.
+    ensures bench { result ≢ Status.NoMemory → HasSameKinds
+        (bench_states (map (λ b. kind b) bench.old.items) (map (λ b. kind b) bench.new.items)
+        (map (λ b. loaded b) bench.new.items) (map (λ b. kept b) bench.new.items)) }
 
     // Usage comes exactly where the words ask for nothing that is built.
     ensures usage { result ≡ Status.Usage → request_of (map string_bytes words.now) ≡ None }
@@ -105,15 +149,15 @@ pub fn blazes<F: Files, K: Sink>(
     // A steady source gives no ReadFault where it holds each name that the order of checks reaches,
     // and no answer but ReadFault or a lost one where it doesn't.
     ensures steady_held { IsTrue (F.steady files.old) → IfSome (F.held files.old)
-        (λ held. ¬ Misses held (map string_bytes words.now) → result ≢ Status.ReadFault) }
+        (λ held. ¬ Misses (map (λ b. kind b) bench.old.items) held (map string_bytes words.now) → result ≢ Status.ReadFault) }
     ensures steady_absent { IsTrue (F.steady files.old) → IfSome (F.held files.old)
-        (λ held. Misses held (map string_bytes words.now) → IsReadFaultOrLost result) }
+        (λ held. Misses (map (λ b. kind b) bench.old.items) held (map string_bytes words.now) → IsReadFaultOrLost result) }
 
     // WriteFault comes only where the count of the sink's faults rose, and always where it is greater.
     ensures write { result ≡ Status.WriteFault → Rose (K.faults out.old) (K.faults out.new) }
     ensures write_counted { K.faults out.old < K.faults out.new → result ≡ Status.WriteFault }
 {
-    match reply_to(alloc, words, files) {
+    match reply_to(alloc, words, files, bench) {
         Ok(reply) => say(out, reply.status, &reply.text),
         Err(_) => Status::NoMemory,
     }

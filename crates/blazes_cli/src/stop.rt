@@ -1,7 +1,7 @@
 //! Why the checks of a command stop.
 ghost use Rattle.std.specs.Prelude.{◌≡◌};
 ghost use Rattle.report_print.specs.Refusals.{refusal_line};
-ghost use Rattle.blazes_cli.specs.Code.Ran.{IsRefused};
+ghost use Rattle.blazes_cli.specs.Code.Ran.{IsRefused, IsStopAt};
 ghost use Rattle.blazes_cli.specs.declared.stop.Stop.TheVariants.{NoMemory};
 
 use blz_value::Str;
@@ -35,5 +35,15 @@ pub fn refused(alloc: Global, refusal: &Refusal) -> Stop
     match refusal_text(alloc, refusal) {
         Ok(line) => Stop::Refused(line),
         Err(_) => Stop::NoMemory,
+    }
+}
+
+/// The stop at a check that is refused so; without a refusal memory ran out.
+pub fn stop_at(alloc: Global, refusal: Option<Refusal>) -> Stop
+    ensures { IsStopAt refusal result }
+{
+    match refusal {
+        Some(refusal) => refused(alloc, &refusal),
+        None => Stop::NoMemory,
     }
 }

@@ -1,13 +1,22 @@
 //! What the words of a command line ask for.
 ghost use Rattle.std.specs.Prelude.{◌≡◌, IfOk, map, option_map, option_and_then, string_bytes, false};
 ghost use Rattle.clap.specs.Words.{all_of, app_of, first_of, found_of, rows_of, rule_of};
-ghost use Rattle.blazes_cli.specs.Code.Requests.{AreMatches, asked_by, line_shown};
+ghost use Rattle.blazes_cli.specs.Code.Requests.{AreMatches, asked_by, files_shown, line_shown};
 ghost use Rattle.blazes_cli.specs.Words.{bare_command, simple_command, command_rule, file_rule, option_rule};
 ghost use Rattle.blazes_cli.specs.Words as spec;
 
 use clap::error::ErrorKind;
 use clap::{Arg, ArgAction, ArgMatches, Command};
 use std::alloc::{AllocError, Global};
+
+/// The names of the files of a run.
+#[derive(Clone, Copy, Debug, PartialEq, Eq)]
+pub struct RunFiles<'a> {
+    pub topology: &'a str,
+    /// The data.
+    pub given: &'a str,
+    pub schedule: &'a str,
+}
 
 /// What a command line asks for.
 #[derive(Clone, Copy, Debug, PartialEq, Eq)]
@@ -18,6 +27,8 @@ pub enum Request<'a> {
     Derive { topology: &'a str },
     /// Its plan.
     Plan { topology: &'a str },
+    /// What its instances emit under a schedule over data.
+    Run(RunFiles<'a>),
 }
 
 // The words of a command line, taken apart.
@@ -128,6 +139,23 @@ fn only_word<'a>(line: &Line<'_, 'a>) -> Option<&'a str>
     }
 }
 
+// The three words after a command without options.
+fn run_files<'a>(line: &Line<'_, 'a>) -> Option<RunFiles<'a>>
+    ensures { option_map files_shown result ≡ spec.run_files (line_shown line.now) }
+{
+    if line.seed.is_some() || line.count.is_some() {
+        return None;
+    }
+    match line.words {
+        Some([topology, given, schedule]) => Some(RunFiles {
+            topology: *topology,
+            given: *given,
+            schedule: *schedule,
+        }),
+        _ => None,
+    }
+}
+
 // What a line asks for.
 fn request_for<'a>(line: &Line<'_, 'a>) -> Option<Request<'a>>
     ensures { option_map asked_by result ≡ spec.asked (line_shown line.now) }
@@ -142,6 +170,7 @@ fn request_for<'a>(line: &Line<'_, 'a>) -> Option<Request<'a>>
         "plan" => Some(Request::Plan {
             topology: only_word(line)?,
         }),
+        "run" => Some(Request::Run(run_files(line)?)),
         _ => None,
     }
 }

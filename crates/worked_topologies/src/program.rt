@@ -40,7 +40,7 @@ fn a_sink_that_is_too_small_keeps_a_front(rt: HostRuntime) -> Result<(), Fail> {
 
 #[test]
 fn words_that_ask_for_nothing_get_the_usage_line(rt: HostRuntime) -> Result<(), Fail> {
-    let table: [&'static [&'static str]; 11] = [
+    let table: [&'static [&'static str]; 14] = [
         &[],
         &["label"],
         &["label", "a", "b"],
@@ -48,6 +48,9 @@ fn words_that_ask_for_nothing_get_the_usage_line(rt: HostRuntime) -> Result<(), 
         &["derive", "a", "--count", "1"],
         &["plan"],
         &["plan", "a", "--seed", "1"],
+        &["run", "a", "b"],
+        &["run", "a", "b", "c", "d"],
+        &["run", "a", "b", "c", "--seed", "1"],
         &["frob", "a"],
         &["soak", "--count", "0"],
         &["label", "a", "--seed", "1"],

@@ -1,5 +1,6 @@
 //! What the program answers to files that are given as texts.
 use blazes_cli::{Status, blazes};
+use blz_boxes::Component;
 use blz_outside::{MemFiles, MemSink};
 use std::alloc::Global;
 use std::test::Fail;
@@ -20,7 +21,7 @@ pub fn held(alloc: Global, files: &[(&str, &str)]) -> Result<Vec<(String, Vec<u8
 }
 
 /// The status and the bytes written for these words over these files, into a sink with room for `most`
-/// bytes.
+/// bytes, without any shell.
 pub fn answer_over(
     alloc: Global,
     mut files: MemFiles,
@@ -32,7 +33,8 @@ pub fn answer_over(
         words.push(String::from_str(alloc, *word)?)?;
     }
     let mut out = MemSink::new(alloc, most)?;
-    let status = blazes(alloc, &words, &mut files, &mut out);
+    let mut bench: Vec<Box<dyn Component>> = Vec::new(alloc);
+    let status = blazes(alloc, &words, &mut files, &mut out, &mut bench);
     Ok((status, Vec::from_slice(alloc, out.bytes())?))
 }
 

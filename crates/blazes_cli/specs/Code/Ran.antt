@@ -1,8 +1,12 @@
 -- What a part of the program returned, beside the script that it runs.
 use Rattle.std.specs.Prelude.{◌≡◌, Option, Some, None, IfSome, Result, Ok, Err}
+use Rattle.report_print.specs.declared.refusal.Refusal.{Refusal}
+use Rattle.report_print.specs.Refusals.{refusal_line}
+use Rattle.blazes_cli.specs.Bench.{BenchStates}
 use Rattle.blazes_cli.specs.Script.{Bytes, Script, Ending}
 use Rattle.blazes_cli.specs.Ends.{FilesStates, Came}
-use Rattle.blazes_cli.specs.Commands.{Answer, Work}
+use Rattle.blazes_cli.specs.Commands.{Answer, Work, script}
+use Rattle.blazes_cli.specs.Words.{Asked}
 use Rattle.blazes_cli.specs.Answer.{IsAnswered}
 use Rattle.blazes_cli.specs.Lines.{cannot_read}
 use Rattle.blazes_cli.specs.declared.reply.Reply.{Reply}
@@ -21,6 +25,11 @@ abbrev pub IsRefused : Bytes → Stop → Type 0
 IsRefused said (Refused line) = line.items ≡ said
 IsRefused said (Failed name) = ⊥
 IsRefused said NoMemory = Unit {0}
+
+-- the stop of a check that is refused so; without a refusal memory ran out
+abbrev pub IsStopAt : Option Refusal → Stop → Type 0
+IsStopAt None stop = stop ≡ NoMemory
+IsStopAt (Some refused) stop = IsRefused (refusal_line refused) stop
 
 -- the script ends as this stop says
 abbrev pub Stopped : {A : Type 0} → FilesStates → Stop → Script A → Type 0
@@ -43,9 +52,13 @@ abbrev pub answer_of : Reply → Answer
 answer_of reply = record { status = reply.status; text = reply.text.items }
 
 -- the reply is the answer at the end of the script; nothing is said where memory ran out
-abbrev pub Replies : FilesStates → Result Reply Stop → Script Work → Type 0
-Replies files (Ok reply) script = IsAnswered script files (answer_of reply)
-Replies files (Err stop) script = Stopped files stop script
+abbrev pub Replies : FilesStates → BenchStates → Result Reply Stop → Script Work → Type 0
+Replies files bench (Ok reply) script = IsAnswered script files bench (answer_of reply)
+Replies files bench (Err stop) script = Stopped files stop script
+
+-- the reply is the answer to what is asked
+abbrev pub RepliesTo : Asked → FilesStates → BenchStates → Result Reply Stop → Type 0
+RepliesTo asked files bench result = Replies files bench result (script bench.kinds asked)
 
 -- the answer at the end of a command; none where memory ran out
 abbrev pub Concludes : Result Reply Stop → Answer → Type 0

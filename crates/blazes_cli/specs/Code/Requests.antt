@@ -7,7 +7,8 @@ use Rattle.blazes_cli.specs.Words.{Asked, simple_command}
 use Rattle.blazes_cli.specs.Words as spec
 use Rattle.blazes_cli.specs.declared.words.Line.{Line}
 use Rattle.blazes_cli.specs.declared.words.Request.{Request}
-use Rattle.blazes_cli.specs.declared.words.Request.TheVariants.{Label, Derive, Plan}
+use Rattle.blazes_cli.specs.declared.words.Request.TheVariants.{Label, Derive, Plan, Run}
+use Rattle.blazes_cli.specs.declared.words.RunFiles.{RunFiles}
 
 -- the words match the simple command
 abbrev pub Match : List Text → Type 0
@@ -27,8 +28,13 @@ line_shown line = record {
   count = option_map (λ value. value.now) line.count;
 }
 
+-- the names of the files of a run
+abbrev pub files_shown : RunFiles → spec.RunFiles
+files_shown files = record { topology = files.topology.now; given = files.given.now; schedule = files.schedule.now }
+
 -- what a request asks for
 abbrev pub asked_by : Request → Asked
 asked_by (Label topology) = Asked.label topology.now
 asked_by (Derive topology) = Asked.derive topology.now
 asked_by (Plan topology) = Asked.plan topology.now
+asked_by (Run files) = Asked.run (files_shown files)

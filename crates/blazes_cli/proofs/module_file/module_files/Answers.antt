@@ -1,4 +1,4 @@
-use Rattle.std.proofs.Common.{◌≡◌, ◌+◌, ◌++◌, List, [], ◌∷◌, None, Some, take, drop, arith, refl, sym, subst, ap, ◌∙◌}
+use Rattle.std.proofs.Common.{◌≡◌, ◌+◌, ◌++◌, List, [], ◌∷◌, None, Some, take, drop, refl, sym, subst, ap, ◌∙◌}
 use Rattle.std.specs.List.{filter_map}
 use Rattle.std.proofs.lemmas.List.{append-nil}
 use Rattle.blz_value.specs.declared.text.Str.{Str}
@@ -8,7 +8,7 @@ use Rattle.topo_types.specs.declared.topology.Body.TheVariants as bodies
 use Rattle.topo_types.specs.Valid.{file_in, needs_module}
 use Rattle.blazes_cli.specs.Checks as check
 use Rattle.blazes_cli.specs.Code.Ran.{Stopped}
-use Rattle.blazes_cli.specs.Ends.{Source, files_states, source, Came}
+use Rattle.blazes_cli.specs.Ends.{files_states, source, Came}
 use Rattle.blazes_cli.specs.Script.{Bytes}
 use Rattle.blazes_cli.specs.Script.Ending.{gave}
 use Rattle.blazes_cli.proofs.ScriptLemmas.{stop_handed}

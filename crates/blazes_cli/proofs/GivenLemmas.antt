@@ -1,0 +1,41 @@
+-- What a reader refuses is refused with its line.
+use Rattle.std.proofs.Common.{◌≡◌, ◌∙◌, ℕ, List, Option, Some, None, Result, Ok, Err, sym, subst, ap}
+use Rattle.data_read.specs.Gives as reading
+use Rattle.data_read.specs.declared.fault.DataFault.{DataFault}
+use Rattle.data_read.specs.declared.fault.DataFault.TheVariants as faults
+use Rattle.report_print.specs.declared.refusal.Refusal.{Refusal}
+use Rattle.report_print.specs.declared.refusal.Refusal.TheVariants as refusal
+use Rattle.report_print.specs.Refusals.{refusal_line}
+use Rattle.sched_run.specs.Applying.{Line}
+use Rattle.topo_types.specs.Data.{Data}
+use Rattle.topo_types.specs.Modes.{names_in}
+use Rattle.topo_types.specs.View.{View, fd_at}
+use Rattle.blazes_cli.specs.Checks as check
+use Rattle.blazes_cli.specs.Code.Ran.{Gives, IsStopAt}
+use Rattle.blazes_cli.specs.Script.{Bytes}
+use Rattle.blazes_cli.specs.declared.stop.Stop.{Stop}
+use Rattle.blazes_cli.specs.declared.stop.Stop.TheVariants.{Refused, Failed, NoMemory}
+
+-- the stop of a check that gives the line of a refusal
+pub refused_gives : {X A : Type 0} (view : X → A) (given : Result A Bytes) (refused : Refusal) (stop : Stop) → given ≡ Err (refusal_line refused) → IsStopAt (Some refused) stop → Gives view (Err stop) given
+refused_gives view given refused (Refused line) is said = is ∙ ap (λ (b : Bytes). Err b) (sym said)
+refused_gives view given refused (Failed name) is said = absurd said
+refused_gives view given refused NoMemory is said = tt
+
+-- want of memory stops each check
+memory_gives : {X A : Type 0} (view : X → A) (given : Result A Bytes) (stop : Stop) → stop ≡ NoMemory → Gives view (Err stop) given
+memory_gives view given stop is = subst (λ s. Gives view (Err s) given) (sym is) tt
+
+-- data that are refused
+pub data_gives : (v : View) (fault : DataFault) (given : Result Data DataFault) (stop : Stop) → reading.Gives (λ (d : Data). d) (Err fault) given → IsStopAt (check.data_refusal v fault) stop
+    → Gives (λ (d : Data). d) (Err stop) (check.data_in v given)
+data_gives v faults.NotJson given stop is said = refused_gives (λ (d : Data). d) (check.data_in v given) refusal.NotJson stop (ap (check.data_in v) is) said
+data_gives v (faults.DataForm name row) given stop is said = refused_gives (λ (d : Data). d) (check.data_in v given) (refusal.DataForm name row) stop (ap (check.data_in v) is) said
+data_gives v (faults.TooMany name) given stop is said = refused_gives (λ (d : Data). d) (check.data_in v given) (refusal.DataTooMany name) stop (ap (check.data_in v) is) said
+data_gives v (faults.FdBroken fd first second) given stop is said =
+    refused_gives (λ (d : Data). d) (check.data_in v given) (refusal.FdBroken (names_in v.attributes (fd_at v fd).from.bits) (names_in v.attributes (fd_at v fd).to.bits) first second) stop (ap (check.data_in v) is) said
+data_gives v faults.NoMemory given stop is said = memory_gives (λ (d : Data). d) (check.data_in v given) stop said
+
+-- a schedule without a bad line, and one with
+pub schedule_gives : (bad : Option ℕ) (lines schedule : List Line) → bad ≡ None → schedule ≡ lines → check.schedule_in bad lines ≡ Ok schedule
+schedule_gives bad lines schedule none is = ap (λ o. check.schedule_in o lines) none ∙ ap (λ (l : List Line). Ok l) (sym is)

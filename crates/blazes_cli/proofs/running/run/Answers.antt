@@ -1,0 +1,59 @@
+use Rattle.std.proofs.Common.{List, map, subst}
+use Rattle.std.proofs.lemmas.List.Sorted.{IsPermutation-refl}
+use Rattle.sched_run.specs.Applying.{Line}
+use Rattle.blazes_cli.specs.Bench.{bench_states}
+use Rattle.blazes_cli.specs.Code.Requests.{files_shown}
+use Rattle.blazes_cli.specs.Code.Runs.{RepliesAtOnce}
+use Rattle.blazes_cli.specs.Commands.{running}
+use Rattle.blazes_cli.specs.Ends.{files_states, source}
+use Rattle.blazes_cli.proofs.CommandLemmas.{kept_anyway}
+use Rattle.blazes_cli.proofs.RunLemmas.{topology_stops, data_stops, schedule_stops, run_replies}
+use Rattle.blazes_cli.proofs.running.run.Goals as goal
+
+pub returns-in_err-valid : goal.returns-in_err-valid
+returns-in_err-valid g c =
+    let bench = bench_states (map (λ b. (goal.Component-dyn g (b.vtable, b.value)).kind b.value) c.args.bench.now.items) (map (λ b. (goal.Component-dyn g (b.vtable, b.value)).kind b.value) c.args.bench.now.items) (map (λ b. (goal.Component-dyn g (b.vtable, b.value)).loaded b.value) c.args.bench.now.items) (map (λ b. (goal.Component-dyn g (b.vtable, b.value)).kept b.value) c.args.bench.now.items) in
+    let a = source (g.F.Files.held c.args.files.now) (g.F.Files.steady c.args.files.now) (g.F.Files.faults c.args.files.now) in
+    let b = source (g.F.Files.held c.valid_topology.new.files) (g.F.Files.steady c.valid_topology.new.files) (g.F.Files.faults c.valid_topology.new.files) in
+    record {
+      replies = topology_stops bench (files_shown c.args.names) c.from_residual.result (files_states a b) c.in_err-valid.field-0.0 c.from_residual.ensures.1 c.in_err-valid.ensures;
+      kinds = kept_anyway bench c.from_residual.result (IsPermutation-refl bench.kinds);
+    }
+
+pub returns-in_err-given : goal.returns-in_err-given
+returns-in_err-given g c =
+    let bench = bench_states (map (λ b. (goal.Component-dyn g (b.vtable, b.value)).kind b.value) c.args.bench.now.items) (map (λ b. (goal.Component-dyn g (b.vtable, b.value)).kind b.value) c.args.bench.now.items) (map (λ b. (goal.Component-dyn g (b.vtable, b.value)).loaded b.value) c.args.bench.now.items) (map (λ b. (goal.Component-dyn g (b.vtable, b.value)).kept b.value) c.args.bench.now.items) in
+    let a = source (g.F.Files.held c.args.files.now) (g.F.Files.steady c.args.files.now) (g.F.Files.faults c.args.files.now) in
+    let b = source (g.F.Files.held c.valid_topology.new.files) (g.F.Files.steady c.valid_topology.new.files) (g.F.Files.faults c.valid_topology.new.files) in
+    let d = source (g.F.Files.held c.data_file.new.files) (g.F.Files.steady c.data_file.new.files) (g.F.Files.faults c.data_file.new.files) in
+    record {
+      replies = data_stops bench (files_shown c.args.names) c.from_residual-in_err-given.result a b d c.in_ok-valid.valid c.in_err-given.field-0.0 c.from_residual-in_err-given.ensures.1 c.in_ok-valid.ensures c.in_err-given.ensures.ran;
+      kinds = kept_anyway bench c.from_residual-in_err-given.result (IsPermutation-refl bench.kinds);
+    }
+
+pub returns-in_err-schedule : goal.returns-in_err-schedule
+returns-in_err-schedule g c =
+    let bench = bench_states (map (λ b. (goal.Component-dyn g (b.vtable, b.value)).kind b.value) c.args.bench.now.items) (map (λ b. (goal.Component-dyn g (b.vtable, b.value)).kind b.value) c.args.bench.now.items) (map (λ b. (goal.Component-dyn g (b.vtable, b.value)).loaded b.value) c.args.bench.now.items) (map (λ b. (goal.Component-dyn g (b.vtable, b.value)).kept b.value) c.args.bench.now.items) in
+    let a = source (g.F.Files.held c.args.files.now) (g.F.Files.steady c.args.files.now) (g.F.Files.faults c.args.files.now) in
+    let b = source (g.F.Files.held c.valid_topology.new.files) (g.F.Files.steady c.valid_topology.new.files) (g.F.Files.faults c.valid_topology.new.files) in
+    let d = source (g.F.Files.held c.data_file.new.files) (g.F.Files.steady c.data_file.new.files) (g.F.Files.faults c.data_file.new.files) in
+    let e = source (g.F.Files.held c.schedule_file.new.files) (g.F.Files.steady c.schedule_file.new.files) (g.F.Files.faults c.schedule_file.new.files) in
+    record {
+      replies = schedule_stops bench (files_shown c.args.names) c.from_residual-in_err-schedule.result a b d e c.in_ok-valid.valid c.in_ok-given.given c.in_err-schedule.field-0.0 c.from_residual-in_err-schedule.ensures.1 c.in_ok-valid.ensures c.in_ok-given.ensures.ran c.in_err-schedule.ensures;
+      kinds = kept_anyway bench c.from_residual-in_err-schedule.result (IsPermutation-refl bench.kinds);
+    }
+
+pub returns : goal.returns
+returns g c =
+    let bench = bench_states (map (λ b. (goal.Component-dyn g (b.vtable, b.value)).kind b.value) c.args.bench.now.items) (map (λ b. (goal.Component-dyn g (b.vtable, b.value)).kind b.value) c.run_lines.new.bench.items) (map (λ b. (goal.Component-dyn g (b.vtable, b.value)).loaded b.value) c.run_lines.new.bench.items) (map (λ b. (goal.Component-dyn g (b.vtable, b.value)).kept b.value) c.run_lines.new.bench.items) in
+    let a = source (g.F.Files.held c.args.files.now) (g.F.Files.steady c.args.files.now) (g.F.Files.faults c.args.files.now) in
+    let b = source (g.F.Files.held c.valid_topology.new.files) (g.F.Files.steady c.valid_topology.new.files) (g.F.Files.faults c.valid_topology.new.files) in
+    let d = source (g.F.Files.held c.data_file.new.files) (g.F.Files.steady c.data_file.new.files) (g.F.Files.faults c.data_file.new.files) in
+    let e = source (g.F.Files.held c.schedule_file.new.files) (g.F.Files.steady c.schedule_file.new.files) (g.F.Files.faults c.schedule_file.new.files) in
+    let v = c.in_ok-valid.valid.view in
+    let given = c.in_ok-given.given in
+    record {
+      replies = run_replies bench (files_shown c.args.names) c.run_lines.result a b d e c.in_ok-valid.valid given c.in_ok-schedule.schedule c.in_ok-valid.ensures c.in_ok-given.ensures.ran c.in_ok-schedule.ensures
+          (subst (λ (lines : List Line). RepliesAtOnce bench c.run_lines.result (running bench.kinds v given lines)) c.lines.ensures c.run_lines.ensures.replies);
+      kinds = c.run_lines.ensures.kinds;
+    }

@@ -1,17 +1,35 @@
 //! Labels the example topologies of the folder data/, which is the folder examples/ at the root, and
 //! compares what is written with the files of labels and of derivations beside each. The words of the
 //! command line are the names of the examples. A word `NAME=PLANNED` asks whether the plan of one
-//! example is the topology of another.
+//! example is the topology of another, and a word `NAME:DATA:RUN` whether the topology NAME over the data
+//! DATA, under the schedule RUN, has the contents that are written beside the schedule.
 #![tactic(auto)]
 
 use anyhow::Result;
 use blazes_cli::blazes;
+use blz_boxes::{Component, LatestShell, NumberShell, PlainShell, SplitShell};
 use blz_outside::{Files, MemSink, RealFiles};
 use std::env;
 use topo_read::{read, write};
 
 /// The most bytes of what is written of an example.
 const TEXT_LIMIT: usize = 65_536;
+
+// What the program writes for these words, with four shells for modules and four of each stock kind.
+fn written_for(rt: &HostRuntime, words: &[String]) -> Result<MemSink> {
+    let alloc = rt.alloc();
+    let mut bench: Vec<Box<dyn Component>> = Vec::new(alloc);
+    for _ in 0..4 {
+        bench.push(Box::new(alloc, PlainShell::new(alloc))?)?;
+        bench.push(Box::new(alloc, SplitShell::new(alloc))?)?;
+        bench.push(Box::new(alloc, LatestShell::new(alloc))?)?;
+        bench.push(Box::new(alloc, NumberShell::new(alloc))?)?;
+    }
+    let mut files = RealFiles::new(rt.clone()?);
+    let mut out = MemSink::new(alloc, TEXT_LIMIT)?;
+    blazes(alloc, words, &mut files, &mut out, &mut bench);
+    Ok(out)
+}
 
 // What this command writes of the example of this name.
 fn text_of(rt: &HostRuntime, command: &str, name: &str) -> Result<MemSink> {
@@ -20,10 +38,7 @@ fn text_of(rt: &HostRuntime, command: &str, name: &str) -> Result<MemSink> {
         String::from_str(alloc, command)?,
         format!(in alloc; "{name}.toml")?,
     ]?;
-    let mut files = RealFiles::new(rt.clone()?);
-    let mut out = MemSink::new(alloc, TEXT_LIMIT)?;
-    blazes(alloc, &words, &mut files, &mut out);
-    Ok(out)
+    written_for(rt, &words)
 }
 
 // The file of the example of this name with this ending.
@@ -77,17 +92,41 @@ fn plan_found(rt: &HostRuntime, name: &str, planned: &str) -> Result<&'static st
     })
 }
 
+// Whether a run of an example is as the file beside its schedule says.
+fn runs_so(rt: &HostRuntime, name: &str, data: &str, run: &str) -> Result<bool> {
+    let alloc = rt.alloc();
+    let words = vec![in alloc;
+        String::from_str(alloc, "run")?,
+        format!(in alloc; "{name}.toml")?,
+        format!(in alloc; "{data}.json")?,
+        format!(in alloc; "{run}.schedule")?,
+    ]?;
+    let out = written_for(rt, &words)?;
+    let beside = file_of(rt, run, "run")?;
+    Ok(out.bytes() == beside.as_slice())
+}
+
+// What is found of a run of an example; the word behind its name has the data and the run.
+fn run_found(rt: &HostRuntime, name: &str, rest: &str) -> Result<&'static str> {
+    let (data, run) = rest.split_once(':').unwrap_or((rest, rest));
+    Ok(if runs_so(rt, name, data, run)? {
+        "has the contents of"
+    } else {
+        "hasn't the contents of"
+    })
+}
+
 fn main(rt: HostRuntime) -> Result<()> {
     for word in env::args(&rt)?.skip(1) {
-        match word.as_str().split_once('=') {
-            Some((name, planned)) => {
-                let found = plan_found(&rt, name, planned)?;
-                println!(rt; "{name} {found} {planned}")?;
-            }
-            None => {
-                let found = labels_found(&rt, word.as_str())?;
-                println!(rt; "{word} {found}")?;
-            }
+        if let Some((name, planned)) = word.as_str().split_once('=') {
+            let found = plan_found(&rt, name, planned)?;
+            println!(rt; "{name} {found} {planned}")?;
+        } else if let Some((name, rest)) = word.as_str().split_once(':') {
+            let found = run_found(&rt, name, rest)?;
+            println!(rt; "{name} {found} {rest}")?;
+        } else {
+            let found = labels_found(&rt, word.as_str())?;
+            println!(rt; "{word} {found}")?;
         }
     }
     Ok(())

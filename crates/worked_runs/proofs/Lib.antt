@@ -1,1 +1,2 @@
 pub mod ModuleCount
+pub mod NetRuns

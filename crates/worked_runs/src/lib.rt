@@ -1,4 +1,5 @@
-//! Worked runs: what a run reads, hears and keeps, over public calls.
+//! Worked runs: how a topology is planned for a run, and what a run reads, hears and keeps, over public
+//! calls.
 #![tactic(auto)]
 
 #[cfg(test)]
@@ -7,6 +8,10 @@ mod data;
 mod inboxes;
 #[cfg(test)]
 mod logs;
+#[cfg(test)]
+mod nets;
+#[cfg(test)]
+mod plans;
 #[cfg(test)]
 mod reading;
 #[cfg(test)]

@@ -6,6 +6,29 @@ pub(crate) struct Worked {
     pub(crate) modules: &'static [(&'static str, &'static str)],
 }
 
+const COUNT_AND_COMMIT: &[(&str, &str)] = &[
+    (
+        "count.bloom",
+        "module count_words;
+input words(id, batch, at, word);
+output counts(word, batch, n);
+table seen(id, batch, at, word);
+seen <= words;
+counts <= group(seen, [word, batch], count as n);
+",
+    ),
+    (
+        "commit.bloom",
+        "module commit;
+input counts(word, batch, n);
+output commits(word, batch, n);
+table committed(word, batch, n);
+committed <= counts;
+commits <= committed;
+",
+    ),
+];
+
 /// Three components in a line, behind a source that is sealed by batch.
 pub(crate) const WORD_COUNT: Worked = Worked {
     topology: "
@@ -38,28 +61,85 @@ to = ['commit.counts']
 name = 'commits'
 from = 'commit.commits'
 ",
-    modules: &[
-        (
-            "count.bloom",
-            "module count_words;
-input words(id, batch, at, word);
-output counts(word, batch, n);
-table seen(id, batch, at, word);
-seen <= words;
-counts <= group(seen, [word, batch], count as n);
+    modules: COUNT_AND_COMMIT,
+};
+
+/// The same with count and commit at three replicas.
+pub(crate) const REPLICATED_WORD_COUNT: Worked = Worked {
+    topology: "
+format = 1
+[[source]]
+name = 'tweets'
+columns = ['id', 'text', 'batch']
+seal = ['batch']
+to = ['split.in']
+[[component]]
+name = 'split'
+stock = 'split'
+columns = ['id', 'text', 'batch']
+split = 'text'
+[[component]]
+name = 'count'
+module = 'count.bloom'
+replicas = 3
+[[component]]
+name = 'commit'
+module = 'commit.bloom'
+replicas = 3
+[[stream]]
+name = 'words'
+from = 'split.out'
+to = ['count.words']
+[[stream]]
+name = 'counts'
+from = 'count.counts'
+to = ['commit.counts']
+[[stream]]
+name = 'commits'
+from = 'commit.commits'
 ",
-        ),
-        (
-            "commit.bloom",
-            "module commit;
-input counts(word, batch, n);
-output commits(word, batch, n);
-table committed(word, batch, n);
-committed <= counts;
-commits <= committed;
+    modules: COUNT_AND_COMMIT,
+};
+
+/// The word count planned: split and commit pass seals on, and count waits until a batch is whole.
+pub(crate) const PLANNED_WORD_COUNT: Worked = Worked {
+    topology: "
+format = 1
+[[source]]
+name = 'tweets'
+columns = ['id', 'text', 'batch']
+seal = ['batch']
+to = ['split.in']
+[[component]]
+name = 'split'
+stock = 'split'
+columns = ['id', 'text', 'batch']
+split = 'text'
+mode = 'pass'
+key = ['batch']
+[[component]]
+name = 'count'
+module = 'count.bloom'
+mode = 'seal'
+key = ['batch']
+[[component]]
+name = 'commit'
+module = 'commit.bloom'
+mode = 'pass'
+key = ['batch']
+[[stream]]
+name = 'words'
+from = 'split.out'
+to = ['count.words']
+[[stream]]
+name = 'counts'
+from = 'count.counts'
+to = ['commit.counts']
+[[stream]]
+name = 'commits'
+from = 'commit.commits'
 ",
-        ),
-    ],
+    modules: COUNT_AND_COMMIT,
 };
 
 /// Clicks counted by name, where the name has the campaign and the campaign the name.

@@ -1,0 +1,21 @@
+//! Worked runs of the program: topologies, data and schedules as their files, over the call `blazes`.
+#![tactic(auto)]
+
+#[cfg(test)]
+mod batches;
+#[cfg(test)]
+mod benches;
+#[cfg(test)]
+mod chains;
+#[cfg(test)]
+mod orders;
+#[cfg(test)]
+mod reads;
+#[cfg(test)]
+mod refusals;
+#[cfg(test)]
+mod sealing;
+#[cfg(test)]
+mod text;
+#[cfg(test)]
+mod topologies;

@@ -9,7 +9,8 @@ use std::env::Env;
 use std::process::ExitCode;
 use std::{env, io};
 
-// How many shells of the bench are for modules: one for each instance that a topology has at most.
+// How many shells of the bench are for modules: as many as a topology can have instances. They are plain
+// shells until there are some that keep indexes.
 const MODULE_SHELLS: usize = 64;
 
 // How many are for each stock body.

@@ -50,10 +50,6 @@ pub lost_replies : (files : FilesStates) (bench : BenchStates) (checks : Script 
 lost_replies files bench checks (Ok reply) is = absurd is
 lost_replies files bench checks (Err stop) is = subst (λ given. Stopped files given checks) (sym is) tt
 
-pub lost_kinds : (bench : BenchStates) (result : Result Reply Stop) → IsErrAnd result (λ stop. stop ≡ NoMemory) → KeepsKinds bench result
-lost_kinds bench (Ok reply) is = absurd is
-lost_kinds bench (Err stop) is = subst (λ given. KeepsKinds bench (Err given)) (sym is) tt
-
 -- a command whose checks go on with what the first of them gave
 pub then_replies : {X : Type 0} (a b c : Source) (bench : BenchStates) (s : Script X) (next : X → Script Work) (x : X) (result : Result Reply Stop)
     → Came (files_states a b) s (gave x) → Replies (files_states b c) bench result (next x) → Replies (files_states a c) bench result (s >>= next)

@@ -1,12 +1,11 @@
--- What a reader refuses is refused with its line.
-use Rattle.std.proofs.Common.{◌≡◌, ◌∙◌, ℕ, List, Option, Some, None, Result, Ok, Err, sym, subst, ap}
+-- Data that the reader refuses are refused with their line.
+use Rattle.std.proofs.Common.{◌≡◌, ◌∙◌, Some, Result, Err, sym, subst, ap}
 use Rattle.data_read.specs.Gives as reading
 use Rattle.data_read.specs.declared.fault.DataFault.{DataFault}
 use Rattle.data_read.specs.declared.fault.DataFault.TheVariants as faults
 use Rattle.report_print.specs.declared.refusal.Refusal.{Refusal}
 use Rattle.report_print.specs.declared.refusal.Refusal.TheVariants as refusal
 use Rattle.report_print.specs.Refusals.{refusal_line}
-use Rattle.sched_run.specs.Applying.{Line}
 use Rattle.topo_types.specs.Data.{Data}
 use Rattle.topo_types.specs.Modes.{names_in}
 use Rattle.topo_types.specs.View.{View, fd_at}
@@ -35,7 +34,3 @@ data_gives v (faults.TooMany name) given stop is said = refused_gives (λ (d : D
 data_gives v (faults.FdBroken fd first second) given stop is said =
     refused_gives (λ (d : Data). d) (check.data_in v given) (refusal.FdBroken (names_in v.attributes (fd_at v fd).from.bits) (names_in v.attributes (fd_at v fd).to.bits) first second) stop (ap (check.data_in v) is) said
 data_gives v faults.NoMemory given stop is said = memory_gives (λ (d : Data). d) (check.data_in v given) stop said
-
--- a schedule without a bad line, and one with
-pub schedule_gives : (bad : Option ℕ) (lines schedule : List Line) → bad ≡ None → schedule ≡ lines → check.schedule_in bad lines ≡ Ok schedule
-schedule_gives bad lines schedule none is = ap (λ o. check.schedule_in o lines) none ∙ ap (λ (l : List Line). Ok l) (sym is)

@@ -52,14 +52,29 @@ complete
 }
 
 #[test]
-fn a_batch_with_one_bad_part_is_refused(rt: HostRuntime) -> Result<(), Fail> {
-    let run = Run {
-        worked: LATEST,
-        data: LATEST_DATA,
-        schedule: "batch cache 0 puts 0 0 put puts 0 2 put\n",
-    };
-    let line = "refused Event 1 NoMessage\n";
-    check(&rt, rt.alloc(), run, Status::Refused, line)
+fn the_first_bad_part_of_a_batch_says_why_it_is_refused(rt: HostRuntime) -> Result<(), Fail> {
+    for (schedule, line) in [
+        (
+            "batch cache 0 puts 0 0 put puts 0 2 put\n",
+            "refused Event 1 NoMessage\n",
+        ),
+        (
+            "batch cache 0 puts 0 2 put asks 0 0 put\n",
+            "refused Event 1 NoMessage\n",
+        ),
+        (
+            "batch cache 0 asks 0 0 put puts 0 2 put\n",
+            "refused Event 1 NoInstance\n",
+        ),
+    ] {
+        let run = Run {
+            worked: LATEST,
+            data: LATEST_DATA,
+            schedule,
+        };
+        check(&rt, rt.alloc(), run, Status::Refused, line)?;
+    }
+    Ok(())
 }
 
 #[test]

@@ -118,6 +118,7 @@ take num 2
         "deliver puts 0 0 to num.in 0\n",
         "refused Event 1 NoInstance\n",
     ),
+    ("batch num 0 puts 0 0 in\n", "refused Event 1 NoInstance\n"),
 ];
 
 #[test]

@@ -105,7 +105,8 @@ few_feeds v valid c r ports = few_by v valid c r ports (is_order v c)
 
 -- ---- what is left at an instance
 
-known-heard : (v : View) (i : Instance) (lists : List (List Message)) (heard : List Pair) (known : List (ℕ × ℕ)) (n k : ℕ) (m : Message) → KnowsHeard v i lists heard known → n < length i.feeds → slice_get (list_on v lists (feed_numbered i n)) k ≡ Some m
+-- a message of a feed is known exactly where it was heard
+pub known-heard : (v : View) (i : Instance) (lists : List (List Message)) (heard : List Pair) (known : List (ℕ × ℕ)) (n k : ℕ) (m : Message) → KnowsHeard v i lists heard known → n < length i.feeds → slice_get (list_on v lists (feed_numbered i n)) k ≡ Some m
     → list_any (is_same_entry_id (n, k)) known ≡ list_any (is_same_pair (n, m)) heard
 known-heard v i lists heard known n k m knows within at =
     same_truth (list_any (is_same_entry_id (n, k)) known) (list_any (is_same_pair (n, m)) heard)

@@ -10,3 +10,6 @@ pub mod Taking
 pub mod Hearing
 pub mod Seen
 pub mod Remaining
+pub mod Looking
+pub mod Works
+pub mod Making

@@ -12,5 +12,7 @@ pub mod Forgetting
 pub mod Closing
 pub mod Reading
 pub mod Applying
+pub mod Made
+pub mod Making
 pub mod Tables
 pub mod Code

@@ -13,6 +13,7 @@ mod hearing;
 mod keys;
 mod limits;
 mod lists;
+mod making;
 mod net;
 mod numbered;
 mod opening;
@@ -27,5 +28,6 @@ mod seated;
 mod sources;
 
 pub use applying::EventRefusal;
-pub use fault::{EventFault, ForgetFault, OpenFault};
+pub use fault::{EventFault, ForgetFault, MakeFault, OpenFault};
+pub use making::make;
 pub use net::Net;

@@ -10,6 +10,7 @@ ghost use Rattle.inbox.specs.Completeness.{held_count_at};
 ghost use Rattle.inbox.specs.Executions.{emitted_list, contents};
 ghost use Rattle.inbox.specs.Ids.{IsGiven, message_with_id};
 ghost use Rattle.inbox.specs.Wiring.{wiring_of};
+ghost use Rattle.sched_run.specs.Limits.{all_messages};
 ghost use Rattle.sched_run.specs.Lists.{read_list};
 ghost use Rattle.sched_run.specs.Net.{BooksRun};
 ghost use Rattle.sched_run.specs.Places.{instance_place};
@@ -139,6 +140,15 @@ impl Net<'_> {
     {
         self.valid.known();
         self.messages(stream, replica).len()
+    }
+
+    /// The length of all emitted lists together.
+    pub fn message_count(&self) -> usize
+        requires { BooksRun self.now.valid.now.view self.now.books }
+        ensures { IsRead self.now.valid.now.view self.now.books (all_messages (wiring_of self.now.valid.now.view)) result }
+    {
+        self.valid.known();
+        self.books.lists.count()
     }
 
     /// The record at a place of the emitted list of a sending replica of a stream, counted from 0. None

@@ -22,8 +22,8 @@ use inbox::{Feed, Log, Message};
 use std::collections::BTreeSet;
 use topo_types::{Mode, Valid};
 
-// Whether a message with an index was heard on a feed.
-fn is_known(known: &BTreeSet<(u32, u32)>, feed: u32, index: u32) -> bool
+/// Whether a message with an index was heard on a feed.
+pub(crate) fn is_known(known: &BTreeSet<(u32, u32)>, feed: u32, index: u32) -> bool
     ensures { result ≡ list_any (is_same_entry_id (feed, index)) known.now.keys }
 {
     known.contains(&(feed, index))
@@ -43,8 +43,8 @@ fn count_unknown(known: &BTreeSet<(u32, u32)>, feed: u32, count: u32) -> u64
     unknown
 }
 
-// Whether the mode of a component is Order.
-fn is_order(valid: &Valid, component: u32) -> bool
+/// Whether the mode of a component is Order.
+pub(crate) fn is_order(valid: &Valid, component: u32) -> bool
     requires { component < length valid.now.view.components }
     ensures { result ≡ is_order valid.now.view component }
 {
@@ -55,8 +55,8 @@ fn is_order(valid: &Valid, component: u32) -> bool
 }
 
 impl Net<'_> {
-    // How many parts there are at most; the call does nothing.
-    fn bounded(&self)
+    /// How many parts there are at most; the call does nothing.
+    pub(crate) fn bounded(&self)
         ensures valid { IsValid self.now.valid.now.view }
         ensures ports { (c : ℕ) → c < length self.now.valid.now.view.components → length (component_at self.now.valid.now.view c).ports ≤ 8 }
     {

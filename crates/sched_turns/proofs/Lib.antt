@@ -1,0 +1,2 @@
+pub mod LevelsLemmas
+pub mod WindowsLemmas

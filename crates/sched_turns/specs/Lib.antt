@@ -1,0 +1,4 @@
+pub mod Draws
+pub mod Sizes
+pub mod Windows
+pub mod Code

@@ -22,16 +22,17 @@ use sched_run::Net;
 use std::alloc::{AllocError, Global};
 use topo_types::Valid;
 
-// A topology, and a net of it that isn't ended.
+/// A topology, and a net of it that isn't ended.
 #[derive(Clone, Copy)]
-struct Ran<'a> {
-    alloc: Global,
-    valid: &'a Valid,
-    net: &'a Net<'a>,
+pub(crate) struct Ran<'a> {
+    pub(crate) alloc: Global,
+    pub(crate) valid: &'a Valid,
+    pub(crate) net: &'a Net<'a>,
 }
 
 impl Ran<'_> {
-    fn contents(&self, stream: u32, replica: u32) -> Result<RecordSet, AllocError>
+    /// The records of a sending replica of a stream.
+    pub(crate) fn contents(&self, stream: u32, replica: u32) -> Result<RecordSet, AllocError>
         requires ran { IsNetOf self.now.valid.now.view self.now.net.now.valid.now.view self.now.net.now.books }
         requires within { replica < stream_replicas self.now.valid.now.view stream }
         ensures { IfOk result (IsRead self.now.valid.now.view self.now.net.now.books (λ given x. contents (wiring_of self.now.valid.now.view) given x stream replica)) }
@@ -171,7 +172,8 @@ impl Ran<'_> {
         push_line(self.alloc, &[Word::Plain("incomplete")], text)
     }
 
-    fn push_end(&self, text: &mut Vec<u8>) -> Result<(), AllocError>
+    /// Appends that the execution is complete, or how much is left.
+    pub(crate) fn push_end(&self, text: &mut Vec<u8>) -> Result<(), AllocError>
         requires ran { IsNetOf self.now.valid.now.view self.now.net.now.valid.now.view self.now.net.now.books }
         ensures { OnOk result (IsRead self.now.valid.now.view self.now.net.now.books (λ given x. text.old.items ++ spec.end_lines (is_complete self.now.valid.now.view given x) (left_count (wiring_of self.now.valid.now.view) given x)) text.new.items) }
     {

@@ -13,6 +13,7 @@ use Rattle.topo_types.specs.declared.topology.Topology.{Topology}
 use Rattle.topo_types.specs.declared.topology.Body.{Body}
 use Rattle.topo_types.specs.declared.topology.Body.TheVariants as body
 use Rattle.topo_types.specs.Sites.{modules_after}
+use Rattle.shard_route.specs.declared.names.TheConstants.{MAX_NAME}
 
 -- ---- names
 
@@ -90,7 +91,7 @@ sharded_modules name copies (c ∷ components) modules =
 
 -- longer than a name may be
 abbrev pub is_long_name : Name → Bool
-is_long_name name = nat_lt 64 (length name)
+is_long_name name = nat_lt MAX_NAME (length name)
 
 -- the component has its module in this file
 abbrev pub has_file_in : List ℕ → Body → Bool

@@ -7,6 +7,9 @@ use blz_value::Str;
 use std::alloc::{AllocError, Global};
 use topo_types::{Body, ComponentEntry, StreamEntry};
 
+/// The most bytes of a name.
+const MAX_NAME: usize = 64;
+
 /// The numbers of so many copies, counted from 1.
 #[tactic(auto, using(crate::proofs::Walks::number_more))]
 pub(crate) fn numbers_to(alloc: Global, count: usize) -> Result<Vec<u32>, AllocError>
@@ -42,7 +45,7 @@ pub(crate) fn file_of(alloc: Global, name: &Str, number: u32) -> Result<Str, All
 fn is_long_name(name: &Str) -> bool
     ensures { result ≡ spec.is_long_name name.now }
 {
-    name.as_str().len() > 64
+    name.as_str().len() > MAX_NAME
 }
 
 // Whether a copy's name is too long.

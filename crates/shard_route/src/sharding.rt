@@ -83,7 +83,8 @@ fn with_copies(
     requires given { code.IsGiven request.now.topology.now request.now.modules.now }
     requires numbers { length copies.now ≡ length numbers.now }
     requires small { (i : ℕ) → Has i numbers.now → i < 10 }
-    ensures { Answers (spec.with_copies request.now.topology.now request.now.modules.now request.now.component.now numbers.now copies.now) result }
+    ensures writable { IfOk result (λ sharded. code.IsWritable sharded.topology) }
+    ensures answer { Answers (spec.with_copies request.now.topology.now request.now.modules.now request.now.component.now numbers.now copies.now) result }
 {
     let name = request.component;
     let components = request.topology.components.as_slice();
@@ -109,7 +110,8 @@ fn with_tests(
     requires ports { lacks request.now.column.now checked.now.form ≡ false }
     requires tests { (test : Formula) → Has test (map formula_of tests.now) → IsTestOf request.now.column.now test }
     requires few { length tests.now ≤ 8 }
-    ensures { Answers (spec.with_tests request.now.topology.now request.now.modules.now request.now.component.now checked.now (map formula_of tests.now)) result }
+    ensures writable { IfOk result (λ sharded. code.IsWritable sharded.topology) }
+    ensures answer { Answers (spec.with_tests request.now.topology.now request.now.modules.now request.now.component.now checked.now (map formula_of tests.now)) result }
 {
     let copies = copies_for(alloc, checked, request.column, tests)?;
     let numbers = numbers_to(alloc, tests.len())?;
@@ -140,7 +142,8 @@ fn with_module(
     requires number { number < length valid.now.view.components }
     requires program { program.now ≡ Module checked.now }
     requires few { length request.now.bounds.now ≤ 7 }
-    ensures { Answers (spec.with_module request.now.topology.now request.now.modules.now (record { component = request.now.component.now; column = request.now.column.now; bounds = request.now.bounds.now }) number checked.now) result }
+    ensures writable { IfOk result (λ sharded. code.IsWritable sharded.topology) }
+    ensures answer { Answers (spec.with_module request.now.topology.now request.now.modules.now (record { component = request.now.component.now; column = request.now.column.now; bounds = request.now.bounds.now }) number checked.now) result }
 {
     if is_in_cycle(valid, number) {
         return Err(ShardFault::InCycle);
@@ -166,7 +169,8 @@ fn with_program(
     requires view { valid.now.view ≡ view_of request.now.topology.now request.now.modules.now }
     requires number { number < length valid.now.view.components }
     requires few { length request.now.bounds.now ≤ 7 }
-    ensures { Answers (spec.with_program request.now.topology.now request.now.modules.now (record { component = request.now.component.now; column = request.now.column.now; bounds = request.now.bounds.now }) number (view.program_of valid.now.view number)) result }
+    ensures writable { IfOk result (λ sharded. code.IsWritable sharded.topology) }
+    ensures answer { Answers (spec.with_program request.now.topology.now request.now.modules.now (record { component = request.now.component.now; column = request.now.column.now; bounds = request.now.bounds.now }) number (view.program_of valid.now.view number)) result }
 {
     match valid.program(number) {
         Some(program) => match program {
@@ -186,7 +190,8 @@ fn with_valid(alloc: Global, request: &Request<'_>, valid: &Valid) -> Result<Sha
     requires given { code.IsGiven request.now.topology.now request.now.modules.now }
     requires view { valid.now.view ≡ view_of request.now.topology.now request.now.modules.now }
     requires few { length request.now.bounds.now ≤ 7 }
-    ensures { Answers (spec.sharded request.now.topology.now request.now.modules.now (record { component = request.now.component.now; column = request.now.column.now; bounds = request.now.bounds.now })) result }
+    ensures writable { IfOk result (λ sharded. code.IsWritable sharded.topology) }
+    ensures answer { Answers (spec.sharded request.now.topology.now request.now.modules.now (record { component = request.now.component.now; column = request.now.column.now; bounds = request.now.bounds.now })) result }
 {
     match valid.find_component(request.component) {
         Some(number) => with_program(alloc, request, valid, number),
@@ -214,7 +219,9 @@ pub fn shard(
     requires accepted { fault_of topology.now modules.now ≡ None }
     requires some { 1 ≤ length bounds.now }
     requires few { length bounds.now ≤ 7 }
-    ensures { Answers (spec.sharded topology.now modules.now (record { component = component.now; column = column.now; bounds = bounds.now })) result }
+    ensures answer { Answers (spec.sharded topology.now modules.now (record { component = component.now; column = column.now; bounds = bounds.now })) result }
+    ensures allowed { IfOk result (λ sharded. IsAllowed sharded.topology) }
+    ensures format { IfOk result (λ sharded. sharded.topology.format ≡ 2) }
 {
     let request = Request {
         topology,

@@ -20,3 +20,7 @@ Passes t modules (Ok nothing) = fault_of t modules ≡ None
 Passes t modules (Err (fault.Topology found)) = fault_of t modules ≡ Some found
 Passes t modules (Err fault.NoMemory) = Unit {0}
 Passes t modules (Err other) = ⊥
+
+-- a topology that can be written as a file
+abbrev pub IsWritable : Topology → Type 0
+IsWritable t = IsAllowed t × (t.format ≡ 2)

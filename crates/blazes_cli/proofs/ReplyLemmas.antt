@@ -3,17 +3,18 @@ use Rattle.std.proofs.Common.{◌≡◌, ◌≢◌, ◌∙◌, ◌<◌, ◌⊎�
 use Rattle.blz_outside.specs.Counts.{Rose}
 use Rattle.blz_outside.specs.Files.{FileMap}
 use Rattle.blz_boxes.specs.declared.kind.ProgramKind.{ProgramKind}
-use Rattle.blazes_cli.specs.Bench.{BenchStates}
-use Rattle.blazes_cli.specs.Script.{Bytes, Script, Ending, IsFailed}
-use Rattle.blazes_cli.specs.Script.Ending.{gave, refused, failed}
-use Rattle.blazes_cli.specs.Ends.{FilesStates, Came, Ends, ended}
-use Rattle.blazes_cli.specs.Words.{Asked, request_of}
-use Rattle.blazes_cli.specs.Commands.{Answer, Work, script}
-use Rattle.blazes_cli.specs.Commands.Work.{labelled, derived, planned, ran}
-use Rattle.blazes_cli.specs.Answer.{Answers, IsReply}
+use Rattle.blazes_commands.specs.Bench.{BenchStates}
+use Rattle.blazes_commands.specs.Script.{Bytes, Script, Ending, IsFailed}
+use Rattle.blazes_commands.specs.Script.Ending.{gave, refused, failed}
+use Rattle.blazes_commands.specs.Ends.{FilesStates, Came, Ends, ended}
+use Rattle.blazes_commands.specs.Words.{Asked, request_of}
+use Rattle.blazes_commands.specs.Commands.{Answer, Work, script}
+use Rattle.blazes_commands.specs.Commands.Work.{labelled, derived, planned, ran, made, soaked, sharded}
+use Rattle.blazes_commands.specs.Answer.{Answers}
+use Rattle.blazes_cli.specs.Answer.{IsReply}
 use Rattle.blazes_cli.specs.Outcome.{SinkStates, WroteAll, IsSaid, IsOutcome, IsUsageOrLost, IsReadFaultOrLost}
-use Rattle.blazes_cli.specs.declared.status.Status.{Status}
-use Rattle.blazes_cli.specs.declared.status.Status.TheVariants.{Done, Refused, Usage, ReadFault, WriteFault, Incomplete, NoMemory}
+use Rattle.blazes_commands.specs.declared.status.Status.{Status}
+use Rattle.blazes_commands.specs.declared.status.Status.TheVariants.{Done, Refused, Usage, ReadFault, WriteFault, Incomplete, NoMemory}
 use Rattle.blazes_cli.proofs.SteadyLemmas.{steady_ends}
 
 -- the statuses that there may be at the end of a script
@@ -21,7 +22,10 @@ abbrev IsStatusAt : Ending Work → Status → Type 0
 IsStatusAt (gave (labelled t)) status = status ≡ Done
 IsStatusAt (gave (derived t)) status = status ≡ Done
 IsStatusAt (gave (planned t)) status = status ≡ Done
+IsStatusAt (gave (soaked batches v given events)) status = status ≡ Done
+IsStatusAt (gave (sharded t)) status = status ≡ Done
 IsStatusAt (gave (ran v given x)) status = (status ≡ Done) ⊎ (status ≡ Incomplete)
+IsStatusAt (gave (made v given events)) status = (status ≡ Done) ⊎ (status ≡ Incomplete)
 IsStatusAt (refused line) status = status ≡ Refused
 IsStatusAt (failed name) status = status ≡ ReadFault
 
@@ -29,7 +33,13 @@ status_of_answer : (e : Ending Work) (bench : BenchStates) (answer : Answer) →
 status_of_answer (gave (labelled t)) bench answer has = ap (λ a. a.status) has.says
 status_of_answer (gave (derived t)) bench answer has = ap (λ a. a.status) has.says
 status_of_answer (gave (planned t)) bench answer has = has.status
+status_of_answer (gave (soaked batches v given events)) bench answer has = ap (λ a. a.status) has.summary.says
+status_of_answer (gave (sharded t)) bench answer has = ap (λ a. a.status) has.says
 status_of_answer (gave (ran v given x)) bench answer has = elim has.contents.status [
+  | inl done ↦ inl done.0
+  | inr not_done ↦ inr not_done.0
+]
+status_of_answer (gave (made v given events)) bench answer has = elim has.status [
   | inl done ↦ inl done.0
   | inr not_done ↦ inr not_done.0
 ]
@@ -50,7 +60,13 @@ counts_at : (files : FilesStates) (s : Script Work) (e : Ending Work) (status : 
 counts_at files s (gave (labelled t)) status came is = subst (CountsAs files) (sym is) came.counts
 counts_at files s (gave (derived t)) status came is = subst (CountsAs files) (sym is) came.counts
 counts_at files s (gave (planned t)) status came is = subst (CountsAs files) (sym is) came.counts
+counts_at files s (gave (soaked batches v given events)) status came is = subst (CountsAs files) (sym is) came.counts
+counts_at files s (gave (sharded t)) status came is = subst (CountsAs files) (sym is) came.counts
 counts_at files s (gave (ran v given x)) status came is = elim is [
+  | inl done ↦ subst (CountsAs files) (sym done) came.counts
+  | inr not_done ↦ subst (CountsAs files) (sym not_done) came.counts
+]
+counts_at files s (gave (made v given events)) status came is = elim is [
   | inl done ↦ subst (CountsAs files) (sym done) came.counts
   | inr not_done ↦ subst (CountsAs files) (sym not_done) came.counts
 ]
@@ -68,7 +84,13 @@ not_usage : (e : Ending Work) (status : Status) → IsStatusAt e status → stat
 not_usage (gave (labelled t)) status at is = cc
 not_usage (gave (derived t)) status at is = cc
 not_usage (gave (planned t)) status at is = cc
+not_usage (gave (soaked batches v given events)) status at is = cc
+not_usage (gave (sharded t)) status at is = cc
 not_usage (gave (ran v given x)) status at is = elim at [
+  | inl done ↦ cc
+  | inr not_done ↦ cc
+]
+not_usage (gave (made v given events)) status at is = elim at [
   | inl done ↦ cc
   | inr not_done ↦ cc
 ]
@@ -89,7 +111,13 @@ read_failed : (e : Ending Work) (status : Status) → IsStatusAt e status → st
 read_failed (gave (labelled t)) status at is = absurd (cc)
 read_failed (gave (derived t)) status at is = absurd (cc)
 read_failed (gave (planned t)) status at is = absurd (cc)
+read_failed (gave (soaked batches v given events)) status at is = absurd (cc)
+read_failed (gave (sharded t)) status at is = absurd (cc)
 read_failed (gave (ran v given x)) status at is = elim at [
+  | inl done ↦ absurd (cc)
+  | inr not_done ↦ absurd (cc)
+]
+read_failed (gave (made v given events)) status at is = elim at [
   | inl done ↦ absurd (cc)
   | inr not_done ↦ absurd (cc)
 ]

@@ -1,10 +1,3 @@
-pub mod Script
-pub mod Ends
-pub mod Words
 pub mod Lines
-pub mod Checks
-pub mod Bench
-pub mod Commands
 pub mod Answer
 pub mod Outcome
-pub mod Code

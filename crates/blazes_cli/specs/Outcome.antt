@@ -4,14 +4,14 @@ use Rattle.blz_outside.specs.Counts.{Rose}
 use Rattle.blz_outside.specs.Files.{FileMap}
 use Rattle.blz_outside.specs.Sink.{Grows, Falls}
 use Rattle.blz_boxes.specs.declared.kind.ProgramKind.{ProgramKind}
-use Rattle.blazes_cli.specs.Bench.{BenchStates}
-use Rattle.blazes_cli.specs.Script.{Bytes, IsFailed}
-use Rattle.blazes_cli.specs.Ends.{FilesStates, ended}
-use Rattle.blazes_cli.specs.Words.{request_of}
-use Rattle.blazes_cli.specs.Commands.{Answer, script}
+use Rattle.blazes_commands.specs.Bench.{BenchStates}
+use Rattle.blazes_commands.specs.Script.{Bytes, IsFailed}
+use Rattle.blazes_commands.specs.Ends.{FilesStates, ended}
+use Rattle.blazes_commands.specs.Words.{request_of}
+use Rattle.blazes_commands.specs.Commands.{Answer, script}
 use Rattle.blazes_cli.specs.Answer.{IsReply}
-use Rattle.blazes_cli.specs.declared.status.Status.{Status}
-use Rattle.blazes_cli.specs.declared.status.Status.TheVariants.{Done, Refused, Usage, ReadFault, WriteFault, Incomplete, NoMemory}
+use Rattle.blazes_commands.specs.declared.status.Status.{Status}
+use Rattle.blazes_commands.specs.declared.status.Status.TheVariants.{Done, Refused, Usage, ReadFault, WriteFault, Incomplete, NoMemory}
 
 -- a sink before and after the call
 pub record SinkStates : Type 0 where
@@ -80,13 +80,3 @@ IsReadFaultOrLost Done = ⊥
 IsReadFaultOrLost Refused = ⊥
 IsReadFaultOrLost Usage = ⊥
 IsReadFaultOrLost Incomplete = ⊥
-
--- the exit status of the process
-abbrev pub code_of : Status → ℕ
-code_of Done = 0
-code_of Refused = 1
-code_of Usage = 2
-code_of ReadFault = 3
-code_of WriteFault = 4
-code_of Incomplete = 5
-code_of NoMemory = 6

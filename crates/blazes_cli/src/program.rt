@@ -1,23 +1,16 @@
 //! The call that the program makes.
 ghost use Rattle.std.specs.Prelude.{◌≡◌, ◌≢◌, ◌<◌, None, Some, IfOk, IfSome, IsTrue, map, string_bytes};
 ghost use Rattle.blz_outside.specs.Counts.{Rose};
+ghost use Rattle.blazes_commands.specs.Bench.{bench_states, HasSameKinds};
+ghost use Rattle.blazes_commands.specs.Code.Ran.{answer_of};
+ghost use Rattle.blazes_commands.specs.Code.Requests.{asked_by};
+ghost use Rattle.blazes_commands.specs.Ends.{files_states, source};
+ghost use Rattle.blazes_commands.specs.Words.{IsWithin, request_of};
 ghost use Rattle.blazes_cli.specs.Answer.{IsReply};
-ghost use Rattle.blazes_cli.specs.Bench.{bench_states, HasSameKinds};
-ghost use Rattle.blazes_cli.specs.Code.Ran.{RepliesTo, answer_of};
-ghost use Rattle.blazes_cli.specs.Code.Requests.{asked_by};
-ghost use Rattle.blazes_cli.specs.Code.Runs.{KeepsKinds};
-ghost use Rattle.blazes_cli.specs.Ends.{files_states, source};
 ghost use Rattle.blazes_cli.specs.Lines.{usage_line};
 ghost use Rattle.blazes_cli.specs.Outcome.{sink_states, IsSaid, IsOutcome, IsUsageOrLost, IsReadFaultOrLost, Misses};
-ghost use Rattle.blazes_cli.specs.Words.{request_of};
 
-use crate::labelling::{derive, label};
-use crate::planning::plan;
-use crate::reply::{Reply, conclusion, line};
-use crate::running::run;
-use crate::status::Status;
-use crate::stop::Stop;
-use crate::words::{Request, request_of};
+use blazes_commands::{Reply, Request, Status, conclusion, line, outcome_of, request_of};
 use blz_boxes::Component;
 use blz_outside::{Files, Sink};
 use std::alloc::{AllocError, Global};
@@ -25,37 +18,13 @@ use std::alloc::{AllocError, Global};
 const USAGE: &str =
     "usage: blazes label|derive|plan TOPOLOGY | run TOPOLOGY DATA SCHEDULE | make TOPOLOGY DATA [--seed N] | soak [--seed N] [--count N] | shard TOPOLOGY COMPONENT COLUMN BOUND.. | restart TOPOLOGY DATA SCHEDULE | witness TOPOLOGY DATA SCHEDULE SCHEDULE | why TOPOLOGY DATA SCHEDULE STREAM REPLICA INDEX\n";
 
-fn outcome_of<F: Files>(
-    alloc: Global,
-    request: Request<'_>,
-    files: &mut F,
-    bench: &mut Vec<Box<dyn Component>>,
-) -> Result<Reply, Stop>
-    ensures replies { RepliesTo (asked_by request.entry)
-        (files_states (source (F.held files.old) (F.steady files.old) (F.faults files.old))
-        (source (F.held files.new) (F.steady files.new) (F.faults files.new)))
-        (bench_states (map (λ b. kind b) bench.old.items) (map (λ b. kind b) bench.new.items)
-        (map (λ b. loaded b) bench.new.items) (map (λ b. kept b) bench.new.items))
-        result }
-    ensures kinds { KeepsKinds
-        (bench_states (map (λ b. kind b) bench.old.items) (map (λ b. kind b) bench.new.items)
-        (map (λ b. loaded b) bench.new.items) (map (λ b. kept b) bench.new.items))
-        result }
-{
-    match request {
-        Request::Label { topology } => label(alloc, topology, files),
-        Request::Derive { topology } => derive(alloc, topology, files),
-        Request::Plan { topology } => plan(alloc, topology, files),
-        Request::Run(names) => run(alloc, names, files, bench),
-    }
-}
-
 fn answer<F: Files>(
     alloc: Global,
     request: Request<'_>,
     files: &mut F,
     bench: &mut Vec<Box<dyn Component>>,
 ) -> Result<Reply, AllocError>
+    requires { IsWithin (asked_by request) }
     ensures answered { IfOk result (λ reply. IsReply (Some (asked_by request.entry))
         (files_states (source (F.held files.old) (F.steady files.old) (F.faults files.old))
         (source (F.held files.new) (F.steady files.new) (F.faults files.new)))

@@ -140,6 +140,3 @@ impl<R: Print> Sink for RealSink<R> {
         outcome
     }
 }
-
-#[cfg(test)]
-mod tests;

@@ -2,7 +2,8 @@
 //! compares what is written with the files of labels and of derivations beside each. The words of the
 //! command line are the names of the examples. A word `NAME=PLANNED` asks whether the plan of one
 //! example is the topology of another, and a word `NAME:DATA:RUN` whether the topology NAME over the data
-//! DATA, under the schedule RUN, has the contents that are written beside the schedule.
+//! DATA, under the schedule RUN, has the contents that are written beside the schedule. A word
+//! `NAME:DATA:RUN@SEED` asks whether RUN is the schedule that is made of the seed.
 #![tactic(auto)]
 
 use anyhow::Result;
@@ -106,14 +107,53 @@ fn runs_so(rt: &HostRuntime, name: &str, data: &str, run: &str) -> Result<bool> 
     Ok(out.bytes() == beside.as_slice())
 }
 
-// What is found of a run of an example; the word behind its name has the data and the run.
-fn run_found(rt: &HostRuntime, name: &str, rest: &str) -> Result<&'static str> {
-    let (data, run) = rest.split_once(':').unwrap_or((rest, rest));
+// What is found of a run of an example.
+fn run_found(rt: &HostRuntime, name: &str, data: &str, run: &str) -> Result<&'static str> {
     Ok(if runs_so(rt, name, data, run)? {
         "has the contents of"
     } else {
         "hasn't the contents of"
     })
+}
+
+// Whether the schedule that a seed gives of an example is this one.
+fn makes_so(rt: &HostRuntime, name: &str, data: &str, run: &str, seed: &str) -> Result<bool> {
+    let alloc = rt.alloc();
+    let words = vec![in alloc;
+        String::from_str(alloc, "make")?,
+        format!(in alloc; "{name}.toml")?,
+        format!(in alloc; "{data}.json")?,
+        String::from_str(alloc, "--seed")?,
+        String::from_str(alloc, seed)?,
+    ]?;
+    let out = written_for(rt, &words)?;
+    let schedule = file_of(rt, run, "schedule")?;
+    Ok(out.bytes() == schedule.as_slice())
+}
+
+// What is found of a schedule of an example that a seed is to give.
+fn made_found(
+    rt: &HostRuntime,
+    name: &str,
+    data: &str,
+    run: &str,
+    seed: &str,
+) -> Result<&'static str> {
+    Ok(if makes_so(rt, name, data, run, seed)? {
+        "has the schedule of"
+    } else {
+        "hasn't the schedule of"
+    })
+}
+
+// What is found of an example over data; the word behind its name has the data, the run and perhaps a
+// seed.
+fn found_over_data(rt: &HostRuntime, name: &str, rest: &str) -> Result<&'static str> {
+    let (data, run) = rest.split_once(':').unwrap_or((rest, rest));
+    match run.split_once('@') {
+        Some((run, seed)) => made_found(rt, name, data, run, seed),
+        None => run_found(rt, name, data, run),
+    }
 }
 
 fn main(rt: HostRuntime) -> Result<()> {
@@ -122,7 +162,7 @@ fn main(rt: HostRuntime) -> Result<()> {
             let found = plan_found(&rt, name, planned)?;
             println!(rt; "{name} {found} {planned}")?;
         } else if let Some((name, rest)) = word.as_str().split_once(':') {
-            let found = run_found(&rt, name, rest)?;
+            let found = found_over_data(&rt, name, rest)?;
             println!(rt; "{name} {found} {rest}")?;
         } else {
             let found = labels_found(&rt, word.as_str())?;

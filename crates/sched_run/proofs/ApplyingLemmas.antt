@@ -1,5 +1,5 @@
 -- A line more: where its event is done, the net reaches one step more, and where it is refused, the schedule is.
-use Rattle.std.proofs.Common.{◌≡◌, ◌≢◌, ◌∙◌, ◌+◌, ◌<◌, ◌≤◌, ◌++◌, ℕ, List, [], ◌∷◌, Option, None, Some, map, take, drop, length, get_or, slice_get, append_assoc, append-nil, refl, sym, subst, ap, arith}
+use Rattle.std.proofs.Common.{◌≡◌, ◌≢◌, ◌∙◌, ◌+◌, ◌<◌, ◌≤◌, ◌++◌, ℕ, List, [], ◌∷◌, Option, None, Some, take, drop, length, get_or, append_assoc, append-nil, refl, sym, subst, ap}
 use Rattle.std.specs.Prelude.{Result, Ok, Err}
 use Rattle.std.specs.List.{fold}
 use Rattle.std.proofs.lemmas.List.{map-append, take_more, take_all, take-append-drop}
@@ -7,7 +7,6 @@ use Rattle.std.proofs.lemmas.List.Sums.{fold-append}
 use Rattle.std.proofs.lemmas.Option.{slice_get_read}
 use Rattle.bloom_ast.specs.declared.program.Program.{Program}
 use Rattle.bloom_ast.specs.Step.{Sets}
-use Rattle.sched_text.specs.declared.event.Event.{Event}
 use Rattle.topo_types.specs.Data.{Data}
 use Rattle.topo_types.specs.View.{View}
 use Rattle.inbox.specs.Events.{Step, event, Refusal}
@@ -16,14 +15,14 @@ use Rattle.inbox.specs.Wiring.{wiring_of}
 use Rattle.inbox.proofs.Executions.Appending.{legal_more}
 use Rattle.inbox.proofs.Executions.Results.{Ok_same}
 use Rattle.sched_run.specs.Answers.{Answers, answer_to, fault_of, fault_at}
-use Rattle.sched_run.specs.Applying.{Line, within, made_by, in_line, after_line, after_lines, steps_of, Reaches, StopsAt, Applied}
+use Rattle.sched_run.specs.Applying.{Line, within, made_by, in_line, after_line, after_lines, steps_of, Reaches, Applied}
 use Rattle.sched_run.specs.Limits.{Limit, limit_of_event}
 use Rattle.sched_run.specs.Net.{Stands, Runs, EventAnswers, EventLeaves, execution_in}
 use Rattle.sched_run.specs.Numbered.{numbered}
 use Rattle.sched_run.specs.declared.applying.EventRefusal.{EventRefusal}
 use Rattle.sched_run.specs.declared.books.Books.{Books}
 use Rattle.sched_run.specs.declared.fault.EventFault.{EventFault}
-use Rattle.sched_run.specs.declared.fault.EventFault.TheVariants.{NoInstance, NoMessage, NothingToTake, TooManyRows, TooManyMessages, NoMemory}
+use Rattle.sched_run.specs.declared.fault.EventFault.TheVariants.{NoMemory}
 
 -- ---- one answer
 

@@ -1,5 +1,5 @@
 -- What the shell at the place of an instance emits is what the execution says, with the limit that it meets first.
-use Rattle.std.proofs.Common.{◌≡◌, ◌<◌, ◌-◌, ℕ, Option, None, Some, List, length, set, get_or, refl, ap, sym, subst, ◌∙◌, arith}
+use Rattle.std.proofs.Common.{◌≡◌, ◌<◌, ◌-◌, ℕ, Option, None, Some, List, length, set, get_or, refl, ap, sym, subst, ◌∙◌}
 use Rattle.std.specs.Prelude.{IsSome}
 use Rattle.std.specs.List.{All}
 use Rattle.bloom_ast.specs.declared.program.Program.{Program}
@@ -8,7 +8,6 @@ use Rattle.topo_types.specs.Data.{Data}
 use Rattle.topo_types.specs.Messages.{Message}
 use Rattle.topo_types.specs.Valid.{IsValid}
 use Rattle.topo_types.specs.View.{View, program_of, replicas_of}
-use Rattle.blz_value.specs.Members.{Has}
 use Rattle.blz_value.proofs.Membership.{Has-get_or}
 use Rattle.inbox.specs.Emission.{Kept, emit}
 use Rattle.inbox.specs.Events.{Step}
@@ -25,7 +24,6 @@ use Rattle.sched_run.specs.Places.{instance_place}
 use Rattle.sched_run.specs.Code.Hearing.{EmitsAt, MeetsAt}
 use Rattle.sched_run.specs.Code.Running.{IsCourseOf, outputs_of_outlets}
 use Rattle.sched_run.specs.declared.books.Books.{Books}
-use Rattle.sched_run.specs.declared.outlets.Outlet.{Outlet}
 use Rattle.sched_run.proofs.ListsLemmas.{length-read_lists}
 use Rattle.sched_run.proofs.OwnOutlets.{outlets_are, outlets_there}
 use Rattle.sched_run.proofs.PlacesLemmas.{place-before}

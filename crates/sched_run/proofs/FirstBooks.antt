@@ -1,6 +1,5 @@
 -- The books of a net that made no step stand, and so does the net with its shells.
-use Rattle.std.proofs.Common.{◌≡◌, ◌<◌, ◌≤◌, ◌+◌, ◌++◌, ℕ, zero, suc, Option, None, Some, Bool, false, List, [], ◌∷◌, length, map, replicate, get_or, refl, ap, ◌∙◌, sym, subst, inl, inr, arith, Vec, Global}
-use Rattle.std.specs.Prelude.{IsSome}
+use Rattle.std.proofs.Common.{◌≡◌, ◌<◌, ◌≤◌, ◌++◌, ℕ, zero, suc, Option, None, Some, Bool, false, List, [], ◌∷◌, length, map, replicate, get_or, refl, ap, ◌∙◌, sym, subst, inl, inr, arith}
 use Rattle.std.specs.List.Sorted.{IsPermutation}
 use Rattle.std.proofs.lemmas.Bool.{cases_lt}
 use Rattle.std.proofs.lemmas.List.{get_or-map, length-map, map-append, length-replicate, get_or-replicate}
@@ -11,25 +10,24 @@ use Rattle.blz_value.proofs.Membership.{Has-get_or}
 use Rattle.bloom_ast.specs.declared.program.Program.{Program}
 use Rattle.bloom_ast.specs.Step.{Sets}
 use Rattle.blz_boxes.specs.Step.{nothing_kept}
-use Rattle.topo_types.specs.Data.{Data, IsData, source_data}
+use Rattle.topo_types.specs.Data.{Data, IsData}
 use Rattle.topo_types.specs.Messages.{Message}
 use Rattle.topo_types.specs.Valid.{IsValid}
-use Rattle.topo_types.specs.View.{View, End, senders_of, origin_of, program_of, replicas_of, source_count, stream_replicas}
-use Rattle.inbox.specs.Emission.{first_tables, list_of, nothing_emitted}
+use Rattle.topo_types.specs.View.{View, End, senders_of, origin_of, program_of, replicas_of, source_count}
+use Rattle.inbox.specs.Emission.{first_tables}
 use Rattle.inbox.specs.Instances.{Instance}
 use Rattle.inbox.specs.Log.{EntryId, AreGiven, entries_with_ids}
-use Rattle.inbox.specs.Wiring.{wiring_of, instance_at, instance_for}
+use Rattle.inbox.specs.Wiring.{wiring_of, instance_at}
 use Rattle.inbox.proofs.Executions.Standing.{first_seats, stands_first}
 use Rattle.inbox.proofs.WiringLemmas.{instance-wired}
-use Rattle.sched_run.specs.Bench.{instance_components, first_without_body, fault_of_short, fault_of_bodies, taken_by, left_by}
-use Rattle.sched_run.specs.Lists.{Listed, IsExact, read_lists, list_at}
-use Rattle.sched_run.specs.Net.{ArePlaces, ShowSeats, ShowLogs, BooksStand, Stands}
-use Rattle.sched_run.specs.Places.{instance_place, instance_count, list_place}
+use Rattle.sched_run.specs.Bench.{instance_components, first_without_body, fault_of_bodies, taken_by, left_by}
+use Rattle.sched_run.specs.Lists.{IsExact, read_lists, list_at}
+use Rattle.sched_run.specs.Net.{ArePlaces, ShowLogs, Stands}
+use Rattle.sched_run.specs.Places.{instance_place, instance_count}
 use Rattle.sched_run.specs.Shown.{ShowsSeats}
 use Rattle.sched_run.specs.Code.First.{AreFirst, AllHaveBodies, StandFirst}
 use Rattle.sched_run.specs.Code.Sources.{SourcesEmitted}
 use Rattle.sched_run.specs.declared.books.Books.{Books}
-use Rattle.sched_run.specs.declared.fault.OpenFault.{OpenFault}
 use Rattle.sched_run.proofs.PlacesLemmas.{place-before}
 use Rattle.sched_run.proofs.ShellsLemmas.{component_at_place, many_components}
 use Rattle.sched_run.proofs.TakingLemmas.{all_have_bodies, all_taken}

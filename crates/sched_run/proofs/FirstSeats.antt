@@ -1,25 +1,19 @@
 -- The books of the instances at the start, one instance after the other, and of a net that made no step.
-use Rattle.std.proofs.Common.{◌≡◌, ◌≢◌, ◌<◌, ◌≤◌, ◌+◌, ℕ, zero, suc, Option, None, Some, true, false, List, [], ◌∷◌, ◌++◌, length, map, replicate, get_or, slice_get, refl, ap, ◌∙◌, sym, subst, inl, inr, ◌⊎◌, arith, length-append, cond}
-use Rattle.std.specs.Prelude.{IsSome}
-use Rattle.std.specs.BTreeSet.{BTreeSet}
+use Rattle.std.proofs.Common.{◌≡◌, ◌<◌, ◌+◌, ℕ, zero, suc, Some, false, List, [], ◌∷◌, ◌++◌, length, slice_get, refl, ap, ◌∙◌, sym, subst, inl, inr, ◌⊎◌, arith, cond}
 use Rattle.blz_value.specs.Members.{Has}
 use Rattle.blz_value.specs.Record.{Row}
 use Rattle.fd_closure.specs.declared.attrs.Attrs.{Attrs}
 use Rattle.topo_types.specs.Feeds.{feeds, log_feeds}
-use Rattle.topo_types.specs.Valid.{IsValid}
 use Rattle.topo_types.specs.View.{View, is_order, is_order_mode, replicas_of}
 use Rattle.topo_types.specs.declared.mode.Mode.{Mode}
 use Rattle.topo_types.specs.declared.mode.Mode.TheVariants.{Free, Pass, Seal}
-use Rattle.inbox.specs.Growth.{feed_numbered}
 use Rattle.inbox.specs.Inbox.{HasHeard, IsFrom, feeds_in}
-use Rattle.inbox.specs.Log.{EntryId, AreGiven, entries_with_ids}
-use Rattle.inbox.specs.Wiring.{instance_for, feeds_for, wiring_of}
+use Rattle.inbox.specs.Wiring.{instance_for}
 use Rattle.inbox.specs.declared.inbox.Inbox.{Inbox}
-use Rattle.sched_run.specs.Lists.{Listed, read_lists, list_at}
-use Rattle.sched_run.specs.Net.{KnowsHeard, ShowsInbox, ShowsEar, ShowsSeat}
-use Rattle.sched_run.specs.Places.{places_before, instance_place}
-use Rattle.sched_run.specs.Code.First.{first_seat, HeardNothing, IsFirst, AreFirst}
-use Rattle.sched_run.specs.declared.seated.Ear.{Ear}
+use Rattle.sched_run.specs.Lists.{Listed}
+use Rattle.sched_run.specs.Net.{ShowsInbox}
+use Rattle.sched_run.specs.Places.{instance_place}
+use Rattle.sched_run.specs.Code.First.{first_seat, IsFirst, AreFirst}
 use Rattle.sched_run.specs.declared.seated.Seated.{Seated}
 use Rattle.sched_run.proofs.PlacesLemmas.{one_place, before-more}
 

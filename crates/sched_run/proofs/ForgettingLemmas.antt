@@ -16,7 +16,7 @@ use Rattle.inbox.specs.Executions.{Execution, with_lives, after_step}
 use Rattle.inbox.specs.Instances.{Instance}
 use Rattle.inbox.specs.Lives.{forget_all}
 use Rattle.inbox.specs.Standing.{Seat, Seats}
-use Rattle.inbox.specs.Wiring.{instance_at, instance_for, is_there, wiring_of}
+use Rattle.inbox.specs.Wiring.{instance_at, instance_for, wiring_of}
 use Rattle.inbox.proofs.Executions.Standing.{seat_forgets}
 use Rattle.inbox.proofs.Lists.Growing.{continues_itself}
 use Rattle.inbox.proofs.WiringLemmas.{instance-wired}

@@ -1,5 +1,5 @@
 -- An ear that heard a batch stands for what was heard with it, by the lists and the pool from which it came and by later ones.
-use Rattle.std.proofs.Common.{◌≡◌, ◌<◌, ◌≤◌, ℕ, zero, suc, Bool, true, false, Some, List, [], ◌∷◌, ◌++◌, length, get_or, slice_get, refl, ap, ◌∙◌, sym, subst, inl, inr, ◌⊎◌, arith, append-nil}
+use Rattle.std.proofs.Common.{◌≡◌, ◌<◌, ℕ, zero, suc, Bool, true, false, Some, List, [], ◌∷◌, ◌++◌, length, get_or, slice_get, refl, ap, ◌∙◌, sym, subst, inl, inr, arith, append-nil}
 use Rattle.std.specs.BTreeSet.{BTreeSet}
 use Rattle.std.specs.List.{All}
 use Rattle.std.proofs.lemmas.Grind.{flat_map-append}
@@ -23,8 +23,8 @@ use Rattle.inbox.specs.declared.inbox.Inbox.{Inbox}
 use Rattle.inbox.specs.declared.message.Message.{Message as IdMessage}
 use Rattle.inbox.proofs.Keeping.Later.{stands_later, keeps_later}
 use Rattle.sched_run.specs.Lists.{Listed, read_lists}
-use Rattle.sched_run.specs.Net.{KnowsHeard, ShowsInbox, ShowsEar, ShowsSeat, list_on}
-use Rattle.sched_run.specs.Code.Hearing.{EarCanHear, CanHear, InboxHears, KnowsMore, EarHears, SeatHears}
+use Rattle.sched_run.specs.Net.{KnowsHeard, ShowsEar, ShowsSeat, list_on}
+use Rattle.sched_run.specs.Code.Hearing.{EarCanHear, InboxHears, KnowsMore, EarHears, SeatHears}
 use Rattle.sched_run.specs.Code.Parts.{HaveIndexes}
 use Rattle.sched_run.specs.declared.seated.Ear.{Ear}
 use Rattle.sched_run.specs.declared.seated.Ear.TheVariants.{Hears, Takes}

@@ -1,6 +1,6 @@
 -- A hearing as it is called: the place, the lists and what is set off are those of the instance, so what the calls answer is what the event does.
-use Rattle.std.proofs.Common.{◌≡◌, ◌<◌, ℕ, true, Option, None, List, [], length, map, get_or, ap, ◌∙◌, sym, subst}
-use Rattle.std.specs.Prelude.{Result, Ok, Err, IsSome}
+use Rattle.std.proofs.Common.{◌≡◌, ◌<◌, ℕ, true, Option, None, List, length, map, get_or, ◌∙◌, sym, subst}
+use Rattle.std.specs.Prelude.{Ok, Err, IsSome}
 use Rattle.std.specs.List.{All}
 use Rattle.blz_boxes.specs.Step.{Arrive}
 use Rattle.blz_pool.specs.Pool.{IsPool}

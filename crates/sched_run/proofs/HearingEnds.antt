@@ -1,25 +1,24 @@
 -- How a hearing ends: refused, at a limit, without memory, or done; and what it leaves once a fault has ended the net.
-use Rattle.std.proofs.Common.{◌≡◌, ◌<◌, ℕ, true, false, Option, List, [], ◌∷◌, ◌++◌, length, refl, ap, ◌∙◌, sym, subst}
+use Rattle.std.proofs.Common.{◌≡◌, ℕ, true, false, Option, List, [], ◌∷◌, ◌++◌, refl, ap, ◌∙◌, sym, subst}
 use Rattle.std.specs.Prelude.{Result, Ok, Err}
 use Rattle.bloom_ast.specs.declared.program.Program.{Program}
 use Rattle.bloom_ast.specs.Step.{Sets}
 use Rattle.topo_types.specs.Data.{Data}
-use Rattle.topo_types.specs.Messages.{Message}
 use Rattle.topo_types.specs.View.{View}
 use Rattle.inbox.specs.Wiring.{wiring_of, instance_at}
-use Rattle.inbox.specs.Executions.{Execution, is_hearing, after_hearing, after_event, pairs_of}
+use Rattle.inbox.specs.Executions.{is_hearing, pairs_of}
 use Rattle.inbox.specs.Events.{Part, Event, deliver, batch, Step, event, Refusal, no_instance, no_message}
 use Rattle.inbox.specs.declared.message.Message.{Message as IdMessage}
-use Rattle.sched_run.specs.Answers.{Answers, answer_to, fault_of, fault_at}
-use Rattle.sched_run.specs.Limits.{Limit, too_many_rows, too_many_messages, limit_of_event}
+use Rattle.sched_run.specs.Answers.{answer_to, fault_of}
+use Rattle.sched_run.specs.Limits.{limit_of_event}
 use Rattle.sched_run.specs.Net.{Stands, execution_in, EventLeaves}
-use Rattle.sched_run.specs.Code.Hearing.{IsHearingOf, HearingAnswers, HearingLeaves, EventLeavesOpen, LeavesOpen, EndsAt}
+use Rattle.sched_run.specs.Code.Hearing.{IsHearingOf, HearingAnswers, HearingLeaves, EventLeavesOpen, EndsAt}
 use Rattle.sched_run.specs.Code.Ids.{IsLegal}
-use Rattle.sched_run.specs.Code.Parts.{PairsAnswer, hears_itself}
+use Rattle.sched_run.specs.Code.Parts.{PairsAnswer}
 use Rattle.sched_run.specs.declared.books.Books.{Books}
 use Rattle.sched_run.specs.declared.fault.EventFault.{EventFault}
 use Rattle.sched_run.specs.declared.fault.EventFault.TheVariants.{NoInstance, NoMessage, NothingToTake, TooManyRows, TooManyMessages, NoMemory}
-use Rattle.sched_run.proofs.HearingTests.{hearing_holds, hearing_refused, after_none, after_refused}
+use Rattle.sched_run.proofs.HearingTests.{after_none, after_refused}
 
 -- ---- events that are hearings
 

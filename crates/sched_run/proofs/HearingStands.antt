@@ -2,7 +2,7 @@
 -- The pairs of the parts are those of the execution; so the event is legal, and its timesteps arrive at what the component runs.
 -- The shell and the lists take the course of the instance (Emits), or meet its limit (MeetsFirst).
 -- Then the seats with the one that heard stand for the step (hearing_lifts), and the books show them, each by the later pool and the longer lists.
-use Rattle.std.proofs.Common.{◌≡◌, ◌<◌, ◌-◌, ℕ, Bool, true, false, Option, None, Some, List, [], ◌∷◌, ◌++◌, length, map, set, get_or, slice_get, refl, ap, ◌∙◌, sym, subst, arith}
+use Rattle.std.proofs.Common.{◌≡◌, ◌<◌, ◌-◌, ℕ, true, false, Option, None, Some, List, [], ◌∷◌, ◌++◌, length, map, set, get_or, slice_get, refl, ap, ◌∙◌, sym, subst}
 use Rattle.std.specs.Prelude.{Result, Ok, Err, IsSome}
 use Rattle.std.specs.List.{All}
 use Rattle.std.proofs.lemmas.List.{length-map, length-set, get_or-set_same}
@@ -15,26 +15,24 @@ use Rattle.blz_value.proofs.Membership.{Has-get_or}
 use Rattle.bloom_ast.specs.declared.program.Program.{Program}
 use Rattle.bloom_ast.specs.Step.{Sets}
 use Rattle.topo_types.specs.Data.{Data}
-use Rattle.topo_types.specs.Messages.{Message}
 use Rattle.topo_types.specs.Valid.{IsValid}
 use Rattle.topo_types.specs.View.{View, program_of, replicas_of}
-use Rattle.inbox.specs.Messages.{Batch, all_pairs}
+use Rattle.inbox.specs.Messages.{all_pairs}
 use Rattle.inbox.specs.Emission.{Kept, emit}
 use Rattle.inbox.specs.Ids.{IsGiven, batch_with_ids}
 use Rattle.inbox.specs.Instances.{Instance}
-use Rattle.inbox.specs.Lives.{hear_batch, kept_after}
+use Rattle.inbox.specs.Lives.{hear_batch}
 use Rattle.inbox.specs.Timesteps.{SetOff, set_off}
 use Rattle.inbox.specs.Wiring.{wiring_of, instance_at, instance_for, feeds_for}
 use Rattle.inbox.specs.Growth.{Continues}
 use Rattle.inbox.specs.Executions.{Execution, with_lives, after_event, pairs_of}
-use Rattle.inbox.specs.Events.{Part, Event, batch, Step, event}
+use Rattle.inbox.specs.Events.{Part, Event, Step, event}
 use Rattle.inbox.specs.Pools.{IsLater}
-use Rattle.inbox.specs.Standing.{Seat, Seats, SeatStandsFor}
+use Rattle.inbox.specs.Standing.{Seat, SeatStandsFor}
 use Rattle.inbox.specs.declared.message.Message.{Message as IdMessage}
 use Rattle.inbox.proofs.Executions.Standing.{seat_hears}
 use Rattle.inbox.proofs.WiringLemmas.{instance-wired}
 use Rattle.sched_run.specs.Answers.{Answers, answer_to, answer_at, fault_at}
-use Rattle.sched_run.specs.Bench.{instance_components}
 use Rattle.sched_run.specs.Limits.{Limit, limit_of, limit_at, limit_of_event, limit_of_pairs, all_messages, messages_in, outputs_from}
 use Rattle.sched_run.specs.Lists.{IsExact, read_lists}
 use Rattle.sched_run.specs.Net.{BooksStand, BooksRun, Stands, ArePlaces, ShowsSeat, ShowSeats, ShowLogs, execution_in}
@@ -43,12 +41,12 @@ use Rattle.sched_run.specs.Places.{instance_place, instance_count, list_count}
 use Rattle.sched_run.specs.Seated.{with_seat}
 use Rattle.sched_run.specs.Code.Hearing.{EarCanHear, SeatHears, OneHears, EmitsAt, MeetsAt, IsHearingOf}
 use Rattle.sched_run.specs.Code.Parts.{HaveIndexes, hears_itself}
-use Rattle.sched_run.specs.Code.Running.{Emits, MeetsFirst, IsCourseOf, HasEmitted, outputs_of_outlets}
+use Rattle.sched_run.specs.Code.Running.{Emits, IsCourseOf, HasEmitted, outputs_of_outlets}
 use Rattle.sched_run.specs.declared.books.Books.{Books}
 use Rattle.sched_run.specs.declared.outlets.Outlet.{Outlet}
 use Rattle.sched_run.specs.declared.seated.Seated.{Seated}
 use Rattle.sched_run.proofs.ArrivingLemmas.{hearing_arrives}
-use Rattle.sched_run.proofs.HearingTests.{HearsItself, hears_is, mode-wired, hearing_holds, after_heard}
+use Rattle.sched_run.proofs.HearingTests.{hears_is, mode-wired, hearing_holds, after_heard}
 use Rattle.sched_run.proofs.HeardBatch.{ear_can, ear_sets, seat_after}
 use Rattle.sched_run.proofs.Lifting.{Lifts, hearing_lifts}
 use Rattle.sched_run.proofs.ListsLemmas.{length-read_lists}

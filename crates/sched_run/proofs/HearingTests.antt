@@ -1,7 +1,7 @@
 -- Which instances hear messages themselves, and what an event that is a hearing makes of an execution.
-use Rattle.std.proofs.Common.{◌≡◌, ◌<◌, ◌≤◌, ◌&&◌, ℕ, not, nat_lt, Bool, true, false, List, [], ◌∷◌, length, map, refl, ap, ◌∙◌, sym, subst, inl, inr, arith}
+use Rattle.std.proofs.Common.{◌≡◌, ◌<◌, ◌≤◌, ◌&&◌, ℕ, not, nat_lt, true, false, List, [], ◌∷◌, length, map, refl, ap, ◌∙◌, sym, subst, inl, inr, arith}
 use Rattle.std.specs.Prelude.{Result, Ok, Err, if◌then◌else◌}
-use Rattle.std.proofs.lemmas.Bool.{cases_Bool, cases_lt, ltb-true, not-true, and_parts}
+use Rattle.std.proofs.lemmas.Bool.{cases_lt, ltb-true, not-true, and_parts}
 use Rattle.std.proofs.lemmas.Bool.Decides.{nat_tests}
 use Rattle.std.proofs.lemmas.List.{get_or_past}
 use Rattle.topo_types.specs.Data.{Data}
@@ -12,7 +12,7 @@ use Rattle.inbox.specs.Messages.{Batch}
 use Rattle.inbox.specs.Lives.{hear_batch}
 use Rattle.inbox.specs.Wiring.{wiring_of, instances_at, instance_at, instance_for, is_there}
 use Rattle.inbox.specs.Executions.{Execution, with_lives, is_hearing, after_hearing, pairs_of, result_and_then}
-use Rattle.inbox.specs.Events.{Part, Refusal, no_instance, no_message}
+use Rattle.inbox.specs.Events.{Part, Refusal, no_instance}
 use Rattle.inbox.proofs.WiringLemmas.{instance-wired, there-wired, length-below}
 use Rattle.sched_run.specs.Code.Parts.{hears_itself}
 use Rattle.sched_run.proofs.Showing.{is_there-true}

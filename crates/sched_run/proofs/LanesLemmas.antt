@@ -1,6 +1,6 @@
 -- The lanes and takers of a topology, one after another.
-use Rattle.std.proofs.Common.{◌≡◌, ◌<◌, ◌≤◌, ◌+◌, ◌==◌, ◌&&◌, ℕ, Bool, true, false, cond, List, [], ◌∷◌, ◌++◌, length, map, filter, take, get_or, append_assoc, append-nil, refl, ap, ◌∙◌, sym, subst, arith}
-use Rattle.std.specs.List.{enumerate_from, flat_map, range_with_len}
+use Rattle.std.proofs.Common.{◌≡◌, ◌<◌, ◌≤◌, ◌+◌, ℕ, Bool, true, false, cond, List, [], ◌∷◌, ◌++◌, length, map, filter, take, get_or, append_assoc, append-nil, refl, ap, ◌∙◌, sym, subst, arith}
+use Rattle.std.specs.List.{enumerate_from, flat_map}
 use Rattle.std.proofs.lemmas.Grind.{flat_map-append}
 use Rattle.std.proofs.lemmas.List.{length-take, map-append, take_more, take_all}
 use Rattle.std.proofs.lemmas.List.Elements.{filter-append}
@@ -10,13 +10,11 @@ use Rattle.blz_value.proofs.Membership.{Has-get_or}
 use Rattle.topo_types.specs.Feeds.{Feed}
 use Rattle.topo_types.specs.Sets.{below}
 use Rattle.topo_types.specs.Valid.{IsValid}
-use Rattle.topo_types.specs.View.{View, End, Stream, no_stream, stream_at, ends_of, replicas_of, is_order, is_order_mode}
+use Rattle.topo_types.specs.View.{View, End, Stream, no_stream, ends_of, replicas_of, is_order, is_order_mode}
 use Rattle.inbox.specs.Instances.{Instance}
-use Rattle.inbox.specs.Wiring.{Wiring, feeds_for, instance_at, instances_at, instance_for, is_sequencer, wiring_of}
-use Rattle.inbox.proofs.Ranges.{flat_below_more, map_below_more}
+use Rattle.inbox.specs.Wiring.{feeds_for, instance_at, instance_for, is_sequencer, wiring_of}
 use Rattle.inbox.proofs.WiringLemmas.{instance-wired, instances-wired, length-below}
 use Rattle.sched_run.specs.Made.{comes_at, feeds_here, instance_lanes, log_lanes, lanes_at, all_lanes, replicas_at, takers_at, all_takers}
-use Rattle.sched_run.specs.declared.making.lanes.Lane.{Lane}
 use Rattle.sched_run.specs.declared.making.lanes.Lane.TheVariants.{Deliver, Order}
 use Rattle.sched_run.specs.declared.making.lanes.Taker.{Taker}
 

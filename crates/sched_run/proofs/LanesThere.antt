@@ -1,18 +1,16 @@
 -- Each lane of a topology is one of its feeds, and each taker a replica of an Order component.
-use Rattle.std.proofs.Common.{◌≡◌, ◌<◌, ◌+◌, ◌==◌, ◌&&◌, ◌∷◌, ℕ, zero, suc, Bool, true, false, Option, Some, List, [], length, map, get_or, slice_get, refl, ap, ◌∙◌, sym, subst, inl, inr, arith, add-zero}
+use Rattle.std.proofs.Common.{◌≡◌, ◌<◌, ◌+◌, ◌∷◌, ℕ, suc, Bool, true, false, Some, List, [], length, map, get_or, slice_get, refl, ap, ◌∙◌, sym, subst, inl, inr, arith, add-zero}
 use Rattle.std.specs.Prelude.{if◌then◌else◌}
-use Rattle.std.specs.List.{All, enumerate_from, flat_map, range_with_len}
-use Rattle.std.proofs.lemmas.Bool.{and_parts, cases_Bool, eqb-true}
+use Rattle.std.specs.List.{All, enumerate_from, flat_map}
 use Rattle.std.proofs.lemmas.Option.{get_or_from_slice_get, slice_get_within}
 use Rattle.blz_value.specs.Members.{Has}
 use Rattle.blz_value.proofs.Membership.{Has-get_or, Has-from_filter, Has-from_flat_map, Has-from_map}
 use Rattle.topo_types.specs.Feeds.{Feed}
 use Rattle.topo_types.specs.Sets.{below}
 use Rattle.topo_types.specs.Valid.{IsValid}
-use Rattle.topo_types.specs.View.{View, End, Stream, no_stream, ends_of, replicas_of, is_order}
-use Rattle.inbox.specs.Instances.{Instance}
-use Rattle.inbox.specs.Wiring.{Wiring, feeds_for, instance_at, instance_for, is_sequencer, wiring_of}
-use Rattle.inbox.proofs.WiringLemmas.{instance-feeds, instance-wired}
+use Rattle.topo_types.specs.View.{View, End, Stream, no_stream, replicas_of, is_order}
+use Rattle.inbox.specs.Wiring.{Wiring, feeds_for, instance_at, is_sequencer, wiring_of}
+use Rattle.inbox.proofs.WiringLemmas.{instance-feeds}
 use Rattle.sched_run.specs.Made.{comes_at, feeds_here, instance_lanes, log_lanes, lanes_at, all_lanes, replicas_at, takers_at, all_takers}
 use Rattle.sched_run.specs.Code.Looking.{IsFeed, IsDelivery, IsOrdering, IsLane, IsTaker}
 use Rattle.sched_run.specs.declared.making.lanes.Lane.{Lane}

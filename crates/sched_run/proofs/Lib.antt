@@ -68,3 +68,4 @@ pub mod FrontsLemmas
 pub mod LanesKnown
 pub mod OpenWorksLegal
 pub mod OpenBefore
+pub mod StayOpen

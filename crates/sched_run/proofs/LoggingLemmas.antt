@@ -5,7 +5,6 @@ use Rattle.std.proofs.lemmas.Bool.{cases_lt, and_parts, eqb-true, eq-eqb}
 use Rattle.std.proofs.lemmas.Bool.Decides.{nat_tests}
 use Rattle.std.proofs.lemmas.List.{length-set, get_or-set_same, get_or-set_other, get_or_past}
 use Rattle.blz_pool.specs.Pool.{IsPool}
-use Rattle.blz_value.specs.Members.{Has}
 use Rattle.blz_value.specs.Record.{Row as Record}
 use Rattle.bloom_ast.specs.declared.program.Program.{Program}
 use Rattle.bloom_ast.specs.Step.{Sets}
@@ -18,7 +17,7 @@ use Rattle.inbox.specs.Executions.{Execution, result_and_then, pair_of, with_log
 use Rattle.inbox.specs.Ids.{IsGiven, message_with_id}
 use Rattle.inbox.specs.Instances.{Instance}
 use Rattle.inbox.specs.Log.{EntryId, AreGiven, is_same_entry_id, entry_with_id, entries_with_ids}
-use Rattle.inbox.specs.Messages.{Pair, Entry, is_same_entry, with_new}
+use Rattle.inbox.specs.Messages.{Pair, is_same_entry, with_new}
 use Rattle.inbox.specs.Standing.{Seats}
 use Rattle.inbox.specs.Wiring.{nobody, instances_at, instance_at, is_sequencer, wiring_of}
 use Rattle.inbox.specs.declared.message.Message.{Message as IdMessage}

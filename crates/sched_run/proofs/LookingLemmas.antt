@@ -1,5 +1,5 @@
 -- What a net keeps shows which indexes of a lane are open, and whether a taker can take.
-use Rattle.std.proofs.Common.{◌≡◌, ◌<◌, ◌≤◌, ◌+◌, ◌&&◌, ◌∷◌, ℕ, Bool, true, false, not, Option, None, Some, List, [], length, map, filter, get_or, slice_get, nat_lt, refl, ap, ◌∙◌, sym, subst, inl, inr, arith}
+use Rattle.std.proofs.Common.{◌≡◌, ◌<◌, ◌≤◌, ◌&&◌, ℕ, Bool, true, false, not, Option, None, Some, List, [], length, get_or, slice_get, nat_lt, refl, ap, ◌∙◌, sym, subst, inl, inr, arith}
 use Rattle.std.specs.BTreeSet.{BTreeSet}
 use Rattle.std.specs.Prelude.{OnOk, Result, Ok, Err}
 use Rattle.std.specs.List.{All, list_any}
@@ -14,12 +14,11 @@ use Rattle.topo_types.specs.Data.{Data}
 use Rattle.topo_types.specs.Feeds.{Feed, no_feed}
 use Rattle.topo_types.specs.Messages.{Message, row, row_in}
 use Rattle.topo_types.specs.Valid.{IsValid}
-use Rattle.topo_types.specs.View.{View, stream_replicas, replicas_of, is_order}
+use Rattle.topo_types.specs.View.{View, replicas_of, is_order}
 use Rattle.inbox.specs.Events.{Step}
-use Rattle.inbox.specs.Executions.{Execution, emitted_list}
+use Rattle.inbox.specs.Executions.{emitted_list}
 use Rattle.inbox.specs.Growth.{feed_numbered}
 use Rattle.inbox.specs.Ids.{IsGiven, message_with_id}
-use Rattle.inbox.specs.Instances.{Instance}
 use Rattle.inbox.specs.Log.{EntryId, AreGiven, is_same_entry_id, entry_with_id, entries_with_ids}
 use Rattle.inbox.specs.Messages.{Batch, Entry, Pair, all_pairs, is_same_entry, is_same_pair}
 use Rattle.inbox.specs.Wiring.{feeds_for, instance_for, wiring_of}
@@ -27,17 +26,17 @@ use Rattle.inbox.specs.declared.inbox.Inbox.{Inbox}
 use Rattle.inbox.specs.declared.message.Message.{Message as IdMessage}
 use Rattle.inbox.specs.declared.message.Message.TheVariants.{Row, Seal}
 use Rattle.inbox.proofs.LogLemmas.{any-with_ids, one_id}
-use Rattle.sched_turns.specs.Windows.{Looked, IsWindow, MayShow, open_below}
+use Rattle.sched_turns.specs.Windows.{Looked, IsWindow, MayShow, OthersAreOpen}
+use Rattle.sched_turns.specs.declared.windows.Stale.{Stale}
 use Rattle.sched_run.specs.Code.Ids.{id_in}
 use Rattle.sched_run.specs.Lists.{read_list, read_lists, list_at}
-use Rattle.sched_run.specs.Made.{is_undelivered, is_unordered, is_open_in, lane_list, can_take}
-use Rattle.sched_run.specs.Net.{BooksStand, KnowsHeard, ShowsEar, ShowsInbox, execution_in, list_on}
-use Rattle.sched_run.specs.Places.{instance_place, list_place}
+use Rattle.sched_run.specs.Made.{is_undelivered, is_unordered, is_open_in}
+use Rattle.sched_run.specs.Net.{BooksStand, ShowsEar, ShowsInbox, execution_in, list_on}
+use Rattle.sched_run.specs.Places.{instance_place}
 use Rattle.sched_run.specs.Code.Looking.{is_unknown_at, is_unlogged_at, IsDelivery, IsOrdering, IsTaker, MayLook, LooksAt, TellsTake}
 use Rattle.sched_run.specs.Code.Seen.{list_seen}
 use Rattle.sched_run.specs.Code.Taking.{taken_in}
 use Rattle.sched_run.specs.declared.books.Books.{Books}
-use Rattle.sched_run.specs.declared.making.lanes.Lane.{Lane}
 use Rattle.sched_run.specs.declared.making.lanes.Lane.TheVariants.{Deliver, Order}
 use Rattle.sched_run.specs.declared.making.lanes.Taker.{Taker}
 use Rattle.sched_run.specs.declared.seated.Ear.{Ear}
@@ -54,6 +53,9 @@ window_same f g n m window same e is = subst (λ k. IsWindow g k window) e (subs
 
 shows_same : (f g : ℕ → Bool) (window : Looked) → ((k : ℕ) → f k ≡ g k) → MayShow f window → MayShow g window
 shows_same f g window same is = subst (λ (p : ℕ → Bool). MayShow p window) (λ i k. same k i) is
+
+open_same : (f g : ℕ → Bool) (stale : Stale) (places : List ℕ) → ((k : ℕ) → f k ≡ g k) → OthersAreOpen f stale places → OthersAreOpen g stale places
+open_same f g stale places same are place has fresh = sym (same place) ∙ are place has fresh
 
 -- what follows of an answer without a fault
 pub on_ok_so : {A E : Type 0} (answer : Result A E) (P Q : Type 0) → (P → Q) → OnOk answer P → OnOk answer Q
@@ -132,11 +134,12 @@ module _ (v : View) (b : Books) (valid : IsValid v) where
             ap (list_on v (read_lists b.lists)) (get_or_from_slice_get (feeds_for v c r) n feed no_feed is.numbered)
             ∙ emitted_shown v given (execution_in stand) stand.seats stand.tables (read_lists b.lists) valid stand.stands.stands stand.shows feed.stream feed.sender is.is.stream is.is.sender
 
-    pub may_look_heard : (window : Looked) → MayLook v b (Deliver c r n feed) window → (window.next ≤ count) × MayShow (is_unknown_at known.keys n count) window
-    may_look_heard window may =
+    pub may_look_heard : (stale : Stale) (window : Looked) → MayLook v b (Deliver c r n feed) stale window → (window.next ≤ count) × MayShow (is_unknown_at known.keys n count) window × OthersAreOpen (is_unknown_at known.keys n count) stale window.places
+    may_look_heard stale window may =
         let long = many ∙ seen_length v may.given may.steps b may.stand valid feed.stream feed.sender is.is.sender messages are in (
           omega (arith, may.inside, long),
           shows_same (is_open_in (wiring_of v) may.given (execution_in may.stand) (Deliver c r n feed)) (is_unknown_at known.keys n count) window (λ k. sym (heard_open may.given may.steps may.stand k)) may.shown,
+          open_same (is_open_in (wiring_of v) may.given (execution_in may.stand) (Deliver c r n feed)) (is_unknown_at known.keys n count) stale window.places (λ k. sym (heard_open may.given may.steps may.stand k)) may.fresh,
         )
 
     pub looks_heard : (window : Looked) → IsWindow (is_unknown_at known.keys n count) count window → LooksAt v b (Deliver c r n feed) window
@@ -153,11 +156,12 @@ module _ (v : View) (b : Books) (valid : IsValid v) where
         ∙ ap (λ (entries : List Entry). is_unordered entries feed.port (read_list b.lists.records messages) index) (ap (entries_with_ids b.lists.records) found ∙ stand.logs.each c is.is.there ∙ stand.stands.stands.logs c)
         ∙ ap (λ (list : List Message). is_unordered ((execution_in stand).logs c) feed.port list index) (ap (read_list b.lists.records) are ∙ seen_emitted v given steps b stand valid feed.stream feed.sender is.is.sender)
 
-    pub may_look_logged : (window : Looked) → MayLook v b (Order c feed) window → (window.next ≤ count) × MayShow (is_unlogged_at log feed.port messages) window
-    may_look_logged window may =
+    pub may_look_logged : (stale : Stale) (window : Looked) → MayLook v b (Order c feed) stale window → (window.next ≤ count) × MayShow (is_unlogged_at log feed.port messages) window × OthersAreOpen (is_unlogged_at log feed.port messages) stale window.places
+    may_look_logged stale window may =
         let long = many ∙ seen_length v may.given may.steps b may.stand valid feed.stream feed.sender is.is.sender messages are in (
           omega (arith, may.inside, long),
           shows_same (is_open_in (wiring_of v) may.given (execution_in may.stand) (Order c feed)) (is_unlogged_at log feed.port messages) window (λ k. sym (logged_open may.given may.steps may.stand k)) may.shown,
+          open_same (is_open_in (wiring_of v) may.given (execution_in may.stand) (Order c feed)) (is_unlogged_at log feed.port messages) stale window.places (λ k. sym (logged_open may.given may.steps may.stand k)) may.fresh,
         )
 
     pub looks_logged : (window : Looked) → IsWindow (is_unlogged_at log feed.port messages) count window → LooksAt v b (Order c feed) window

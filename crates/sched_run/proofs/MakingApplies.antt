@@ -1,5 +1,5 @@
 -- What applying a work says of whatever data the net stood for.
-use Rattle.std.proofs.Common.{◌≡◌, ◌∙◌, ◌<◌, ◌≤◌, ◌++◌, ◌&&◌, ℕ, suc, Bool, true, false, not, List, [], ◌∷◌, Option, Result, Ok, Err, IsErrAnd, length, append_assoc, refl, sym, subst, ap}
+use Rattle.std.proofs.Common.{◌≡◌, ◌∙◌, ◌<◌, ◌++◌, ℕ, suc, true, false, List, [], ◌∷◌, Option, Result, Ok, Err, IsErrAnd, length, append_assoc, refl, sym, subst, ap}
 use Rattle.bloom_ast.specs.declared.program.Program.{Program}
 use Rattle.bloom_ast.specs.Step.{Sets}
 use Rattle.sched_text.specs.declared.event.Event.{Event as NamedEvent}
@@ -8,11 +8,10 @@ use Rattle.topo_types.specs.View.{View}
 use Rattle.inbox.specs.Events.{Event}
 use Rattle.inbox.specs.Growth.{Continues}
 use Rattle.inbox.specs.Wiring.{wiring_of}
-use Rattle.inbox.proofs.Lists.Growing.{continues_with}
 use Rattle.sched_run.specs.Applying.{Line}
 use Rattle.sched_run.specs.Made.{chosen_events, is_take, says_again}
 use Rattle.sched_run.specs.Making.{events_of}
-use Rattle.sched_run.specs.Net.{EventAnswers, EventLeaves, execution_in}
+use Rattle.sched_run.specs.Net.{EventAnswers, EventLeaves}
 use Rattle.sched_run.specs.Numbered.{numbered}
 use Rattle.sched_run.specs.Code.Making.{EndsNet, fault_with, GoesOn, HasRun, FailsIn, AppliedSo, AppliesEvents}
 use Rattle.sched_run.specs.declared.books.Books.{Books}
@@ -21,7 +20,7 @@ use Rattle.sched_run.specs.declared.fault.MakeFault.{MakeFault}
 use Rattle.sched_run.specs.declared.fault.MakeFault.TheVariants.{TooManyEvents, NoMemory}
 use Rattle.sched_run.specs.declared.limits.TheConstants.{MAX_EVENTS}
 use Rattle.sched_run.proofs.MakingRuns.{fails_on, legal_ends, no_memory, run_fails, run_more, too_many}
-use Rattle.sched_run.proofs.TurnsLemmas.{chosen_first, chosen_once, chosen_twice}
+use Rattle.sched_run.proofs.TurnsLemmas.{chosen_first, chosen_twice}
 
 -- what holds of a fault holds of the answer that hands it on
 pub handed_fault : {X : Type 0} (P : Result X MakeFault → Type 0) (r : Result X MakeFault) (fault : MakeFault) → IsErrAnd r (λ d. d ≡ fault) → P (Err fault) → P r

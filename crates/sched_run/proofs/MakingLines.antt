@@ -1,14 +1,13 @@
 -- One line more is numbered on, and can be printed.
-use Rattle.std.proofs.Common.{◌≡◌, ◌∙◌, ◌+◌, ◌<◌, ◌≤◌, ◌++◌, ℕ, zero, suc, Bool, true, List, [], ◌∷◌, length, map, refl, sym, subst, ap, arith, add-zero}
-use Rattle.std.specs.List.{list_all, range_with_len}
+use Rattle.std.proofs.Common.{◌≡◌, ◌∙◌, ◌+◌, ◌<◌, ◌≤◌, ◌++◌, ℕ, zero, suc, true, List, [], ◌∷◌, length, refl, sym, ap, arith, add-zero}
+use Rattle.std.specs.List.{range_with_len}
 use Rattle.std.proofs.lemmas.Bool.{and_from}
 use Rattle.std.proofs.lemmas.List.{length-append, map-append}
 use Rattle.std.proofs.lemmas.List.Folds.{list_all-append}
 use Rattle.sched_text.specs.Reading.{line_limit}
-use Rattle.sched_text.specs.Text.{is_printable, IsPrintable}
+use Rattle.sched_text.specs.Text.{is_printable}
 use Rattle.sched_text.specs.declared.event.Event.{Event}
 use Rattle.sched_run.specs.Applying.{Line}
-use Rattle.sched_run.specs.Making.{CountFromOne}
 use Rattle.sched_run.specs.Code.Making.{AreLines}
 use Rattle.sched_run.specs.declared.limits.TheConstants.{MAX_EVENTS}
 

@@ -1,5 +1,5 @@
 -- An event after those of some lines: where it is done, the net has run through one line more, and where it isn't, the reason is that of the event.
-use Rattle.std.proofs.Common.{◌≡◌, ◌≢◌, ◌∙◌, ◌<◌, ◌++◌, ℕ, suc, List, [], ◌∷◌, Option, None, Some, Result, Ok, Err, map, length, append_assoc, refl, sym, subst, ap, arith}
+use Rattle.std.proofs.Common.{◌≡◌, ◌∙◌, ◌<◌, ◌++◌, ℕ, suc, List, [], ◌∷◌, Option, None, Some, Result, Ok, Err, map, length, refl, sym, subst, ap}
 use Rattle.std.specs.Result.{result_unwrap_or}
 use Rattle.std.proofs.lemmas.List.{map-append, length-map}
 use Rattle.bloom_ast.specs.declared.program.Program.{Program}
@@ -13,7 +13,7 @@ use Rattle.inbox.specs.Growth.{Continues}
 use Rattle.inbox.specs.Wiring.{Wiring, wiring_of}
 use Rattle.inbox.proofs.Executions.Appending.{legal_more}
 use Rattle.inbox.proofs.Executions.Results.{Ok_same}
-use Rattle.inbox.proofs.Lists.Growing.{continues_itself, continues_on, continues_with}
+use Rattle.inbox.proofs.Lists.Growing.{continues_itself, continues_on}
 use Rattle.sched_run.specs.Answers.{Answers, answer_at, answer_to, fault_at}
 use Rattle.sched_run.specs.Applying.{Line, steps_of}
 use Rattle.sched_run.specs.Limits.{Limit, too_many_rows, too_many_messages, limit_of_event}
@@ -21,7 +21,7 @@ use Rattle.sched_run.specs.Made.{execution_after}
 use Rattle.sched_run.specs.Making.{events_of}
 use Rattle.sched_run.specs.Net.{Stands, EventAnswers, EventLeaves, execution_in}
 use Rattle.sched_run.specs.Numbered.{numbered}
-use Rattle.sched_run.specs.Code.Making.{EndsNet, fault_with, MeetNone, HasRun, MeetsLimit, FailsAt, FailsIn, AppliedSo}
+use Rattle.sched_run.specs.Code.Making.{EndsNet, fault_with, MeetNone, HasRun, MeetsLimit, FailsAt, FailsIn}
 use Rattle.sched_run.specs.declared.books.Books.{Books}
 use Rattle.sched_run.specs.declared.fault.EventFault.{EventFault}
 use Rattle.sched_run.specs.declared.fault.EventFault.TheVariants.{NoInstance, NoMessage, NothingToTake, TooManyRows, TooManyMessages, NoMemory}

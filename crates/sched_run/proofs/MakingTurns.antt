@@ -1,6 +1,5 @@
 -- A turn makes the chosen events, and what ends the turns is the answer to the seed.
-use Rattle.std.proofs.Common.{◌≡◌, ◌≢◌, ◌∙◌, ◌+◌, ◌<◌, ◌≤◌, ◌%◌, ◌++◌, ◌&&◌, ℕ, zero, suc, Bool, true, false, not, List, [], ◌∷◌, Option, None, Some, Result, Ok, Err, IsErrAnd, length, sum, get_or, slice_get, append_assoc, refl, sym, subst, ap, arith, inl, inr}
-use Rattle.std.specs.Prelude.{slice_index_or}
+use Rattle.std.proofs.Common.{◌≡◌, ◌∙◌, ◌+◌, ◌<◌, ◌≤◌, ◌%◌, ◌++◌, ℕ, suc, List, [], ◌∷◌, Option, Some, Result, Ok, Err, IsErrAnd, length, sum, slice_get, refl, sym, subst, ap, arith}
 use Rattle.std.proofs.lemmas.List.{length-append}
 use Rattle.std.proofs.lemmas.Option.{get_or_from_slice_get}
 use Rattle.bloom_ast.specs.declared.program.Program.{Program}
@@ -16,9 +15,9 @@ use Rattle.inbox.proofs.Lists.Growing.{continues_with}
 use Rattle.sched_turns.specs.Draws.{next_state, drawn_number}
 use Rattle.sched_run.specs.Applying.{Line, steps_of}
 use Rattle.sched_run.specs.Limits.{Limit, too_many_rows, too_many_messages, limit_of_event}
-use Rattle.sched_run.specs.Made.{Course, after_turns, chosen_events, execution_after, fault_by, generated, limit_at_place, made_of, made_within, open_works, turn, turn_among, AnswersSo, LeavesNothing}
+use Rattle.sched_run.specs.Made.{Course, after_turns, chosen_events, execution_after, fault_by, made_of, made_within, open_works, turn, turn_among, AnswersSo}
 use Rattle.sched_run.specs.Making.{events_of}
-use Rattle.sched_run.specs.Net.{BooksStand, Stands, execution_in}
+use Rattle.sched_run.specs.Net.{BooksStand, execution_in}
 use Rattle.sched_run.specs.Code.Making.{AppliedSo, AppliesEvents, AreLines, MeetNone, HasRun, HasTurned, IsReady, FailsAt, FailsIn, TurnedSo, Turns}
 use Rattle.sched_run.specs.Code.Works.{AreShown, AreWorksOf, IsOpenWork, work_event}
 use Rattle.sched_run.specs.declared.books.Books.{Books}

@@ -1,15 +1,14 @@
 -- Turns from the first to the last: a net that stands for no step has turned not once, and where nothing is open the schedule is answered.
-use Rattle.std.proofs.Common.{◌≡◌, ◌∙◌, ◌<◌, ◌≤◌, ℕ, List, [], ◌∷◌, Option, Result, Ok, Err, IsErrAnd, length, sum, refl, sym, subst, ap, arith}
+use Rattle.std.proofs.Common.{◌≡◌, ◌∙◌, ◌≤◌, ℕ, List, [], ◌∷◌, Option, Result, Ok, Err, IsErrAnd, length, sum, refl, sym, subst, ap, arith}
 use Rattle.bloom_ast.specs.declared.program.Program.{Program}
 use Rattle.bloom_ast.specs.Step.{Sets}
 use Rattle.topo_types.specs.Data.{Data}
 use Rattle.topo_types.specs.Valid.{IsValid}
 use Rattle.topo_types.specs.View.{View}
-use Rattle.inbox.specs.Events.{Event}
 use Rattle.inbox.specs.Wiring.{wiring_of}
 use Rattle.sched_run.specs.Applying.{Line, steps_of}
 use Rattle.sched_run.specs.Made.{made_of, open_works, AnswersSo}
-use Rattle.sched_run.specs.Making.{RunsFirst, AnswersMade, HasMade, LeavesMade, events_in, events_of}
+use Rattle.sched_run.specs.Making.{RunsFirst, AnswersMade, events_in, events_of}
 use Rattle.sched_run.specs.Net.{BooksRun, Stands, execution_in}
 use Rattle.sched_run.specs.Code.Making.{Goes, HasTurned, IsReady, MeetNone, StandsMade, TurnedSo, Turns}
 use Rattle.sched_run.specs.declared.books.Books.{Books}

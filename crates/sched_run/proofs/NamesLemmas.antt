@@ -8,7 +8,6 @@ use Rattle.std.proofs.lemmas.Slice.Eq.{bytes_eq-Decides}
 use Rattle.bloom_ast.specs.declared.program.Program.{Program}
 use Rattle.bloom_ast.specs.Form.{Accepted}
 use Rattle.bloom_ast.specs.Query.{Name}
-use Rattle.bloom_ast.specs.Proper.{IsProper}
 use Rattle.bloom_ast.proofs.Faults.Levels.{neither}
 use Rattle.topo_types.specs.declared.fault.TopoKind.TheVariants as kind
 use Rattle.topo_types.specs.declared.topology.ComponentEntry.{ComponentEntry}
@@ -17,7 +16,7 @@ use Rattle.topo_types.specs.declared.topology.Topology.{Topology}
 use Rattle.sched_text.specs.declared.event.Sent.{Sent as SentName}
 use Rattle.sched_text.specs.declared.event.Event.TheVariants.{Deliver, Order, Take}
 use Rattle.topo_types.specs.Feeds.{Feed}
-use Rattle.topo_types.specs.Sites.{Site, no_site, no_entry, site_at, side, ports_with, program_in, program_ports}
+use Rattle.topo_types.specs.Sites.{Site, no_site, no_entry, site_at, side, ports_with, program_in}
 use Rattle.topo_types.specs.Valid.{IsValid, IsWhole, Validated}
 use Rattle.topo_types.specs.Validity.{fault_of}
 use Rattle.topo_types.specs.Validity.Twice.{has_component, repeat_in, repeats_column, sides_are_distinct}

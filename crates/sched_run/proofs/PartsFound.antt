@@ -1,5 +1,5 @@
 -- A part gives the pair that the execution says: its feed is found among those of the instance, and its message in the list that stands at the feed's place.
-use Rattle.std.proofs.Common.{◌≡◌, ◌<◌, ◌+◌, ◌==◌, ◌&&◌, ℕ, suc, Option, None, Some, List, [], ◌∷◌, ◌++◌, length, map, take, drop, get_or, slice_get, refl, ap, ◌∙◌, sym, subst, inl, inr, ◌≤◌, arith, drop-cons}
+use Rattle.std.proofs.Common.{◌≡◌, ◌<◌, ◌+◌, ◌==◌, ◌&&◌, ℕ, suc, Option, None, Some, List, [], ◌∷◌, ◌++◌, length, take, drop, get_or, slice_get, refl, ap, ◌∙◌, sym, subst, inl, inr, ◌≤◌, arith, drop-cons}
 use Rattle.std.specs.Prelude.{Result, Ok, Err}
 use Rattle.std.specs.List.{All, position}
 use Rattle.std.specs.Option.{option_map}
@@ -20,7 +20,7 @@ use Rattle.inbox.specs.Ids.{message_with_id, pair_with_id, batch_with_ids}
 use Rattle.inbox.specs.Instances.{Instance}
 use Rattle.inbox.specs.Wiring.{Wiring, wiring_of, instance_at, instance_for, feeds_for}
 use Rattle.inbox.specs.Growth.{feed_numbered}
-use Rattle.inbox.specs.Executions.{Execution, emitted_list, feed_of, message_of, pair_with, pair_of, pairs_of, result_and_then}
+use Rattle.inbox.specs.Executions.{Execution, feed_of, message_of, pair_with, pair_of, pairs_of, result_and_then}
 use Rattle.inbox.specs.Events.{Part, Step, Refusal, no_instance, no_message}
 use Rattle.inbox.specs.declared.message.Message.{Message as IdMessage}
 use Rattle.inbox.proofs.Executions.Results.{Ok_same, and_then_Ok}
@@ -28,7 +28,6 @@ use Rattle.inbox.proofs.Executions.Sent.{IsFeedOf, feed_of-is}
 use Rattle.inbox.proofs.WiringLemmas.{IsFeedInto, instance-feeds, instance-wired}
 use Rattle.sched_run.specs.Lists.{Listed, read_lists, list_at}
 use Rattle.sched_run.specs.Net.{Runs, BooksStand, BooksRun, ShowsSeat, execution_in, list_on}
-use Rattle.sched_run.specs.Outlets.{outlets_for}
 use Rattle.sched_run.specs.Places.{instance_place, list_place}
 use Rattle.sched_run.specs.Code.Parts.{IsReadAs, PairAnswers, PairsAnswer, StandsAt, HaveIndexes}
 use Rattle.sched_run.specs.declared.books.Books.{Books}

@@ -1,5 +1,5 @@
 -- The streams, components and ports of a topology that was validated have names.
-use Rattle.std.proofs.Common.{◌≡◌, ◌<◌, ◌∷◌, ◌++◌, ◌&&◌, ◌||◌, ◌==◌, ℕ, Bool, true, Option, None, Some, List, [], length, map, get_or, refl, ap, ◌∙◌, sym, subst, inl, inr, arith}
+use Rattle.std.proofs.Common.{◌≡◌, ◌<◌, ◌∷◌, ◌&&◌, ◌||◌, ◌==◌, ℕ, true, List, [], length, map, get_or, refl, ap, ◌∙◌, sym, subst, inl, inr, arith}
 use Rattle.std.specs.List.{flat_map, list_all}
 use Rattle.std.proofs.lemmas.Bool.{and_from}
 use Rattle.std.proofs.lemmas.List.{get_or-map, length-map}
@@ -25,7 +25,6 @@ use Rattle.topo_types.specs.Allowed.{allows_body, allows_component, allows_fd, a
 use Rattle.topo_types.specs.Feeds.{Feed}
 use Rattle.topo_types.specs.Sites.{Site, no_entry, site_at, side, collection_side, ports_with, program_in, program_ports, stock_program}
 use Rattle.topo_types.specs.Valid.{IsWhole, Validated}
-use Rattle.topo_types.specs.Validity.{fault_of}
 use Rattle.topo_types.specs.View.{View, Component, Port, Stream, no_port, component_at, port_at, stream_at}
 use Rattle.topo_types.specs.ViewOf.{modules_in, port_view, view_of}
 use Rattle.topo_types.proofs.Faults.NoFault.{length_sites, no_source, no_written}

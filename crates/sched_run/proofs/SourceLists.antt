@@ -1,5 +1,5 @@
 -- Source by source the lists get what the sources emit, and there is room for all of it.
-use Rattle.std.proofs.Common.{◌≡◌, ◌≢◌, ◌<◌, ◌≤◌, ◌+◌, ◌*◌, ℕ, zero, suc, List, [], ◌∷◌, ◌++◌, None, length, map, replicate, take, set, get_or, refl, ap, ◌∙◌, sym, subst, inl, inr, arith, length-append}
+use Rattle.std.proofs.Common.{◌≡◌, ◌≢◌, ◌<◌, ◌≤◌, ◌+◌, ◌*◌, ℕ, List, [], length, map, replicate, take, set, ap, ◌∙◌, sym, subst, inl, inr, arith}
 use Rattle.std.specs.List.{sum_by}
 use Rattle.std.proofs.lemmas.Bool.{cases_eq, cases_lt}
 use Rattle.std.proofs.lemmas.List.{length-set, length-replicate, get_or-replicate, get_or_past, get_or-set_same, get_or-set_other, set-set}
@@ -16,7 +16,7 @@ use Rattle.data_read.specs.Counting.{count_of, AreFew}
 use Rattle.data_read.proofs.KeyOfSource.{source_stream}
 use Rattle.sched_run.specs.Limits.{message_limit}
 use Rattle.sched_run.specs.Lists.{Listed, OneListBecomes, read_lists, list_at, total}
-use Rattle.sched_run.specs.Places.{places_before, list_place, list_count}
+use Rattle.sched_run.specs.Places.{list_place, list_count}
 use Rattle.sched_run.specs.Code.Sources.{SourcesEmitted}
 use Rattle.sched_run.proofs.ListsLemmas.{total-read, length-read_lists}
 use Rattle.sched_run.proofs.PlacesLemmas.{one_place, place-before}

@@ -1,7 +1,7 @@
 -- What is emitted of a source, its records and then a seal of each partition, is what the source emits.
-use Rattle.std.proofs.Common.{◌≡◌, ◌≤◌, ◌+◌, ◌*◌, ◌||◌, ℕ, Bool, true, false, not, cond, Option, None, Some, List, [], ◌∷◌, ◌++◌, length, map, filter, refl, ap, ◌∙◌, sym, subst, inl, inr, arith, append-nil, append_assoc, length-append}
+use Rattle.std.proofs.Common.{◌≡◌, ◌≤◌, ◌*◌, ◌||◌, ℕ, Bool, true, false, not, Option, None, Some, List, [], ◌∷◌, ◌++◌, length, map, filter, refl, ap, ◌∙◌, sym, subst, inl, inr, arith, append-nil, append_assoc, length-append}
 use Rattle.std.specs.Prelude.{if◌then◌else◌}
-use Rattle.std.specs.List.{list_any, fold}
+use Rattle.std.specs.List.{list_any}
 use Rattle.std.proofs.lemmas.Bool.{cases_Bool}
 use Rattle.std.proofs.lemmas.List.{map-append, length-map}
 use Rattle.blz_value.specs.Members.{Has}
@@ -11,15 +11,15 @@ use Rattle.blz_value.specs.Sets.{set_of}
 use Rattle.blz_value.proofs.Membership.{Has-filter, Has-from_any, any_from_Has}
 use Rattle.blz_value.proofs.RowSets.{length-set_of-le}
 use Rattle.fd_closure.specs.declared.attrs.Attrs.{Attrs}
-use Rattle.topo_types.specs.Data.{SourceData, key_places, key_value, rows_with_key}
-use Rattle.topo_types.specs.Messages.{Message, row, seal, is_same_row, distinct_rows, rows_in, partitions, source_seals, source_messages}
+use Rattle.topo_types.specs.Data.{SourceData, key_places, rows_with_key}
+use Rattle.topo_types.specs.Messages.{row, seal, is_same_row, distinct_rows, rows_in, partitions, source_seals, source_messages}
 use Rattle.topo_types.specs.View.{Stream}
-use Rattle.inbox.specs.Emission.{with_row, with_rows, count_in}
+use Rattle.inbox.specs.Emission.{with_row, with_rows}
 use Rattle.inbox.specs.Messages.{is_same_message}
 use Rattle.inbox.proofs.MessagesLemmas.{is_same_row-is, is_same_row-itself}
 use Rattle.data_read.specs.Counting.{count_of}
 use Rattle.data_read.proofs.CountingLemmas.{no_more_rows}
-use Rattle.data_read.proofs.DistinctLemmas.{is_among, if_new, distinct_rows-more, Has-from_distinct}
+use Rattle.data_read.proofs.DistinctLemmas.{is_among, distinct_rows-more, Has-from_distinct}
 use Rattle.sched_run.specs.Code.Counts.{seals_of}
 
 -- ---- records

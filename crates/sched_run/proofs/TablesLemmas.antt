@@ -6,14 +6,13 @@ use Rattle.std.proofs.lemmas.Grind.{flat_map-append}
 use Rattle.std.proofs.lemmas.List.{map-append, take_more, take_all}
 use Rattle.bloom_ast.specs.declared.program.Program.{Program}
 use Rattle.bloom_ast.specs.Step.{Sets}
-use Rattle.std.specs.Prelude.{Option, true}
+use Rattle.std.specs.Prelude.{Option}
 use Rattle.topo_types.specs.Data.{Data}
 use Rattle.topo_types.specs.Sets.{below}
 use Rattle.topo_types.specs.View.{View, replicas_of}
 use Rattle.inbox.specs.Events.{Step}
 use Rattle.inbox.specs.Instances.{Instance}
 use Rattle.inbox.specs.Lives.{kept_after}
-use Rattle.inbox.specs.Wiring.{wiring_of, instance_for, is_there}
 use Rattle.inbox.proofs.WiringLemmas.{instance-wired, there-wired}
 use Rattle.sched_run.specs.Net.{Stands, execution_in}
 use Rattle.sched_run.specs.Places.{places_before}

@@ -1,5 +1,5 @@
 -- How a taking ends: refused, at a limit, without memory, or done.
-use Rattle.std.proofs.Common.{◌≡◌, ◌<◌, ℕ, true, false, Option, None, Some, List, [], ◌∷◌, ◌++◌, length, get_or, slice_get, refl, ap, ◌∙◌, sym, subst, Result, Ok, Err}
+use Rattle.std.proofs.Common.{◌≡◌, ◌<◌, ℕ, true, false, Option, None, Some, List, [], ◌∷◌, length, get_or, slice_get, refl, ap, ◌∙◌, sym, subst, Ok, Err}
 use Rattle.std.specs.Prelude.{IsSome}
 use Rattle.std.specs.List.{All}
 use Rattle.std.proofs.lemmas.Option.{slice_get-get_or, slice_get_within, get_or_from_slice_get}
@@ -12,7 +12,7 @@ use Rattle.bloom_ast.specs.Step.{Sets}
 use Rattle.topo_types.specs.Data.{Data}
 use Rattle.topo_types.specs.Valid.{IsValid}
 use Rattle.topo_types.specs.View.{View, component_at, replicas_of}
-use Rattle.inbox.specs.Events.{Step, event, take_one}
+use Rattle.inbox.specs.Events.{Step, take_one}
 use Rattle.inbox.specs.Growth.{Continues}
 use Rattle.inbox.specs.Log.{EntryId, entry_with_id}
 use Rattle.inbox.specs.Timesteps.{timestep_of}

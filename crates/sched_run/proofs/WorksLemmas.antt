@@ -1,5 +1,5 @@
 -- Where windows and sizes show what is open, the work with a number is found by the sizes; and so they do again when places are looked at.
-use Rattle.std.proofs.Common.{◌≡◌, ◌≢◌, ◌<◌, ◌≤◌, ◌+◌, ◌*◌, ◌-◌, ◌^◌, ◌++◌, ◌∷◌, ℕ, zero, suc, Bool, true, false, Option, None, Some, List, [], length, map, take, set, get_or, slice_get, refl, ap, ◌∙◌, sym, subst, inl, inr, arith, append_assoc, length-append}
+use Rattle.std.proofs.Common.{◌≡◌, ◌≢◌, ◌<◌, ◌≤◌, ◌+◌, ◌-◌, ◌^◌, ◌++◌, ◌∷◌, ℕ, Bool, true, false, Some, List, [], length, map, take, set, get_or, slice_get, refl, ap, ◌∙◌, sym, subst, inl, inr, arith, append_assoc, length-append}
 use Rattle.std.specs.Int.{from_bool}
 use Rattle.std.specs.Prelude.{Result, Ok, Err, if◌then◌else◌}
 use Rattle.std.specs.Result.{OkIff, is_err}
@@ -13,18 +13,20 @@ use Rattle.topo_types.specs.Feeds.{no_feed}
 use Rattle.topo_types.specs.View.{View}
 use Rattle.inbox.specs.Events.{Event, Step, take_one}
 use Rattle.inbox.specs.Executions.{Execution}
-use Rattle.inbox.specs.Wiring.{Wiring, wiring_of}
+use Rattle.inbox.specs.Wiring.{wiring_of}
 use Rattle.sched_turns.specs.Sizes.{IsPlaceOf}
 use Rattle.sched_turns.specs.Windows.{Looked, IsWindow, first_open}
 use Rattle.sched_turns.proofs.WindowsLemmas.{window_shows}
 use Rattle.sched_run.specs.Made.{event_in, is_open_in, lane_list, all_lanes, all_takers, can_take, open_works, works_in, works_of}
 use Rattle.sched_run.specs.Net.{BooksStand, BooksRun, execution_in}
 use Rattle.sched_run.specs.Code.Looking.{LooksAt, MayLook, TellsTake}
+use Rattle.sched_run.specs.Code.Stale.{stale_on}
 use Rattle.sched_run.specs.Code.Works.{AreWorksOf, AreWindowsOn, AreSizesWith, AreShown, MayLookAt, ShowWorks, LooksAgain, LookedAt, LookedBelow, sizes_shown, window_at}
 use Rattle.sched_run.specs.declared.books.Books.{Books}
 use Rattle.sched_run.specs.declared.making.lanes.Lane.{Lane}
 use Rattle.sched_run.specs.declared.making.lanes.Lane.TheVariants.{Order}
 use Rattle.sched_run.specs.declared.making.lanes.Taker.{Taker}
+use Rattle.sched_run.specs.declared.making.works.Work.{Work}
 use Rattle.sched_run.specs.declared.making.works.Works.{Works}
 use Rattle.sched_run.proofs.PartsLemmas.{lengths_together, at_place, few_together, small_set, all_same, window_sizes, taker_sizes, parts_joined, lane_part, taker_part, taking_part}
 
@@ -320,9 +322,9 @@ looked_one v b old now new place below after looked there = record {
 }
 
 -- what was to be looked at again still is
-pub still_may : (v : View) (b : Books) (old now : Works) (place : ℕ) → LookedBelow v b old now place → ((n : ℕ) → MayLookAt v b old n) → MayLookAt v b now place
-still_may v b old now place below may lane at =
-    subst (MayLook v b lane) (sym (below.later place (omega arith))) (may place lane (ap (λ z. slice_get z.items place) (sym below.lanes_stay) ∙ at))
+pub still_may : (v : View) (b : Books) (old now : Works) (work : Work) (place : ℕ) → LookedBelow v b old now place → ((n : ℕ) → MayLookAt v b old work n) → MayLookAt v b now work place
+still_may v b old now work place below may lane at =
+    subst (MayLook v b lane (stale_on work lane)) (sym (below.later place (omega arith))) (may place lane (ap (λ z. slice_get z.items place) (sym below.lanes_stay) ∙ at))
 
 -- all places
 pub looked_all : (v : View) (b : Books) (old now : Works) (places : ℕ) → LookedBelow v b old now places → length now.sizes ≤ places → AreShown v b now

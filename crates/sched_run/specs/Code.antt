@@ -11,5 +11,6 @@ pub mod Hearing
 pub mod Seen
 pub mod Remaining
 pub mod Looking
+pub mod Stale
 pub mod Works
 pub mod Making

@@ -6,7 +6,7 @@ use Rattle.topo_types.specs.Data.{Data}
 use Rattle.topo_types.specs.View.{View}
 use Rattle.inbox.specs.Wiring.{wiring_of}
 use Rattle.inbox.specs.Executions.{after_step}
-use Rattle.inbox.specs.Events.{Step, forget}
+use Rattle.inbox.specs.Events.{Step}
 use Rattle.sched_run.specs.Answers.{answer_to_forget}
 use Rattle.sched_run.specs.Net.{Stands, execution_in}
 use Rattle.sched_run.specs.declared.books.Books.{Books}

@@ -1,16 +1,16 @@
 -- A net keeps books beside its shells: emitted lists, logs, and of each instance what it heard or took; with them it stands for the steps that were made.
-use Rattle.std.specs.Prelude.{◌≡◌, ◌<◌, ◌++◌, ◌∷◌, ◌↔◌, ℕ, IsSome, Bool, true, false, Option, None, Some, Result, Ok, Err, List, [], map, length, slice_get}
+use Rattle.std.specs.Prelude.{◌≡◌, ◌<◌, ◌++◌, ◌∷◌, ℕ, IsSome, true, false, Option, Some, Result, Ok, Err, List, [], map, length, slice_get}
 use Rattle.blz_value.specs.Members.{Has}
 use Rattle.blz_value.specs.Record.{Row}
 use Rattle.bloom_ast.specs.declared.program.Program.{Program}
 use Rattle.bloom_ast.specs.Step.{Sets}
 use Rattle.topo_types.specs.Data.{Data, IsData}
 use Rattle.topo_types.specs.Messages.{Message}
-use Rattle.topo_types.specs.View.{View, program_of, replicas_of, stream_replicas, is_order}
+use Rattle.topo_types.specs.View.{View, program_of, replicas_of, is_order}
 use Rattle.inbox.specs.Messages.{Pair, all_pairs}
 use Rattle.inbox.specs.Instances.{Instance}
-use Rattle.inbox.specs.Wiring.{Wiring, wiring_of, instance_for, feeds_for}
-use Rattle.inbox.specs.Log.{EntryId, AreGiven, IsLog, entries_with_ids}
+use Rattle.inbox.specs.Wiring.{wiring_of, instance_for, feeds_for}
+use Rattle.inbox.specs.Log.{EntryId, AreGiven, entries_with_ids}
 use Rattle.inbox.specs.Inbox.{HasHeard, IsFrom, feeds_in}
 use Rattle.inbox.specs.Standing.{Seat, Seats, StandsFor}
 use Rattle.inbox.specs.Growth.{feed_numbered}
@@ -25,7 +25,7 @@ use Rattle.sched_run.specs.Bench.{instance_components}
 use Rattle.sched_run.specs.Limits.{limit_of_event}
 use Rattle.sched_run.specs.Lists.{Listed, IsExact, read_lists, list_at}
 use Rattle.sched_run.specs.Outlets.{outlets_for}
-use Rattle.sched_run.specs.Places.{instance_place, instance_count, list_place, list_count}
+use Rattle.sched_run.specs.Places.{instance_place, instance_count, list_place}
 use Rattle.sched_run.specs.Shown.{ShowsSeats}
 use Rattle.sched_run.specs.declared.places.Places.{Places}
 use Rattle.sched_run.specs.declared.seated.Ear.{Ear}

@@ -1,9 +1,10 @@
 //! Schedules from a seed: turn by turn a draw chooses among the open works, until none is open.
 //!
-//! The works of a lane are shown by a window, which is looked at again after each turn; a tree of the
-//! windows' sizes finds a work by its number.
+//! The works of a lane are shown by a window, which looks again after each turn, but only at what the
+//! turn may have made stale and at what is new; a tree of the windows' sizes finds a work by its number.
 mod lanes;
 mod looking;
+mod stale;
 mod works;
 
 ghost use Rattle.std.specs.Prelude.{◌≡◌, ◌<◌, ◌++◌, ◌∷◌, [], map, IfOk, OnOk, length, sum};
@@ -134,7 +135,7 @@ impl Making {
         let number = self.draws.next_number();
         let (_, work) = self.works.find(net, number as usize % self.works.total());
         apply_chosen(net, &mut self.lines, number, &work)?;
-        self.works.look_at_all(net)?;
+        self.works.look_after(net, &work)?;
         Ok(())
     }
 }

@@ -1,10 +1,12 @@
 -- A window that is full, or looked at all, shows the first open places.
-use Rattle.std.proofs.Common.{◌≡◌, ◌+◌, ◌-◌, ◌++◌, ◌∷◌, ℕ, zero, suc, Bool, true, false, List, [], length, take, filter, ◌∙◌, ap, sym, inl, inr, add-zero, append-nil, arith}
+use Rattle.std.proofs.Common.{◌≡◌, ◌+◌, ◌-◌, ◌++◌, ◌∷◌, ◌==◌, ◌||◌, not, cond, ℕ, zero, suc, Bool, true, false, List, [], length, take, filter, refl, ◌∙◌, ap, sym, inl, inr, add-zero, append-nil, arith}
 use Rattle.std.specs.List.{range_with_len}
 use Rattle.std.proofs.lemmas.List.{take_all}
 use Rattle.std.proofs.lemmas.List.Elements.{filter-append}
 use Rattle.std.proofs.Math.Seq.{take-append_seam}
-use Rattle.sched_turns.specs.Windows.{open_below, first_open, Looked, IsWindow}
+use Rattle.blz_value.specs.Members.{Has}
+use Rattle.sched_turns.specs.Windows.{open_below, first_open, Looked, IsWindow, OthersAreOpen}
+use Rattle.sched_turns.specs.declared.windows.Stale.TheVariants.{Nothing, Place}
 use Rattle.sched_turns.specs.declared.windows.TheConstants.{WINDOW}
 
 -- numbers after numbers
@@ -52,3 +54,28 @@ window_shows p count w is = elim is.enough [
   where
     whole : open_below p count ≡ open_below p w.next ++ filter p (range_with_len w.next (count - w.next))
     whole = ap (open_below p) (let e : count ≡ w.next + (count - w.next) = omega (arith, is.inside) in e) ∙ open-append p w.next (count - w.next)
+
+-- ---- places that aren't stale
+
+-- of places a test keeps those that another keeps where the two agree on them
+filter_agrees : (p q : ℕ → Bool) (places : List ℕ) → ((k : ℕ) → Has k places → p k ≡ q k) → filter p places ≡ filter q places
+filter_agrees p q [] same = refl
+filter_agrees p q (k ∷ places) same =
+    ap (λ b. cond b (k ∷ filter p places) (filter p places)) (same k (inl refl))
+    ∙ ap (λ (l : List ℕ). cond (q k) (k ∷ l) l) (filter_agrees p q places (λ n h. same n (inr h)))
+
+all_kept : (places : List ℕ) → filter (λ k. true) places ≡ places
+all_kept [] = refl
+all_kept (k ∷ places) = ap (λ (l : List ℕ). k ∷ l) (all_kept places)
+
+-- where nothing is stale all are open
+pub none_stale : (is_open : ℕ → Bool) (places : List ℕ) → OthersAreOpen is_open Nothing places → places ≡ filter is_open places
+none_stale is_open places open_others = sym (all_kept places) ∙ filter_agrees (λ k. true) is_open places (λ k h. sym (open_others k h refl))
+
+-- where one place may be, it alone is looked at
+pub one_stale : (is_open : ℕ → Bool) (one : ℕ) (places : List ℕ) → OthersAreOpen is_open (Place one) places → filter (λ k. not (k == one) || is_open k) places ≡ filter is_open places
+one_stale is_open one places open_others = filter_agrees (λ k. not (k == one) || is_open k) is_open places (λ k h. by_test k (k == one) refl h)
+  where
+    by_test : (k : ℕ) (b : Bool) → (k == one) ≡ b → Has k places → (not (k == one) || is_open k) ≡ is_open k
+    by_test k true e h = ap (λ b. not b || is_open k) e
+    by_test k false e h = ap (λ b. not b || is_open k) e ∙ sym (open_others k h e)

@@ -1,6 +1,9 @@
 -- A window shows the first open places of a list.
-use Rattle.std.specs.Prelude.{◌≡◌, ◌≤◌, ◌⊎◌, ℕ, Bool, List, filter, length, take}
+use Rattle.std.specs.Prelude.{◌≡◌, ◌≤◌, ◌⊎◌, ◌==◌, ℕ, Bool, true, false, List, filter, length, take}
 use Rattle.std.specs.List.{range_with_len}
+use Rattle.blz_value.specs.Members.{Has}
+use Rattle.sched_turns.specs.declared.windows.Stale.{Stale}
+use Rattle.sched_turns.specs.declared.windows.Stale.TheVariants.{Nothing, Place, Everything}
 use Rattle.sched_turns.specs.declared.windows.TheConstants.{WINDOW}
 
 -- the open places of those below a number
@@ -26,3 +29,13 @@ pub record IsWindow (is_open : ℕ → Bool) (count : ℕ) (window : Looked) : T
 -- of the places at which it looked only those that it has can be open
 abbrev pub MayShow : (is_open : ℕ → Bool) → Looked → Type 0
 MayShow is_open window = filter is_open window.places ≡ open_below is_open window.next
+
+-- a place is among those that may be stale
+abbrev pub may_be_stale : Stale → (place : ℕ) → Bool
+may_be_stale Nothing place = false
+may_be_stale (Place one) place = place == one
+may_be_stale Everything place = true
+
+-- of these places all others are open
+abbrev pub OthersAreOpen : (is_open : ℕ → Bool) → Stale → (places : List ℕ) → Type 0
+OthersAreOpen is_open stale places = (place : ℕ) → Has place places → may_be_stale stale place ≡ false → is_open place ≡ true

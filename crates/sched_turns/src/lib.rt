@@ -8,4 +8,4 @@ mod windows;
 
 pub use draws::Draws;
 pub use sizes::Sizes;
-pub use windows::{OpenPlaces, Window};
+pub use windows::{OpenPlaces, Stale, Window};

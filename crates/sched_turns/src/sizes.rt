@@ -59,12 +59,15 @@ impl Sizes {
         self.levels[self.levels.len() - 1].size_at(0)
     }
 
-    /// Sets the size at a place. Takes a step for each level.
+    /// Sets the size at a place. Takes a step for each level, and none where the size stands there.
     pub fn set(&mut self, place: usize, size: usize)
         requires place { place < length self.old }
         requires few { sum (slice_set self.old place size) < 2 ^ 64 }
         ensures { self.new ≡ slice_set self.old place size }
     {
+        if self.levels[0].size_at(place) == size {
+            return;
+        }
         let mut place = place;
         let mut size = size;
         for k in 0..self.levels.len() {

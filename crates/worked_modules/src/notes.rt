@@ -1,10 +1,9 @@
-//! Worked modules and stock bodies with their notes, roots and gates, found by hand.
+//! Worked modules and stock bodies with their roots and gates, and the notes of stock bodies, found by
+//! hand.
 ghost use Rattle.std.specs.Prelude.{IfOk};
 ghost use Rattle.bloom_ast.specs.Program.{IsStock};
 
-use crate::modules::{
-    ASKED_ONCE, CACHE, CAMPAIGN, COMMIT, COUNT, KEYED, LOOSE, NAME_SUMS, POOR, THRESHOLD,
-};
+use crate::modules::{KEYED, LOOSE};
 use crate::reading::program_of;
 use crate::written::{attributes, names, note, root, set};
 use bloom_ast::{Program, repeats_column};
@@ -55,26 +54,6 @@ fn expect_notes(
     Ok(())
 }
 
-// Compares the notes towards each output, which are written with `;` between them.
-fn expect_all_notes(
-    rt: &impl Abort,
-    alloc: Global,
-    program: &Program,
-    names: &AttrNames,
-    expected: &str,
-) -> Result<(), Fail>
-    requires { IsStock program.now }
-{
-    assert_eq!(rt;
-        program.output_count() as usize,
-        expected.split(';').count()
-    );
-    for (output, words) in expected.split(';').enumerate() {
-        expect_notes(rt, alloc, program, names, output, words)?;
-    }
-    Ok(())
-}
-
 // Compares the roots of the first output, written with commas between them, and its gate.
 fn expect_roots_and_gate(
     rt: &impl Abort,
@@ -98,106 +77,6 @@ fn expect_roots_and_gate(
     }
     let found = gate_of(alloc, program, names, 0)?;
     assert_eq!(rt; found, set(rt, alloc, names, gate)?, "{gate}");
-    Ok(())
-}
-
-// Worked modules, the names of their attributes, and their notes.
-const WORKED: [(&'static str, &'static str, &'static str); 10] = [
-    (CAMPAIGN, "campaign,id,uid", "CW OR[campaign,id]"),
-    (POOR, "campaign,id,uid,n", "CW OR[id]"),
-    (CACHE, "campaign,id,uid,n", "CW"),
-    (THRESHOLD, "id,uid", "CW CW"),
-    (ASKED_ONCE, "id,uid", "CW OR[id]"),
-    (NAME_SUMS, "campaign,name,uid", "OW[name]"),
-    (LOOSE, "k,x", "OW[-] OW[-]"),
-    (KEYED, "k,x", "OW[k] OW[k]"),
-    (COUNT, "id,text,batch,at,word,n", "OW[batch,word]"),
-    (COMMIT, "id,text,batch,at,word,n", "CW"),
-];
-
-#[test]
-fn worked_modules_have_the_notes_found_by_hand(rt: HostRuntime) -> Result<(), Fail> {
-    let alloc = rt.alloc();
-    for (text, attribute_names, notes) in WORKED {
-        let names = attributes(alloc, attribute_names)?;
-        let program = program_of(&rt, alloc, text)?;
-        expect_all_notes(&rt, alloc, &program, &names, notes)?;
-    }
-    Ok(())
-}
-
-// Modules and their notes: `;` stands between outputs, a space between ports.
-const BY_THEIR_RULES: [(&'static str, &'static str); 11] = [
-    // A port that no rule of an output uses.
-    (
-        "module m; input a(x); input b(x); output o(x); output p(x); o <= a; p <= b;",
-        "CR none;none CR",
-    ),
-    // A table that two ports feed, one of them through a table.
-    (
-        "module m; input a(x); input b(x); output o(x); table t(x); table u(x);
-        t <= a; u <= t; u <= b; o <= u;",
-        "CW CW",
-    ),
-    // A group in a table, in a scratch of a table, and in a scratch in front of the output.
-    (
-        "module m; input a(x, y); output o(x, n); table t(x, y); table c(x, n);
-        t <= a; c <= group(t, [x], count as n); o <= c;",
-        "OW[x]",
-    ),
-    (
-        "module m; input a(x, y); output o(x, n); table t(x, y); table c(x, n); scratch s(x, n);
-        t <= a; s <= group(t, [x], count as n); c <= s; o <= c;",
-        "OW[x]",
-    ),
-    (
-        "module m; input a(x, y); output o(x, n); table t(x, y); scratch s(x, n);
-        t <= a; s <= group(t, [x], count as n); o <= s;",
-        "OW[x]",
-    ),
-    // A group behind what a port asks.
-    (
-        "module m; input a(x, y); input q(x); output o(x, n); table t(x, y); table c(x, n);
-        t <= a; c <= group(t, [x], count as n); o <= join(q, c, x = x);",
-        "OW[x] OR[x]",
-    ),
-    // A port that is read beside the table that it feeds.
-    (
-        "module m; input a(x); output o(x); table t(x); t <= a; o <= join(a, t, x = x);",
-        "OW[x]",
-    ),
-    // An antijoin of tables.
-    (
-        "module m; input a(x, y); input b(x); output o(x, y); table t(x, y); table u(x);
-        t <= a; u <= b; o <= notin(t, u, x = x);",
-        "OW[x] OW[x]",
-    ),
-    // Two rules of an output, whose uses combine.
-    (
-        "module m; input a(x); output o(x); table t(x); t <= a; o <= a; o <= t;",
-        "CW",
-    ),
-    (
-        "module m; input a(x, y); output o(x, n); table t(x, y);
-        t <= a; o <= group(t, [x], count as n);
-        o <= project(group(t, [x, y], count as n), y as x, n);",
-        "OW[x]",
-    ),
-    (
-        "module m; input a(x, y); output o(x, n); table t(x, y);
-        t <= a; o <= group(t, [x], count as n); o <= group(t, [y], count as n);",
-        "OW[-]",
-    ),
-];
-
-#[test]
-fn notes_follow_what_the_rules_read(rt: HostRuntime) -> Result<(), Fail> {
-    let alloc = rt.alloc();
-    let names = attributes(alloc, "x,y")?;
-    for (text, notes) in BY_THEIR_RULES {
-        let program = program_of(&rt, alloc, text)?;
-        expect_all_notes(&rt, alloc, &program, &names, notes)?;
-    }
     Ok(())
 }
 
@@ -294,7 +173,8 @@ fn expect_stock(
     requires { IsStock program.now }
 {
     let names = attributes(alloc, attribute_names)?;
-    expect_all_notes(rt, alloc, program, &names, notes)?;
+    assert_eq!(rt; program.output_count(), 1);
+    expect_notes(rt, alloc, program, &names, 0, notes)?;
     expect_roots_and_gate(rt, alloc, program, &names, columns, gate)
 }
 

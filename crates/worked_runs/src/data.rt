@@ -5,8 +5,8 @@ ghost use Rattle.topo_types.specs.View.{source_count};
 
 use crate::reading::valid_of;
 use crate::records::push_records;
-use crate::topologies::{LATEST, NAME_SUMS, SITE_SUMS, TALLY, TYPED_SITE_SUMS, WORD_COUNT, Worked};
-use blz_value::{Record, write_record};
+use crate::topologies::{LATEST, TALLY, Worked};
+use blz_value::Record;
 use data_read::{Data, DataFault, of_lists, read};
 use std::alloc::Global;
 use std::process::Abort;
@@ -15,37 +15,16 @@ use topo_types::Valid;
 
 // ---- how a reading ends
 
-// The fault with its parts.
-fn push_fault(alloc: Global, fault: &DataFault, into: &mut Vec<u8>) -> Result<(), Fail> {
-    match fault {
-        DataFault::NotJson => into.extend_from_slice(b"NotJson")?,
-        DataFault::DataForm { name, row } => {
-            let line = format!(in alloc; "DataForm {} {row}", name.as_str())?;
-            into.extend_from_slice(line.as_bytes())?;
-        }
-        DataFault::TooMany { name } => {
-            let line = format!(in alloc; "TooMany {}", name.as_str())?;
-            into.extend_from_slice(line.as_bytes())?;
-        }
-        DataFault::FdBroken { fd, first, second } => {
-            let line = format!(in alloc; "FdBroken {fd} ")?;
-            into.extend_from_slice(line.as_bytes())?;
-            write_record(alloc, first, into)?;
-            write_record(alloc, second, into)?;
-        }
-        DataFault::NoMemory => into.extend_from_slice(b"NoMemory")?,
-    }
-    Ok(())
-}
-
-// `ok`, or the fault with its parts.
+// `ok`, or the fault.
 fn ending_of(alloc: Global, ended: &Result<Data, DataFault>) -> Result<Vec<u8>, Fail> {
-    let mut ending = Vec::new(alloc);
     match ended {
-        Ok(_) => ending.extend_from_slice(b"ok")?,
-        Err(fault) => push_fault(alloc, fault, &mut ending)?,
+        Ok(_) => Ok(Vec::from_slice(alloc, b"ok")?),
+        Err(DataFault::NotJson) => Ok(Vec::from_slice(alloc, b"NotJson")?),
+        Err(DataFault::TooMany { name }) => {
+            Ok(format!(in alloc; "TooMany {}", name.as_str())?.into_bytes())
+        }
+        Err(_) => Ok(Vec::from_slice(alloc, b"another fault")?),
     }
-    Ok(ending)
 }
 
 // How the reading of a text ends.
@@ -80,143 +59,10 @@ fn check(
     check_each(rt, alloc, &valid, rows)
 }
 
-// ---- the form
-
-#[test]
-fn a_break_is_named_by_source_and_row(rt: HostRuntime) -> Result<(), Fail> {
-    let rows: [(&[u8], &str); 13] = [
-        (b"[1]", "DataForm tweets 0"),
-        (br#"{"tweets":[[1,"a"]]}"#, "DataForm tweets 1"),
-        (
-            br#"{"tweets":[[1,"a",1],[1,"a",1,2]]}"#,
-            "DataForm tweets 2",
-        ),
-        (br#"{"tweets":[[1,"a",1]],"words":[]}"#, "DataForm words 0"),
-        (br#"{"zone":[],"also":[]}"#, "DataForm also 0"),
-        (br#"{"also":[],"tweets":[1]}"#, "DataForm tweets 1"),
-        (
-            br#"{"tweets":{"rows":[[1,"a",1]],"parts":[[1,2]]}}"#,
-            "DataForm tweets 2",
-        ),
-        (br#"{"tweets":{"parts":[[1],[[]]]}}"#, "DataForm tweets 2"),
-        (br#"{"tweets":{"parts":1,"rows":[1]}}"#, "DataForm tweets 0"),
-        (br#"{"tweets":{"rows":[],"more":[]}}"#, "DataForm tweets 0"),
-        (br#"{"tweets":null}"#, "DataForm tweets 0"),
-        (br#"{"tweets":[1],"tweets":[]}"#, "ok"),
-        (b"{}", "ok"),
-    ];
-    check(&rt, rt.alloc(), &WORD_COUNT, &rows)
-}
-
-#[test]
-fn only_a_sealed_source_has_parts(rt: HostRuntime) -> Result<(), Fail> {
-    let rows: [(&[u8], &str); 3] = [
-        (br#"{"puts":{"rows":[["a",1]]}}"#, "ok"),
-        (
-            br#"{"puts":{"rows":[["a",1]],"parts":[]}}"#,
-            "DataForm puts 0",
-        ),
-        (br#"{"asks":[1],"puts":[1]}"#, "DataForm puts 1"),
-    ];
-    check(&rt, rt.alloc(), &LATEST, &rows)
-}
-
-#[test]
-fn a_number_is_an_integer_of_64_bits(rt: HostRuntime) -> Result<(), Fail> {
-    let rows: [(&[u8], &str); 10] = [
-        (
-            br#"{"asks":[[9223372036854775807],[-9223372036854775808]]}"#,
-            "ok",
-        ),
-        (br#"{"asks":[[9223372036854775808]]}"#, "DataForm asks 1"),
-        (br#"{"asks":[[-9223372036854775809]]}"#, "DataForm asks 1"),
-        (br#"{"asks":[[18446744073709551616]]}"#, "DataForm asks 1"),
-        (br#"{"asks":[[1],[1.0]]}"#, "DataForm asks 2"),
-        (br#"{"asks":[[1e2]]}"#, "DataForm asks 1"),
-        (br#"{"asks":[[0],[-0]]}"#, "DataForm asks 2"),
-        (br#"{"asks":[[1e999]]}"#, "NotJson"),
-        (br#"{"asks":[[true]]}"#, "DataForm asks 1"),
-        (br#"{"asks":[[01]]}"#, "NotJson"),
-    ];
-    check(&rt, rt.alloc(), &LATEST, &rows)
-}
-
-#[test]
-fn a_text_has_at_most_64_bytes(rt: HostRuntime) -> Result<(), Fail> {
-    let whole = "z".repeat(rt.alloc(), 64)?;
-    let fits = format!(in rt.alloc(); "{{\"asks\":[[\"{whole}\"]]}}")?;
-    let long = format!(in rt.alloc(); "{{\"asks\":[[\"{whole}z\"]]}}")?;
-    let rows = [
-        (fits.as_bytes(), "ok"),
-        (long.as_bytes(), "DataForm asks 1"),
-    ];
-    check(&rt, rt.alloc(), &LATEST, &rows)
-}
-
-#[test]
-fn a_column_holds_values_of_its_type(rt: HostRuntime) -> Result<(), Fail> {
-    let rows: [(&[u8], &str); 4] = [
-        (br#"{"clicks":[[1,5,7,1]]}"#, "DataForm clicks 1"),
-        (br#"{"clicks":[[1,5,"x",1]]}"#, "ok"),
-        (br#"{"clicks":[[1,"5","x",1]]}"#, "DataForm clicks 1"),
-        (br#"{"clicks":{"parts":[[1],["x"]]}}"#, "DataForm clicks 2"),
-    ];
-    check(&rt, rt.alloc(), &TYPED_SITE_SUMS, &rows)
-}
-
-#[test]
-fn what_is_no_json_is_named(rt: HostRuntime) -> Result<(), Fail> {
-    let rows: [(&[u8], &str); 5] = [
-        (b"", "NotJson"),
-        (b"{", "NotJson"),
-        (b"\xff", "NotJson"),
-        (b"{\"puts\":[\"\xc3\"]}", "NotJson"),
-        (b"{} {}", "NotJson"),
-    ];
-    check(&rt, rt.alloc(), &LATEST, &rows)
-}
-
 #[test]
 fn brackets_are_refused_however_deep(rt: HostRuntime) -> Result<(), Fail> {
     let deep = "[".repeat(rt.alloc(), 100_000)?;
     check(&rt, rt.alloc(), &LATEST, &[(deep.as_bytes(), "NotJson")])
-}
-
-// ---- dependencies
-
-#[test]
-fn a_broken_dependency_is_shown_by_its_first_pair(rt: HostRuntime) -> Result<(), Fail> {
-    let rows: [(&[u8], &str); 4] = [
-        (
-            br#"{"clicks":[[1,"x",1],[2,"x",2]]}"#,
-            "FdBroken 0 (1, \"x\", 1)(2, \"x\", 2)",
-        ),
-        (
-            br#"{"clicks":[[1,"x",1],[1,"y",2]]}"#,
-            "FdBroken 0 (1, \"x\", 1)(1, \"y\", 2)",
-        ),
-        (
-            br#"{"clicks":[[1,"x",1],[2,"y",2],[2,"x",3]]}"#,
-            "FdBroken 0 (1, \"x\", 1)(2, \"x\", 3)",
-        ),
-        (br#"{"clicks":[[1,"x",1],[1,"x",2],[2,"y",1]]}"#, "ok"),
-    ];
-    check(&rt, rt.alloc(), &NAME_SUMS, &rows)
-}
-
-#[test]
-fn a_dependency_is_checked_after_the_form_of_all_rows(rt: HostRuntime) -> Result<(), Fail> {
-    let rows: [(&[u8], &str); 2] = [
-        (
-            br#"{"clicks":[[1,5,"x",1],[2,5,"x",2]]}"#,
-            "FdBroken 0 (1, 5, \"x\", 1)(2, 5, \"x\", 2)",
-        ),
-        (
-            br#"{"clicks":[[1,5,"x",1],[2,5,"x",2],[3]]}"#,
-            "DataForm clicks 3",
-        ),
-    ];
-    check(&rt, rt.alloc(), &SITE_SUMS, &rows)
 }
 
 // ---- repeats

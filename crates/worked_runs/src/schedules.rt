@@ -85,43 +85,6 @@ fn lines_end_and_fields_are_divided_in_more_than_one_way(rt: HostRuntime) -> Res
 }
 
 #[test]
-fn the_first_line_that_is_none_is_named(rt: HostRuntime) -> Result<(), Fail> {
-    let rows: [(&[u8], &[u8]); 13] = [
-        (b"deliver puts", b"line 1"),
-        (b"deliver puts 0 0 to cache put 0", b"line 1"),
-        (b"deliver puts 0 0 at cache.put 0", b"line 1"),
-        (b"order puts 0 0 to cache.put 0", b"line 1"),
-        (b"\n\ntake a\ntake b", b"line 3"),
-        (b"take a 0\r\n#\r\nTake a 0", b"line 3"),
-        (b"take a 0 0", b"line 1"),
-        (b"take a 4294967296", b"line 1"),
-        (b"take a 00000000000", b"line 1"),
-        (b"take a -1", b"line 1"),
-        (b"take a 0 # first", b"line 1"),
-        (b"batch a 0", b"line 1"),
-        (b"batch a 0 s 0 0", b"line 1"),
-    ];
-    check(&rt, rt.alloc(), &rows)
-}
-
-// A batch of so many groups.
-fn batch_of(alloc: Global, count: usize) -> Result<String, Fail> {
-    let groups = " s 0 0 p".repeat(alloc, count)?;
-    Ok(format!(in alloc; "batch c 0{groups}\n")?)
-}
-
-#[test]
-fn a_batch_has_at_most_64_groups(rt: HostRuntime) -> Result<(), Fail> {
-    let most = batch_of(rt.alloc(), 64)?;
-    let more = batch_of(rt.alloc(), 65)?;
-    let rows: [(&[u8], &[u8]); 2] = [
-        (most.as_bytes(), most.as_bytes()),
-        (more.as_bytes(), b"line 1"),
-    ];
-    check(&rt, rt.alloc(), &rows)
-}
-
-#[test]
 fn a_text_has_at_most_a_million_lines(rt: HostRuntime) -> Result<(), Fail> {
     let most = "\n".repeat(rt.alloc(), 1_000_000)?;
     let more = "\n".repeat(rt.alloc(), 1_000_001)?;

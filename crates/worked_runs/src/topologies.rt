@@ -29,42 +29,8 @@ commits <= committed;
     ),
 ];
 
-/// Three components in a line, behind a source that is sealed by batch.
-pub(crate) const WORD_COUNT: Worked = Worked {
-    topology: "
-format = 1
-[[source]]
-name = 'tweets'
-columns = ['id', 'text', 'batch']
-seal = ['batch']
-to = ['split.in']
-[[component]]
-name = 'split'
-stock = 'split'
-columns = ['id', 'text', 'batch']
-split = 'text'
-[[component]]
-name = 'count'
-module = 'count.bloom'
-[[component]]
-name = 'commit'
-module = 'commit.bloom'
-[[stream]]
-name = 'words'
-from = 'split.out'
-to = ['count.words']
-[[stream]]
-name = 'counts'
-from = 'count.counts'
-to = ['commit.counts']
-[[stream]]
-name = 'commits'
-from = 'commit.commits'
-",
-    modules: COUNT_AND_COMMIT,
-};
-
-/// The same with count and commit at three replicas.
+/// Three components in a line, behind a source that is sealed by batch; count and commit at three
+/// replicas.
 pub(crate) const REPLICATED_WORD_COUNT: Worked = Worked {
     topology: "
 format = 1
@@ -140,89 +106,6 @@ name = 'commits'
 from = 'commit.commits'
 ",
     modules: COUNT_AND_COMMIT,
-};
-
-/// Clicks counted by name, where the name has the campaign and the campaign the name.
-pub(crate) const NAME_SUMS: Worked = Worked {
-    topology: "
-format = 1
-[[source]]
-name = 'clicks'
-columns = ['campaign', 'name', 'uid']
-to = ['sums.clicks']
-[[component]]
-name = 'sums'
-module = 'sums.bloom'
-[[stream]]
-name = 'sums'
-from = 'sums.sums'
-[[fd]]
-from = 'name'
-to = 'campaign'
-",
-    modules: &[(
-        "sums.bloom",
-        "module sums;
-input clicks(campaign, name, uid);
-output sums(name, n);
-table seen(campaign, name, uid);
-seen <= clicks;
-sums <= group(seen, [name], count as n);
-",
-    )],
-};
-
-const BY_SITE_AND_NAME: &[(&str, &str)] = &[(
-    "sums.bloom",
-    "module sums;
-input clicks(campaign, site, name, uid);
-output sums(site, name, n);
-table seen(campaign, site, name, uid);
-seen <= clicks;
-sums <= group(seen, [site, name], count as n);
-",
-)];
-
-/// Clicks counted by site and name, which together have the campaign.
-pub(crate) const SITE_SUMS: Worked = Worked {
-    topology: "
-format = 2
-[[source]]
-name = 'clicks'
-columns = ['campaign', 'site', 'name', 'uid']
-seal = ['campaign']
-to = ['sums.clicks']
-[[component]]
-name = 'sums'
-module = 'sums.bloom'
-[[stream]]
-name = 'sums'
-from = 'sums.sums'
-[[fd]]
-from = ['site', 'name']
-to = ['campaign']
-",
-    modules: BY_SITE_AND_NAME,
-};
-
-/// The same with the types of the columns, and without the dependency.
-pub(crate) const TYPED_SITE_SUMS: Worked = Worked {
-    topology: "
-format = 2
-[[source]]
-name = 'clicks'
-columns = ['campaign', 'site', 'name', 'uid']
-types = ['int', 'int', 'text', 'int']
-seal = ['campaign']
-to = ['sums.clicks']
-[[component]]
-name = 'sums'
-module = 'sums.bloom'
-[[stream]]
-name = 'sums'
-from = 'sums.sums'
-",
-    modules: BY_SITE_AND_NAME,
 };
 
 const BY_CAMPAIGN: &[(&str, &str)] = &[(

@@ -1,8 +1,7 @@
-//! Worked runs of the program: topologies, data and schedules as their files, over the call `blazes`.
+//! Worked runs of the program that no file of rows can hold: topologies, data and schedules as their
+//! files, over the call `blazes`.
 #![tactic(auto)]
 
-#[cfg(test)]
-mod batches;
 #[cfg(test)]
 mod benches;
 #[cfg(test)]
@@ -14,7 +13,7 @@ mod reads;
 #[cfg(test)]
 mod refusals;
 #[cfg(test)]
-mod sealing;
+mod soaks;
 #[cfg(test)]
 mod text;
 #[cfg(test)]

@@ -18,8 +18,8 @@ pub struct Run<'a> {
     pub schedule: &'a str,
 }
 
-// Puts a file behind others.
-fn hold(
+/// Puts a file behind others.
+pub fn hold(
     alloc: Global,
     held: &mut Vec<(String, Vec<u8>)>,
     name: &str,
@@ -44,30 +44,38 @@ pub fn files_of(alloc: Global, run: Run<'_>, failing: Vec<u64>) -> Result<MemFil
 }
 
 // The words of a run.
-fn words_of(alloc: Global) -> Result<Vec<String>, Fail> {
-    let mut words = Vec::new(alloc);
-    for word in ["run", "t.toml", "d.json", "s.txt"] {
-        words.push(String::from_str(alloc, word)?)?;
-    }
-    Ok(words)
-}
+const RUN: &[&str] = &["run", "t.toml", "d.json", "s.txt"];
 
-/// The status of a run over these files and this bench, and what is written into a sink with room for
-/// so many bytes.
-pub fn answer_on(
+/// The status of the program at these words over these files and this bench, and what is written into a
+/// sink with room for so many bytes.
+pub fn answer_to(
     alloc: Global,
+    texts: &[&str],
     mut files: MemFiles,
     most: usize,
     bench: &mut Vec<Box<dyn Component>>,
 ) -> Result<(Status, Vec<u8>), Fail> {
-    let words = words_of(alloc)?;
+    let mut words = Vec::new(alloc);
+    for text in texts {
+        words.push(String::from_str(alloc, *text)?)?;
+    }
     let mut out = MemSink::new(alloc, most)?;
     let status = blazes(alloc, &words, &mut files, &mut out, bench);
     Ok((status, Vec::from_slice(alloc, out.bytes())?))
 }
 
-/// The same on a bench with four shells for modules and sixteen of each stock kind.
-pub fn answer_over(alloc: Global, files: MemFiles, most: usize) -> Result<(Status, Vec<u8>), Fail> {
+/// The same of a run.
+pub fn answer_on(
+    alloc: Global,
+    files: MemFiles,
+    most: usize,
+    bench: &mut Vec<Box<dyn Component>>,
+) -> Result<(Status, Vec<u8>), Fail> {
+    answer_to(alloc, RUN, files, most, bench)
+}
+
+/// A bench with four shells for modules and sixteen of each stock kind.
+pub fn bench_of(alloc: Global) -> Result<Vec<Box<dyn Component>>, Fail> {
     let mut bench: Vec<Box<dyn Component>> = Vec::new(alloc);
     for number in 0..16 {
         if number < 4 {
@@ -77,7 +85,12 @@ pub fn answer_over(alloc: Global, files: MemFiles, most: usize) -> Result<(Statu
         bench.push(Box::new(alloc, LatestShell::new(alloc))?)?;
         bench.push(Box::new(alloc, NumberShell::new(alloc))?)?;
     }
-    answer_on(alloc, files, most, &mut bench)
+    Ok(bench)
+}
+
+/// The status of a run over these files on such a bench, and what is written.
+pub fn answer_over(alloc: Global, files: MemFiles, most: usize) -> Result<(Status, Vec<u8>), Fail> {
+    answer_on(alloc, files, most, &mut bench_of(alloc)?)
 }
 
 /// The program answers so to a run over files that never fail.

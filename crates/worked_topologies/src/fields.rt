@@ -1,10 +1,9 @@
-//! Topology files with every field that a table may have, and the place of each break in them.
+//! Topology files, and every field of what is read of them.
 use blz_value::Str;
 use std::alloc::Global;
-use std::process::Abort;
 use std::test::Fail;
-use topo_read::{TopoTextFault, read};
-use topo_types::{Body, ColumnType, ModeName, Stock, Topology};
+use topo_read::read;
+use topo_types::{Body, ColumnType, ModeName, NoteName, Spot, Stock, Topology};
 
 const PARTS: &str = r#"
 [[source]]
@@ -147,233 +146,97 @@ fn both_formats_of_one_topology_read_the_same(rt: HostRuntime) -> Result<(), Fai
     Ok(())
 }
 
-// `ok`, `not toml`, `no memory`, or the place of the first break.
-fn ending(alloc: Global, text: &[u8]) -> Result<String, Fail> {
-    let Err(fault) = read(alloc, text) else {
-        return Ok(String::from_str(alloc, "ok")?);
+const WHOLE: &str = r#"
+format = 1
+
+[[source]]
+name = "clicks"
+columns = ["id", "campaign"]
+to = ["count.clicks", "_log.all"]
+
+[[component]]
+name = "count"
+inputs = [{ name = "clicks", columns = ["id", "campaign"] }]
+outputs = [{ name = "sums", columns = ["campaign", "n"] }]
+notes = [{ from = "clicks", to = "sums", note = "OW" }]
+
+[[component]]
+name = "_log"
+inputs = [{ columns = ["id", "campaign"], name = "all" }]
+
+[[stream]]
+name = "totals"
+from = "count.sums"
+"#;
+
+fn is_spot(spot: &Spot, component: &str, port: &str) -> bool {
+    spot.component.as_str() == component && spot.port.as_str() == port
+}
+
+fn has_its_source(topology: &Topology) -> bool {
+    let [source] = topology.sources.as_slice() else {
+        return false;
     };
-    let ending = match &fault {
-        TopoTextFault::NotToml => "not toml",
-        TopoTextFault::Form { path } => path.as_str(),
-        TopoTextFault::NoMemory => "no memory",
+    let [first, second] = source.to.as_slice() else {
+        return false;
     };
-    Ok(String::from_str(alloc, ending)?)
+    source.name.as_str() == "clicks"
+        && are(source.columns.as_slice(), &["id", "campaign"])
+        && source.types.as_slice() == [ColumnType::Any, ColumnType::Any].as_slice()
+        && source.seal.as_slice().is_empty()
+        && is_spot(first, "count", "clicks")
+        && is_spot(second, "_log", "all")
 }
 
-// Behind this beginning each text ends so.
-fn check_endings(
-    rt: &impl Abort,
-    alloc: Global,
-    beginning: &str,
-    rows: &[(&str, &str)],
-) -> Result<(), Fail> {
-    for (entries, expected) in rows {
-        let text = format!(in alloc; "{beginning}{entries}")?;
-        let ending = ending(alloc, text.as_bytes())?;
-        assert_eq!(rt; ending.as_str(), *expected, "{entries}");
-    }
+fn has_its_components(topology: &Topology) -> bool {
+    let [count, log] = topology.components.as_slice() else {
+        return false;
+    };
+    let ([input], [output], [note], [all]) = (
+        count.inputs.as_slice(),
+        count.outputs.as_slice(),
+        count.notes.as_slice(),
+        log.inputs.as_slice(),
+    ) else {
+        return false;
+    };
+    count.name.as_str() == "count"
+        && input.name.as_str() == "clicks"
+        && are(input.columns.as_slice(), &["id", "campaign"])
+        && output.name.as_str() == "sums"
+        && are(output.columns.as_slice(), &["campaign", "n"])
+        && note.from.as_str() == "clicks"
+        && note.to.as_str() == "sums"
+        && note.note == NoteName::OW
+        && note.gate.as_slice().is_empty()
+        && log.name.as_str() == "_log"
+        && all.name.as_str() == "all"
+        && log.outputs.as_slice().is_empty()
+        && log.notes.as_slice().is_empty()
+        && matches!(log.body, Body::None)
+        && log.replicas == 1
+        && log.mode == ModeName::Free
+        && log.key.as_slice().is_empty()
+}
+
+fn has_its_stream(topology: &Topology) -> bool {
+    let [stream] = topology.streams.as_slice() else {
+        return false;
+    };
+    stream.name.as_str() == "totals"
+        && is_spot(&stream.from, "count", "sums")
+        && stream.to.as_slice().is_empty()
+}
+
+#[test]
+fn a_topology_has_what_its_file_says(rt: HostRuntime) -> Result<(), Fail> {
+    let topology = read(rt.alloc(), WHOLE.as_bytes())
+        .ok()
+        .ok_or("the file is a topology")?;
+    assert_eq!(rt; topology.format, 2);
+    assert!(rt; has_its_source(&topology));
+    assert!(rt; has_its_components(&topology));
+    assert!(rt; has_its_stream(&topology));
+    assert!(rt; topology.fds.as_slice().is_empty());
     Ok(())
-}
-
-// Behind a source with two columns.
-const BREAKS_OF_A_SOURCE: [(&'static str, &'static str); 13] = [
-    ("types = ['int', 'any']", "ok"),
-    ("types = ['text', 'text']", "ok"),
-    ("types = 'int'", "source[1].types"),
-    ("types = []", "source[1].types"),
-    ("types = ['int']", "source[1].types"),
-    ("types = ['int', 'int', 'int']", "source[1].types"),
-    ("types = ['int', 'Int']", "source[1].types"),
-    ("seal = ['x']", "ok"),
-    ("seal = []", "source[1].seal"),
-    ("seal = ['x', '']", "source[1].seal"),
-    ("seal = 'x'", "source[1].seal"),
-    ("seal = []\ntypes = 1", "source[1].types"),
-    ("to = 1\nseal = 1\nalso = 1", "source[1].seal"),
-];
-
-#[test]
-fn a_break_of_a_source_is_at_its_types_or_its_seal(rt: HostRuntime) -> Result<(), Fail> {
-    let beginning = "format = 2\n[[source]]\nname = 'a'\ncolumns = ['x', 'y']\n";
-    check_endings(&rt, rt.alloc(), beginning, &BREAKS_OF_A_SOURCE)
-}
-
-#[test]
-fn format_1_has_no_types(rt: HostRuntime) -> Result<(), Fail> {
-    let rows = [
-        ("types = ['int']", "source[1].types"),
-        ("types = 1\nto = 1", "source[1].to"),
-        ("types = 1\nalso = 1", "source[1].also"),
-    ];
-    let beginning = "format = 1\n[[source]]\nname = 'a'\ncolumns = ['x']\n";
-    check_endings(&rt, rt.alloc(), beginning, &rows)
-}
-
-// Behind a component's name.
-const BREAKS_OF_A_BODY: [(&'static str, &'static str); 31] = [
-    ("module = 'm'", "ok"),
-    ("module = ''", "component[1].module"),
-    ("module = 1", "component[1].module"),
-    (
-        "module = 'm'\nstock = 'number'\ncolumns = 1",
-        "component[1].stock",
-    ),
-    ("module = 'm'\nstock = 1", "component[1].stock"),
-    ("module = 1\nstock = 1", "component[1].module"),
-    ("stock = 'Split'", "component[1].stock"),
-    ("stock = 'split'", "component[1].columns"),
-    ("stock = 'split'\ncolumns = []\nsplit = 'x'", "ok"),
-    (
-        "stock = 'split'\ncolumns = 'x'\nsplit = 'x'",
-        "component[1].columns",
-    ),
-    (
-        "stock = 'split'\ncolumns = ['']\nsplit = 'x'",
-        "component[1].columns",
-    ),
-    (
-        "stock = 'split'\ncolumns = ['x']\nkeys = ['x']",
-        "component[1].split",
-    ),
-    (
-        "stock = 'split'\ncolumns = ['x']\nsplit = ['x']",
-        "component[1].split",
-    ),
-    (
-        "stock = 'split'\ncolumns = ['x']\nsplit = 'x'\nkeys = ['x']",
-        "component[1].keys",
-    ),
-    ("stock = 'latest'\ncolumns = ['x']\nkeys = ['x']", "ok"),
-    ("stock = 'latest'\ncolumns = ['x']", "component[1].keys"),
-    (
-        "stock = 'latest'\ncolumns = ['x']\nkeys = []",
-        "component[1].keys",
-    ),
-    (
-        "stock = 'latest'\ncolumns = ['x']\nsplit = 'x'",
-        "component[1].split",
-    ),
-    ("stock = 'number'\ncolumns = ['x']", "ok"),
-    ("stock = 'number'", "component[1].columns"),
-    (
-        "stock = 'number'\ncolumns = []\nkeys = ['x']",
-        "component[1].keys",
-    ),
-    ("columns = []", "component[1].columns"),
-    ("module = 'm'\ncolumns = []", "component[1].columns"),
-    (
-        "module = 'm'\nsplit = 'x'\nkeys = ['x']",
-        "component[1].split",
-    ),
-    ("keys = ['x']\ninputs = 1", "component[1].keys"),
-    ("module = 'm'\ninputs = []", "component[1].inputs"),
-    ("module = 'm'\noutputs = []", "component[1].outputs"),
-    (
-        "stock = 'number'\ncolumns = []\noutputs = []",
-        "component[1].outputs",
-    ),
-    ("inputs = []\noutputs = []", "ok"),
-    (
-        "module = 'm'\nnotes = [{ from = 'p', to = 'o', note = 'CR' }]",
-        "ok",
-    ),
-    ("also = 1\ncolumns = []", "component[1].columns"),
-];
-
-#[test]
-fn a_break_of_a_body_is_at_its_first_field(rt: HostRuntime) -> Result<(), Fail> {
-    let beginning = "format = 1\n[[component]]\nname = 'c'\n";
-    check_endings(&rt, rt.alloc(), beginning, &BREAKS_OF_A_BODY)
-}
-
-// Behind a component's name.
-const BREAKS_OF_A_MODE: [(&'static str, &'static str); 22] = [
-    ("replicas = 0", "ok"),
-    ("replicas = -9", "ok"),
-    ("replicas = '1'", "component[1].replicas"),
-    ("replicas = 1.0", "component[1].replicas"),
-    ("mode = 'free'", "ok"),
-    ("mode = 'order'", "ok"),
-    ("mode = 'Free'", "component[1].mode"),
-    ("mode = []", "component[1].mode"),
-    ("mode = 'seal'", "component[1].key"),
-    ("mode = 'seal'\nkey = ['k']", "ok"),
-    ("mode = 'pass'\nkey = []", "component[1].key"),
-    ("mode = 'pass'\nkey = ['']", "component[1].key"),
-    ("mode = 'pass'\nkey = 'k'", "component[1].key"),
-    ("mode = 'order'\nkey = ['k']", "component[1].key"),
-    ("key = ['k']", "component[1].key"),
-    ("mode = 1\nreplicas = 'x'\nkey = 1", "component[1].replicas"),
-    (
-        "notes = [{ from = 'p', to = 'o', note = 'OR', gate = ['g'] }]",
-        "ok",
-    ),
-    (
-        "notes = [{ from = 'p', to = 'o', note = 'OW', gate = [] }]",
-        "ok",
-    ),
-    (
-        "notes = [{ from = 'p', to = 'o', note = 'OW', gate = [1] }]",
-        "component[1].notes",
-    ),
-    (
-        "notes = [{ from = 'p', to = 'o', note = 'OW', gate = 'g' }]",
-        "component[1].notes",
-    ),
-    (
-        "notes = [{ from = 'p', to = 'o', note = 'CW', gate = [] }]",
-        "component[1].notes",
-    ),
-    (
-        "notes = [{ from = 'p', to = 'o', note = 'CR', gate = ['g'] }]\nreplicas = ''",
-        "component[1].notes",
-    ),
-];
-
-#[test]
-fn a_break_of_a_mode_is_at_its_first_field(rt: HostRuntime) -> Result<(), Fail> {
-    let beginning = "format = 2\n[[component]]\nname = 'c'\n";
-    check_endings(&rt, rt.alloc(), beginning, &BREAKS_OF_A_MODE)
-}
-
-#[test]
-fn a_file_of_a_module_has_at_most_255_bytes(rt: HostRuntime) -> Result<(), Fail> {
-    let beginning = "format = 1\n[[component]]\nname = 'c'\nmodule = ";
-    for (length, expected) in [(255_usize, "ok"), (256, "component[1].module")] {
-        let name = "m".repeat(rt.alloc(), length)?;
-        let text = format!(in rt.alloc(); "{beginning}'{name}'")?;
-        assert_eq!(rt; ending(rt.alloc(), text.as_bytes())?.as_str(), expected);
-    }
-    Ok(())
-}
-
-const BREAKS_OF_A_DEPENDENCY: [(&'static str, &'static str); 14] = [
-    ("2\nfd = 1", "fd"),
-    ("2\nfd = [1]\nalso = 1", "fd"),
-    ("2\nfd = 1\nstream = 1", "stream"),
-    ("2\n[[fd]]\nto = ['b']", "fd[1].from"),
-    ("2\n[[fd]]\nfrom = ['a']", "fd[1].to"),
-    ("2\n[[fd]]\nfrom = 'a'\nto = 'b'", "fd[1].from"),
-    ("2\n[[fd]]\nfrom = []\nto = 'b'", "fd[1].from"),
-    (
-        "2\n[[fd]]\nfrom = ['a', 'a']\nto = ['a','b','c','d','e','f','g','h']",
-        "ok",
-    ),
-    (
-        "2\n[[fd]]\nfrom = ['a']\nto = ['a','b','c','d','e','f','g','h','i']",
-        "fd[1].to",
-    ),
-    ("2\n[[fd]]\nfrom = ['a']\nto = ['b']\nby = 1", "fd[1].by"),
-    (
-        "1\n[[fd]]\nfrom = 'a'\nto = 'b'\n[[fd]]\nfrom = 'a'\nto = ''",
-        "fd[2].to",
-    ),
-    ("1\n[[fd]]\nfrom = ['name']\nto = ['b']", "fd[1].from"),
-    ("1\n[[fd]]\n[[stream]]", "stream[1].name"),
-    ("1\n[[fd]]\n[[component]]\nname = 1", "component[1].name"),
-];
-
-#[test]
-fn a_break_of_a_dependency_is_at_its_first_field(rt: HostRuntime) -> Result<(), Fail> {
-    check_endings(&rt, rt.alloc(), "format = ", &BREAKS_OF_A_DEPENDENCY)
 }

@@ -26,12 +26,3 @@ table seen(campaign, name, uid);
 seen <= clicks;
 sums <= group(seen, [name], count as n);
 ";
-
-/// Keeps all that it is told and tells it.
-pub const TELLING: &str = "module gossip;
-input told(item);
-output tells(item);
-table known(item);
-known <= told;
-tells <= known;
-";

@@ -1,4 +1,4 @@
-//! What the program answers to files that are given as texts.
+//! What the program answers to files that are given as bytes.
 use blazes_cli::{Status, blazes};
 use blz_boxes::Component;
 use blz_outside::{MemFiles, MemSink};
@@ -8,13 +8,13 @@ use std::test::Fail;
 /// A sink as large as this takes every text of these tests.
 pub const AMPLE: usize = 10_000;
 
-/// The names and texts of some files.
-pub fn held(alloc: Global, files: &[(&str, &str)]) -> Result<Vec<(String, Vec<u8>)>, Fail> {
+/// The names and bytes of some files.
+pub fn held(alloc: Global, files: &[(&str, &[u8])]) -> Result<Vec<(String, Vec<u8>)>, Fail> {
     let mut held = Vec::new(alloc);
-    for (name, text) in files {
+    for (name, bytes) in files {
         held.push((
             String::from_str(alloc, *name)?,
-            Vec::from_slice(alloc, text.as_bytes())?,
+            Vec::from_slice(alloc, *bytes)?,
         ))?;
     }
     Ok(held)
@@ -41,18 +41,9 @@ pub fn answer_over(
 /// The same over files that never fail, into an ample sink.
 pub fn answer(
     alloc: Global,
-    files: &[(&str, &str)],
+    files: &[(&str, &[u8])],
     words: &[&str],
 ) -> Result<(Status, Vec<u8>), Fail> {
     let files = MemFiles::new(held(alloc, files)?, Vec::new(alloc));
     answer_over(alloc, files, words, AMPLE)
-}
-
-/// The text of these parts behind the line of format 2.
-pub fn joined(alloc: Global, parts: &[&str]) -> Result<String, Fail> {
-    let mut text = String::from_str(alloc, "format = 2\n")?;
-    for part in parts {
-        text.push_str(*part)?;
-    }
-    Ok(text)
 }

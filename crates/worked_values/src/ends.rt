@@ -1,5 +1,6 @@
-//! Reads and writes at the ends in memory.
-use blz_outside::{End, Failed, Files, MemFiles, MemSink, ReadFail, Sink};
+//! Reads and writes at the ends in memory, and at the real ones.
+use blz_outside::{End, Failed, Files, MemFiles, MemSink, ReadFail, RealFiles, RealSink, Sink};
+use std::fs;
 use std::test::Fail;
 
 #[test]
@@ -41,5 +42,32 @@ fn a_put_keeps_as_much_as_fits(rt: HostRuntime) -> Result<(), Fail> {
         assert_eq!(rt; sink.put(piece.as_bytes()), answer, "{piece}");
         assert_eq!(rt; sink.bytes(), kept.as_bytes(), "{piece}");
     }
+    Ok(())
+}
+
+const FILE: &str = "real_ends.bytes";
+
+#[test]
+fn real_ends(rt: HostRuntime) -> Result<(), Fail> {
+    // A file that takes more than one read.
+    let mut bytes = Vec::new(rt.alloc());
+    for i in 0..20_000u32 {
+        bytes.push((i % 251) as u8)?;
+    }
+    fs::write(&rt, FILE, bytes.as_slice())?;
+
+    let mut files = RealFiles::new(rt.clone()?);
+    let mut into = Vec::new(rt.alloc());
+    let at_length = files.read(FILE, 20_000, &mut into);
+    let whole = into.as_slice() == bytes.as_slice();
+    let below = files.read(FILE, 19_999, &mut into);
+    fs::remove_file(&rt, FILE)?;
+    assert_eq!(rt; at_length, Ok(End::Whole));
+    assert!(rt; whole);
+    assert_eq!(rt; below, Ok(End::More));
+    assert_eq!(rt; files.read(FILE, 20_000, &mut into), Err(ReadFail::Failed));
+
+    let mut sink = RealSink::new(rt.clone()?);
+    assert_eq!(rt; sink.put(b"abc"), Ok(()));
     Ok(())
 }

@@ -1,4 +1,5 @@
-//! Worked rows of values, records, sets, pools, attributes and the ends in memory, over public calls.
+//! Worked rows of values, records, sets, pools, attributes and the ends of files and text, over public
+//! calls.
 #![tactic(auto)]
 
 #[cfg(test)]

@@ -1,5 +1,5 @@
 -- What changes where an instance hears a batch, and what is emitted by it.
-use Rattle.std.specs.Prelude.{◌≡◌, ◌<◌, ◌↔◌, true, ◌⊎◌, ◌++◌, ◌∷◌, [], ℕ, Bool, Option, None, Some, Result, Ok, Err, List, length, slice_get, slice_set, slice_index_or}
+use Rattle.std.specs.Prelude.{◌≡◌, ◌<◌, ◌↔◌, true, ◌⊎◌, ◌++◌, ◌∷◌, [], ℕ, Option, None, Some, Result, Ok, Err, List, slice_get, slice_set, slice_index_or}
 use Rattle.std.specs.List.{All}
 use Rattle.blz_value.specs.Members.{Has}
 use Rattle.blz_value.specs.Record.{Row}
@@ -16,14 +16,10 @@ use Rattle.inbox.specs.Inbox.{HasHeard, IsFrom, feeds_in}
 use Rattle.inbox.specs.Wiring.{Wiring}
 use Rattle.inbox.specs.Executions.{Execution, after_event, after_hearing}
 use Rattle.inbox.specs.Events.{Part, Event, event, Step}
-use Rattle.inbox.specs.Growth.{Continues}
 use Rattle.inbox.specs.declared.inbox.Inbox.{Inbox}
 use Rattle.inbox.specs.declared.message.Message.{Message as IdMessage}
 use Rattle.sched_run.specs.Limits.{Limit, limit_of_event, limit_of_hearing}
-use Rattle.sched_run.specs.Lists.{IsExact, read_lists}
-use Rattle.sched_run.specs.Net.{Stands, EventAnswers, EventLeaves}
-use Rattle.sched_run.specs.Outlets.{OthersStay}
-use Rattle.sched_run.specs.Places.{instance_place}
+use Rattle.sched_run.specs.Net.{Stands, EventAnswers}
 use Rattle.sched_run.specs.Code.Running.{Emits, MeetsFirst}
 use Rattle.sched_run.specs.declared.books.Books.{Books}
 use Rattle.sched_run.specs.declared.fault.EventFault.{EventFault}

@@ -1,5 +1,5 @@
 -- What is open on a lane and for a taker, by what a net keeps.
-use Rattle.std.specs.Prelude.{◌≡◌, ◌<◌, ◌≤◌, ◌&&◌, ℕ, nat_lt, not, Bool, true, false, Option, None, Some, List, length, slice_get}
+use Rattle.std.specs.Prelude.{◌≡◌, ◌<◌, ◌≤◌, ◌&&◌, ℕ, nat_lt, not, Bool, true, false, Some, List, length, slice_get}
 use Rattle.std.specs.List.{list_any}
 use Rattle.std.specs.Option.{option_map_or, option_and_then}
 use Rattle.topo_types.specs.Data.{Data}
@@ -9,7 +9,8 @@ use Rattle.inbox.specs.Events.{Step}
 use Rattle.inbox.specs.Log.{EntryId, is_same_entry_id}
 use Rattle.inbox.specs.Wiring.{wiring_of, feeds_for}
 use Rattle.inbox.specs.declared.message.Message.{Message as IdMessage}
-use Rattle.sched_turns.specs.Windows.{Looked, IsWindow, MayShow}
+use Rattle.sched_turns.specs.Windows.{Looked, IsWindow, MayShow, OthersAreOpen}
+use Rattle.sched_turns.specs.declared.windows.Stale.{Stale}
 use Rattle.sched_run.specs.Code.Ids.{id_in}
 use Rattle.sched_run.specs.Made.{is_open_in, lane_list, can_take}
 use Rattle.sched_run.specs.Net.{BooksStand, execution_in}
@@ -55,13 +56,14 @@ pub record IsTaker (v : View) (taker : Taker) : Type 0 where
   pub within : taker.replica < replicas_of v taker.component
   pub order : is_order v taker.component ≡ true
 
--- a window on a lane may be looked at again, by some data and steps for which the books stand: the list wasn't longer, and an index at which it looked is open only where the window has it
-pub record MayLook (v : View) (b : Books) (lane : Lane) (window : Looked) : Type 0 where
+-- a window on a lane may be looked at again, by some data and steps for which the books stand: the list wasn't longer, an index at which it looked is open only where the window has it, and each that it has is open unless it may be stale
+pub record MayLook (v : View) (b : Books) (lane : Lane) (stale : Stale) (window : Looked) : Type 0 where
   pub given : Data
   pub steps : List Step
   pub stand : BooksStand v given steps b
   pub inside : window.next ≤ length (lane_list (wiring_of v) given (execution_in stand) lane)
   pub shown : MayShow (is_open_in (wiring_of v) given (execution_in stand) lane) window
+  pub fresh : OthersAreOpen (is_open_in (wiring_of v) given (execution_in stand) lane) stale window.places
 
 -- it shows the open indexes of the lane, of whatever data and steps the books stand for
 abbrev pub LooksAt : View → Books → Lane → Looked → Type 0

@@ -1,5 +1,5 @@
 -- What is read of the parts of an event: pairs by the ids of their records, or the first refusal.
-use Rattle.std.specs.Prelude.{◌≡◌, ◌<◌, ◌&&◌, ℕ, not, nat_lt, Bool, Some, Result, Ok, Err, List, length, slice_get}
+use Rattle.std.specs.Prelude.{◌≡◌, ◌&&◌, ℕ, not, nat_lt, Bool, Some, Result, Ok, Err, List, length, slice_get}
 use Rattle.std.specs.List.{AllPairs}
 use Rattle.std.specs.Ordering.{ordering_then, nat_cmp}
 use Rattle.std.specs.declared.cmp.Ordering.{Ordering}

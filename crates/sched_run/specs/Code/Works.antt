@@ -10,6 +10,7 @@ use Rattle.sched_turns.specs.Windows.{Looked, IsWindow}
 use Rattle.sched_run.specs.Made.{event_in, is_open_in, lane_list, all_lanes, all_takers, can_take, open_works}
 use Rattle.sched_run.specs.Net.{BooksStand, execution_in}
 use Rattle.sched_run.specs.Code.Looking.{IsLane, IsTaker, MayLook, LooksAt}
+use Rattle.sched_run.specs.Code.Stale.{stale_on}
 use Rattle.sched_run.specs.declared.books.Books.{Books}
 use Rattle.sched_run.specs.declared.making.lanes.Lane.{Lane}
 use Rattle.sched_run.specs.declared.making.lanes.Taker.{Taker}
@@ -81,9 +82,9 @@ AreSizesWith v b before who sizes = (given : Data) (steps : List Step) (stand : 
 
 -- ---- looking again
 
--- the lane at a place may be looked at again
-abbrev pub MayLookAt : View → Books → Works → (place : ℕ) → Type 0
-MayLookAt v b k place = (lane : Lane) → slice_get k.lanes.items place ≡ Some lane → MayLook v b lane (window_at k place)
+-- the lane at a place may be looked at again after a work
+abbrev pub MayLookAt : View → Books → Works → Work → (place : ℕ) → Type 0
+MayLookAt v b k work place = (lane : Lane) → slice_get k.lanes.items place ≡ Some lane → MayLook v b lane (stale_on work lane) (window_at k place)
 
 -- one place was looked at, where so many works stand, and all others stayed; the size isn't kept yet
 pub record LooksAgain (v : View) (b : Books) (old new : Works) (place count : ℕ) : Type 0 where

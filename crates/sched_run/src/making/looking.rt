@@ -9,7 +9,7 @@ use crate::net::Net;
 use crate::remaining::is_known;
 use crate::seated::Ear;
 use inbox::{Feed, Log, Message};
-use sched_turns::{OpenPlaces, Window};
+use sched_turns::{OpenPlaces, Stale, Window};
 use std::alloc::AllocError;
 use std::collections::BTreeSet;
 
@@ -56,11 +56,12 @@ impl Net<'_> {
         replica: u32,
         number: u32,
         feed: &Feed,
+        stale: Stale,
         window: &mut Window,
     ) -> Result<(), AllocError>
         requires runs { BooksRun self.now.valid.now.view self.now.books }
         requires lane { IsDelivery self.now.valid.now.view component replica number feed.now }
-        requires window { MayLook self.now.valid.now.view self.now.books (Deliver component replica number feed.now) window.old }
+        requires window { MayLook self.now.valid.now.view self.now.books (Deliver component replica number feed.now) stale window.old }
         ensures { OnOk result (LooksAt self.now.valid.now.view self.now.books (Deliver component replica number feed.now) window.new) }
     {
         self.valid.known();
@@ -73,7 +74,7 @@ impl Net<'_> {
                     feed: number,
                     count,
                 };
-                window.look(&list, count)
+                window.look(&list, count, stale)
             }
             Ear::Takes(_) => unreachable!(),
         }
@@ -84,11 +85,12 @@ impl Net<'_> {
         &self,
         component: u32,
         feed: &Feed,
+        stale: Stale,
         window: &mut Window,
     ) -> Result<(), AllocError>
         requires runs { BooksRun self.now.valid.now.view self.now.books }
         requires lane { IsOrdering self.now.valid.now.view component feed.now }
-        requires window { MayLook self.now.valid.now.view self.now.books (Order component feed.now) window.old }
+        requires window { MayLook self.now.valid.now.view self.now.books (Order component feed.now) stale window.old }
         ensures { OnOk result (LooksAt self.now.valid.now.view self.now.books (Order component feed.now) window.new) }
     {
         self.valid.known();
@@ -100,14 +102,20 @@ impl Net<'_> {
             port: feed.port,
             messages,
         };
-        window.look(&list, count)
+        window.look(&list, count, stale)
     }
 
-    /// Looks at a lane again, through its window. The error is want of memory.
-    pub(crate) fn look(&self, lane: &Lane, window: &mut Window) -> Result<(), AllocError>
+    /// Looks at a lane again, through its window, of which this may be stale. The error is want of
+    /// memory.
+    pub(crate) fn look(
+        &self,
+        lane: &Lane,
+        stale: Stale,
+        window: &mut Window,
+    ) -> Result<(), AllocError>
         requires runs { BooksRun self.now.valid.now.view self.now.books }
         requires lane { IsLane self.now.valid.now.view lane.now }
-        requires window { MayLook self.now.valid.now.view self.now.books lane.now window.old }
+        requires window { MayLook self.now.valid.now.view self.now.books lane.now stale window.old }
         ensures { OnOk result (LooksAt self.now.valid.now.view self.now.books lane.now window.new) }
     {
         match lane {
@@ -116,8 +124,8 @@ impl Net<'_> {
                 replica,
                 number,
                 feed,
-            } => self.look_at_feed(*component, *replica, *number, feed, window),
-            Lane::Order { component, feed } => self.look_at_log(*component, feed, window),
+            } => self.look_at_feed(*component, *replica, *number, feed, stale, window),
+            Lane::Order { component, feed } => self.look_at_log(*component, feed, stale, window),
         }
     }
 

@@ -14,7 +14,7 @@ use crate::making::lanes::{Lane, Taker};
 use crate::net::Net;
 use inbox::Feed;
 use sched_text::{Event, Sent};
-use sched_turns::{Sizes, Window};
+use sched_turns::{Sizes, Stale, Window};
 use std::alloc::{AllocError, Global};
 use topo_types::Valid;
 
@@ -127,7 +127,7 @@ fn window_of(net: &Net<'_>, lane: &Lane) -> Result<Window, AllocError>
     ensures { IfOk result (LooksAt net.now.valid.now.view net.now.books lane.now) }
 {
     let mut window = Window::new(net.alloc);
-    net.look(lane, &mut window)?;
+    net.look(lane, Stale::Nothing, &mut window)?;
     Ok(window)
 }
 
@@ -228,17 +228,18 @@ impl Works {
         }
     }
 
-    // Looks again at what stands at a place, and says how many works there are.
-    fn size_at(&mut self, net: &Net<'_>, place: usize) -> Result<usize, AllocError>
+    // Looks again at what stands at a place, after a work, and says how many works there are.
+    fn size_at(&mut self, net: &Net<'_>, work: &Work, place: usize) -> Result<usize, AllocError>
         requires runs { BooksRun net.now.valid.now.view net.now.books }
         requires works { AreWorksOf net.now.valid.now.view self.old }
         requires place { place < length self.old.sizes }
-        requires may { MayLookAt net.now.valid.now.view net.now.books self.old place }
+        requires may { MayLookAt net.now.valid.now.view net.now.books self.old work.now place }
         ensures { IfOk result (LooksAgain net.now.valid.now.view net.now.books self.old self.new place) }
     {
         net.valid.known();
         if place < self.lanes.len() {
-            net.look(&self.lanes[place], &mut self.windows[place])?;
+            let lane = self.lanes[place];
+            net.look(&lane, work.stale_on(&lane), &mut self.windows[place])?;
             Ok(self.windows[place].places().len())
         } else {
             let taker = self.takers[place - self.lanes.len()];
@@ -246,30 +247,35 @@ impl Works {
         }
     }
 
-    /// Looks again at what stands at a place. The error is want of memory.
-    pub(crate) fn look(&mut self, net: &Net<'_>, place: usize) -> Result<(), AllocError>
+    /// Looks again at what stands at a place, after a work. The error is want of memory.
+    pub(crate) fn look(
+        &mut self,
+        net: &Net<'_>,
+        work: &Work,
+        place: usize,
+    ) -> Result<(), AllocError>
         requires runs { BooksRun net.now.valid.now.view net.now.books }
         requires works { AreWorksOf net.now.valid.now.view self.old }
         requires place { place < length self.old.sizes }
-        requires may { MayLookAt net.now.valid.now.view net.now.books self.old place }
+        requires may { MayLookAt net.now.valid.now.view net.now.books self.old work.now place }
         ensures works { OnOk result (AreWorksOf net.now.valid.now.view self.new) }
         ensures looked { OnOk result (LookedAt net.now.valid.now.view net.now.books self.old self.new place) }
     {
-        let size = self.size_at(net, place)?;
+        let size = self.size_at(net, work, place)?;
         self.sizes.set(place, size);
         Ok(())
     }
 
-    /// Looks again at every place. The error is want of memory.
-    pub(crate) fn look_at_all(&mut self, net: &Net<'_>) -> Result<(), AllocError>
+    /// Looks again at every place, after a work. The error is want of memory.
+    pub(crate) fn look_after(&mut self, net: &Net<'_>, work: &Work) -> Result<(), AllocError>
         requires runs { BooksRun net.now.valid.now.view net.now.books }
         requires works { AreWorksOf net.now.valid.now.view self.old }
-        requires may { (place : ℕ) → MayLookAt net.now.valid.now.view net.now.books self.old place }
+        requires may { (place : ℕ) → MayLookAt net.now.valid.now.view net.now.books self.old work.now place }
         ensures works { OnOk result (AreWorksOf net.now.valid.now.view self.new) }
         ensures shown { OnOk result (AreShown net.now.valid.now.view net.now.books self.new) }
     {
         for place in 0..self.sizes.len() {
-            self.look(net, place)?;
+            self.look(net, work, place)?;
         }
         Ok(())
     }

@@ -1,7 +1,7 @@
 use Rattle.std.proofs.Common.{map}
 use Rattle.std.proofs.lemmas.List.Sorted.{IsPermutation-refl}
-use Rattle.blazes_cli.specs.Bench.{bench_states}
-use Rattle.blazes_cli.proofs.CommandLemmas.{same_anyway}
+use Rattle.blazes_commands.specs.Bench.{bench_states}
+use Rattle.blazes_commands.proofs.CommandLemmas.{same_anyway}
 use Rattle.blazes_cli.proofs.program.reply_to.Goals as goal
 
 pub returns-in-None-clause-kinds : goal.returns-in-None-clause-kinds

@@ -1,4 +1,4 @@
-use Rattle.std.proofs.Common.{◌∙◌, ap, map, subst, sym}
+use Rattle.std.proofs.Common.{◌∙◌, ap, sym}
 use Rattle.sched_run.specs.Code.Works.{work_event}
 use Rattle.sched_run.proofs.MakingApplies.{chosen_fails, chosen_there, says_twice}
 use Rattle.sched_run.proofs.MakingWorks.{goes_on, goes_there, takes}

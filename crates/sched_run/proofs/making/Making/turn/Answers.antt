@@ -13,14 +13,14 @@ returns-in_err-apply_chosen-clause-turns g c =
     (chosen_is _ _ c.args.self.now.works _ c.next_number-number.result c.total.result c.args.self.now.draws c.next_number-number.new.self c.find-work.result.1 c.requires.ready.works c.requires.ready.shown c.find-work.ensures.numbered refl c.total.ensures c.next_number-number.ensures.number c.next_number-number.ensures.state)
     c.next_number-number.ensures.number c.next_number-number.ensures.state c.apply_chosen.result c.apply_chosen.ensures.applies _ _ _ c.from_residual.result c.in_err-apply_chosen.field-0.0 c.requires.ready.lines c.in_err-apply_chosen.was c.from_residual.ensures.1
 
-pub look_at_all-requires-clause-runs : goal.look_at_all-requires-clause-runs
-look_at_all-requires-clause-runs g c =
+pub look_after-requires-clause-runs : goal.look_after-requires-clause-runs
+look_after-requires-clause-runs g c =
     books_run _ _ (ap (λ valid. valid.now.view) c.apply_chosen.ensures.valid) _ _ _ _ _ _ _ _ c.apply_chosen.result c.apply_chosen.ensures.applies c.in_ok-apply_chosen.field-0 c.in_ok-apply_chosen.was c.requires.goes
 
-pub look_at_all-requires-clause-may : goal.look_at_all-requires-clause-may
-look_at_all-requires-clause-may g c =
+pub look_after-requires-clause-may : goal.look_after-requires-clause-may
+look_after-requires-clause-may g c =
     may_look_on _ _ (ap (λ valid. valid.now.view) c.apply_chosen.ensures.valid) _ _ _ _ _ _ _ _ c.next_number-number.result c.find-work.result.1 c.args.self.now.works c.apply_chosen.result c.apply_chosen.ensures.applies c.in_ok-apply_chosen.field-0 c.in_ok-apply_chosen.was c.known.ensures c.requires.goes
-    c.find-work.ensures.numbered c.in_ok-apply_chosen.ensures.events c.requires.ready.shown
+    c.find-work.ensures.numbered c.in_ok-apply_chosen.ensures.events c.requires.ready.works c.requires.ready.shown
 
 pub returns-clause-turns : goal.returns-clause-turns
 returns-clause-turns g c =
@@ -29,7 +29,7 @@ returns-clause-turns g c =
     c.next_number-number.ensures.number c.next_number-number.ensures.state c.apply_chosen.result c.apply_chosen.ensures.applies c.in_ok-apply_chosen.field-0 c.in_ok-apply_chosen.was refl refl c.in_ok-apply_chosen.ensures.events
 
 pub returns-clause-ready : goal.returns-clause-ready
-returns-clause-ready g c = ready_on _ _ (ap (λ valid. valid.now.view) c.apply_chosen.ensures.valid) _ _ c.in_ok-look_at_all.ensures.works c.in_ok-look_at_all.ensures.shown c.in_ok-apply_chosen.ensures.lines
+returns-clause-ready g c = ready_on _ _ (ap (λ valid. valid.now.view) c.apply_chosen.ensures.valid) _ _ c.in_ok-look_after.ensures.works c.in_ok-look_after.ensures.shown c.in_ok-apply_chosen.ensures.lines
 
 pub returns-clause-more : goal.returns-clause-more
 returns-clause-more g c = longer_lines c.args.net.now.valid.now.view c.args.self.now.lines.items c.apply_chosen.new.lines.items c.next_number-number.result (work_event c.find-work.result.1) c.in_ok-apply_chosen.ensures.events

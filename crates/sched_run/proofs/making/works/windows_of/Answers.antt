@@ -1,4 +1,4 @@
-use Rattle.std.proofs.Common.{◌≡◌, ◌<◌, ◌∷◌, [], ◌++◌, ◌+◌, subst, sym, length, arith}
+use Rattle.std.proofs.Common.{◌+◌, subst, sym, arith}
 use Rattle.sched_run.proofs.WorksLemmas.{WindowsBelow, window_more, windows_all}
 use Rattle.sched_run.proofs.making.works.windows_of.Goals as goal
 

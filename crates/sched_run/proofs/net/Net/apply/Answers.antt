@@ -1,4 +1,4 @@
-use Rattle.std.proofs.Common.{◌≡◌, ◌∙◌, ◌++◌, ap, map, refl, take}
+use Rattle.std.proofs.Common.{◌∙◌, ◌++◌, ap, map, refl, take}
 use Rattle.sched_run.specs.Applying.{steps_of}
 use Rattle.sched_run.specs.Net.{execution_in}
 use Rattle.sched_run.proofs.ApplyingLemmas.{none_applied, runs_on, all_applied, line_applied, line_stops}

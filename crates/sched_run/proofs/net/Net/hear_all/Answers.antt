@@ -1,4 +1,4 @@
-use Rattle.std.proofs.Common.{List, length, map, ap, sym, subst, ◌∙◌}
+use Rattle.std.proofs.Common.{List, length, map, sym, subst, ◌∙◌}
 use Rattle.std.proofs.lemmas.Bool.{eqb-true}
 use Rattle.std.proofs.lemmas.List.{length-map}
 use Rattle.sched_text.specs.declared.event.Part.{Part as PartName}

@@ -1,4 +1,4 @@
-use Rattle.std.proofs.Common.{List, [], ◌∷◌, map, ap, sym, subst, ◌∙◌}
+use Rattle.std.proofs.Common.{[], ◌∷◌, map, sym, subst, ◌∙◌}
 use Rattle.inbox.specs.Events.{Part}
 use Rattle.sched_run.specs.Numbered.{numbered_part}
 use Rattle.sched_run.specs.Code.Hearing.{HearingAnswers, HearingLeaves}

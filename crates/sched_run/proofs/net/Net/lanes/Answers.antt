@@ -1,6 +1,5 @@
-use Rattle.std.proofs.Common.{◌≡◌, ◌∙◌, ◌++◌, length, sym, ap, arith}
+use Rattle.std.proofs.Common.{◌∙◌, ◌++◌, sym, ap, arith}
 use Rattle.std.specs.List.{flat_map}
-use Rattle.topo_types.specs.View.{Stream}
 use Rattle.inbox.specs.Wiring.{wiring_of}
 use Rattle.topo_types.specs.View.{ends_of}
 use Rattle.sched_run.specs.Made.{lanes_at}

@@ -7,12 +7,17 @@ use Rattle.sched_run.proofs.net.Net.look_at_feed.Goals as goal
 pub look-requires-clause-grown : goal.look-requires-clause-grown
 look-requires-clause-grown g c =
     (may_look_heard c.args.self.now.valid.now.view c.args.self.now.books c.known.ensures c.args.component c.args.replica c.args.number c.args.feed.now c.requires.lane c.seat_at.result.now c.seat_at.ensures c.in-Hears.field-0 c.in-Hears.known c.in-Hears.is
-    c.messages.result.now (c.messages.ensures.list ∙ ap (λ (f : Feed). list_seen c.args.self.now.valid.now.view c.args.self.now.books.lists.lists f.stream f.sender) c.feed.view_is) (length c.messages.result.now) refl c.args.window.now c.requires.window).0
+    c.messages.result.now (c.messages.ensures.list ∙ ap (λ (f : Feed). list_seen c.args.self.now.valid.now.view c.args.self.now.books.lists.lists f.stream f.sender) c.feed.view_is) (length c.messages.result.now) refl c.args.stale c.args.window.now c.requires.window).0
 
 pub look-requires-clause-shown : goal.look-requires-clause-shown
 look-requires-clause-shown g c =
     (may_look_heard c.args.self.now.valid.now.view c.args.self.now.books c.known.ensures c.args.component c.args.replica c.args.number c.args.feed.now c.requires.lane c.seat_at.result.now c.seat_at.ensures c.in-Hears.field-0 c.in-Hears.known c.in-Hears.is
-    c.messages.result.now (c.messages.ensures.list ∙ ap (λ (f : Feed). list_seen c.args.self.now.valid.now.view c.args.self.now.books.lists.lists f.stream f.sender) c.feed.view_is) (length c.messages.result.now) refl c.args.window.now c.requires.window).1
+    c.messages.result.now (c.messages.ensures.list ∙ ap (λ (f : Feed). list_seen c.args.self.now.valid.now.view c.args.self.now.books.lists.lists f.stream f.sender) c.feed.view_is) (length c.messages.result.now) refl c.args.stale c.args.window.now c.requires.window).1
+
+pub look-requires-clause-fresh : goal.look-requires-clause-fresh
+look-requires-clause-fresh g c =
+    (may_look_heard c.args.self.now.valid.now.view c.args.self.now.books c.known.ensures c.args.component c.args.replica c.args.number c.args.feed.now c.requires.lane c.seat_at.result.now c.seat_at.ensures c.in-Hears.field-0 c.in-Hears.known c.in-Hears.is
+    c.messages.result.now (c.messages.ensures.list ∙ ap (λ (f : Feed). list_seen c.args.self.now.valid.now.view c.args.self.now.books.lists.lists f.stream f.sender) c.feed.view_is) (length c.messages.result.now) refl c.args.stale c.args.window.now c.requires.window).2
 
 pub returns : goal.returns
 returns g c =

@@ -1,6 +1,5 @@
-use Rattle.std.proofs.Common.{◌≡◌, ◌∙◌, ◌++◌, ◌+◌, ◌≤◌, ◌∷◌, ℕ, true, false, [], map, take, length, sym, ap, arith}
+use Rattle.std.proofs.Common.{◌≡◌, ◌∙◌, ◌++◌, ◌+◌, ◌∷◌, ℕ, true, false, [], map, take, sym, ap, arith}
 use Rattle.topo_types.specs.Feeds.{Feed}
-use Rattle.inbox.specs.Wiring.{feeds_for, wiring_of}
 use Rattle.sched_run.specs.Made.{comes_at, feeds_here}
 use Rattle.sched_run.specs.declared.making.lanes.Lane.{Lane}
 use Rattle.sched_run.specs.declared.making.lanes.Lane.TheVariants.{Deliver}

@@ -1,7 +1,6 @@
 -- the replicas so far
 use Rattle.std.proofs.Common.{◌≡◌, ◌++◌, map}
 use Rattle.topo_types.specs.Sets.{below}
-use Rattle.sched_run.specs.declared.making.lanes.Taker.{Taker}
 use Rattle.sched_run.proofs.net.Net.push_takers.Given as goal
 
 abbrev pub invariant-loop-replica : goal.invariant-loop-replica

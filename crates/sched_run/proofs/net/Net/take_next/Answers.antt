@@ -1,4 +1,4 @@
-use Rattle.std.proofs.Common.{◌∙◌, sym, ap, map, refl, subst, arith, Err}
+use Rattle.std.proofs.Common.{◌∙◌, sym, ap, map, refl, arith, Err}
 use Rattle.std.proofs.lemmas.List.{length-map}
 use Rattle.inbox.specs.Events.{take_one}
 use Rattle.sched_run.specs.Net.{EventAnswers}

@@ -1,4 +1,4 @@
-use Rattle.std.proofs.Common.{◌≡◌, ◌+◌, ◌<◌, ap, ◌∙◌, subst, sym, arith, length, get_or}
+use Rattle.std.proofs.Common.{◌+◌, ◌<◌, ap, ◌∙◌, subst, sym, arith, length, get_or}
 use Rattle.sched_run.proofs.PlacesFound.{list_found}
 use Rattle.sched_run.proofs.places.Places.list.Goals as goal
 

@@ -21,7 +21,7 @@ pair_at-size-requires-clause-fits c =
     let within : c.loop-k.k < many = omega (arith, c.loop-k-test.true, c.len-k-end.ensures, c.self.inside.levels.ok.0) in
     let new : List ℕ = set c.args.self.now c.args.place c.args.size in
     let changed : c.set.new.self ≡ level_of new c.loop-k.k = found_set c.args.self.now new c.loop-k.self-inside.levels.items many c.loop-k.k c.loop-k.place c.loop-k.size c.loop-k.invariant c.index_mut.result.now c.set.new.self within c.index_mut.ensures.value c.set.ensures in
-    let found : c.index.result.now ≡ c.set.new.self = c.index.ensures ∙ get_or-set_same c.loop-k.self-inside.levels.items c.loop-k.k c.set.new.self c.index.result.now (omega (arith, within, c.loop-k.invariant.count)) in
+    let found : c.index-in-loop-k.result.now ≡ c.set.new.self = c.index-in-loop-k.ensures ∙ get_or-set_same c.loop-k.self-inside.levels.items c.loop-k.k c.set.new.self c.index-in-loop-k.result.now (omega (arith, within, c.loop-k.invariant.count)) in
     omega (arith, ap (λ (l : List ℕ). sum l) (found ∙ changed), sum-level new c.loop-k.k, c.requires.few)
 
 pub loop-k-preserved : goal.loop-k-preserved
@@ -30,7 +30,7 @@ loop-k-preserved c =
     let within : c.loop-k.k < many = omega (arith, c.loop-k-test.true, c.len-k-end.ensures, c.self.inside.levels.ok.0) in
     let new : List ℕ = set c.args.self.now c.args.place c.args.size in
     let changed : c.set.new.self ≡ level_of new c.loop-k.k = found_set c.args.self.now new c.loop-k.self-inside.levels.items many c.loop-k.k c.loop-k.place c.loop-k.size c.loop-k.invariant c.index_mut.result.now c.set.new.self within c.index_mut.ensures.value c.set.ensures in
-    let found : c.index.result.now ≡ c.set.new.self = c.index.ensures ∙ get_or-set_same c.loop-k.self-inside.levels.items c.loop-k.k c.set.new.self c.index.result.now (omega (arith, within, c.loop-k.invariant.count)) in
+    let found : c.index-in-loop-k.result.now ≡ c.set.new.self = c.index-in-loop-k.ensures ∙ get_or-set_same c.loop-k.self-inside.levels.items c.loop-k.k c.set.new.self c.index-in-loop-k.result.now (omega (arith, within, c.loop-k.invariant.count)) in
     sets_more c.args.self.now new c.loop-k.self-inside.levels.items many c.loop-k.k c.loop-k.place c.loop-k.size c.loop-k.invariant c.set.new.self c.pair_at-size.result within changed
     (c.pair_at-size.ensures ∙ ap (λ (l : List ℕ). get_or (halved l) (c.loop-k.place / 2) 0) found)
 

@@ -1,7 +1,5 @@
-use Rattle.std.proofs.Common.{◌≡◌, ◌∙◌, ◌<◌, ◌+◌, ◌^◌, ◌≤◌, ap, map, refl, sum, sym, subst, length, arith}
-use Rattle.std.specs.List.{All}
+use Rattle.std.proofs.Common.{◌∙◌, ◌<◌, ◌^◌, ap, map, refl, sym, subst, length, arith}
 use Rattle.sched_turns.specs.Windows.{Looked}
-use Rattle.sched_run.specs.Code.Looking.{IsLane, IsTaker}
 use Rattle.sched_run.specs.Code.Works.{AreSizesWith, AreWindowsOn}
 use Rattle.sched_run.proofs.LanesThere.{lanes_there, takers_there}
 use Rattle.sched_run.proofs.WorksLemmas.{first_works, first_shown, sizes_fit, taken_few}

@@ -3,6 +3,7 @@ use Rattle.std.proofs.lemmas.List.{get_or-set_same}
 use Rattle.std.proofs.lemmas.Option.{slice_get_read}
 use Rattle.sched_turns.specs.Windows.{Looked}
 use Rattle.sched_run.specs.Code.Looking.{IsLane, IsTaker, MayLook}
+use Rattle.sched_run.specs.Code.Stale.{stale_on}
 use Rattle.sched_run.proofs.LanesThere.{lanes_there, takers_there}
 use Rattle.sched_run.proofs.WorksLemmas.{window_read_at, looks_lane, looks_taker}
 use Rattle.sched_run.proofs.making.works.Works.size_at.Goals as goal
@@ -16,8 +17,10 @@ pub look-requires-clause-window : goal.look-requires-clause-window
 look-requires-clause-window g c =
     let k = c.args.self.now in
     let within = c.requires.works.many in
-    subst (MayLook c.args.net.now.valid.now.view c.args.net.now.books c.index.result.now) (window_read_at k c.args.place c.index_mut.result.now (omega (arith, c.if-place-len.true, c.len.ensures, within)) c.index_mut.ensures.value)
-    (c.requires.may c.index.result.now (slice_get_read k.lanes.items (length k.lanes.items) c.args.place c.index.result.now refl (omega (arith, c.if-place-len.true, c.len.ensures)) c.index.ensures))
+    let may = MayLook c.args.net.now.valid.now.view c.args.net.now.books c.index.result.now in
+    subst (λ stale. may stale c.index_mut.result.now) (sym c.stale_on.ensures)
+    (subst (may (stale_on c.args.work.now c.index.result.now)) (window_read_at k c.args.place c.index_mut.result.now (omega (arith, c.if-place-len.true, c.len.ensures, within)) c.index_mut.ensures.value)
+    (c.requires.may c.index.result.now (slice_get_read k.lanes.items (length k.lanes.items) c.args.place c.index.result.now refl (omega (arith, c.if-place-len.true, c.len.ensures)) c.index.ensures)))
 
 pub can_take-requires-clause-taker : goal.can_take-requires-clause-taker
 can_take-requires-clause-taker g c =

@@ -1,4 +1,0 @@
--- What private functions give.
-pub mod Ran
-pub mod Requests
-pub mod Runs

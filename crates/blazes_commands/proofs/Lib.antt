@@ -1,0 +1,15 @@
+pub mod CommandLemmas
+pub mod EachLemmas
+pub mod FileLemmas
+pub mod ScriptLemmas
+pub mod RunLemmas
+pub mod GivenLemmas
+pub mod OpeningLemmas
+pub mod CommandFiles
+pub mod MakeLemmas
+pub mod NumbersLemmas
+pub mod WordsLemmas
+pub mod BuiltInLemmas
+pub mod TweetsLemmas
+pub mod SoakLemmas
+pub mod ShardLemmas

@@ -1,0 +1,93 @@
+-- A soak replies as its script says: the word count is checked and planned, its data are made, and a net that made a schedule over them is summed up.
+use Rattle.std.proofs.Common.{◌≡◌, ℕ, List, [], Option, Result, Ok, Err, OnOk, refl, subst, sym}
+use Rattle.std.specs.Result.{IsErrAnd}
+use Rattle.bloom_ast.specs.declared.program.Program.{Program}
+use Rattle.bloom_ast.specs.Step.{Sets}
+use Rattle.coord_synth.specs.Plan.{planned}
+use Rattle.inbox.specs.Executions.{Execution}
+use Rattle.sched_run.specs.Applying.{Line, steps_of}
+use Rattle.sched_run.specs.Bench.{fault_of_opening}
+use Rattle.sched_run.specs.Making.{AnswersMade, LeavesMade}
+use Rattle.sched_run.specs.Net.{Stands, BooksRun}
+use Rattle.sched_run.specs.declared.books.Books.{Books}
+use Rattle.sched_run.specs.declared.fault.MakeFault.{MakeFault}
+use Rattle.topo_types.specs.Data.{Data}
+use Rattle.topo_types.specs.Valid.{Validated}
+use Rattle.topo_types.specs.View.{View}
+use Rattle.blazes_commands.specs.Bench.{BenchStates}
+use Rattle.blazes_commands.specs.Checks as check
+use Rattle.blazes_commands.specs.Code.Ran.{Gives, RanAtOnce, Replies}
+use Rattle.blazes_commands.specs.Code.Runs.{RepliesAtOnce}
+use Rattle.blazes_commands.specs.Code.Soaked.{IsSummaryOf, SumsBooks}
+use Rattle.blazes_commands.specs.Commands.{Work, making_for, soaking, script, HasSummary}
+use Rattle.blazes_commands.specs.Commands.Work.{soaked}
+use Rattle.blazes_commands.specs.Ends.{Source, files_states, Came}
+use Rattle.blazes_commands.specs.Script.{Script}
+use Rattle.blazes_commands.specs.Script.Script.{gives}
+use Rattle.blazes_commands.specs.Script.Ending.{gave}
+use Rattle.blazes_commands.specs.Soak.{planned_count, tweets_data, word_count}
+use Rattle.blazes_commands.specs.Words.{Asked, SoakWords}
+use Rattle.blazes_commands.specs.declared.reply.Reply.{Reply}
+use Rattle.blazes_commands.specs.declared.stop.Stop.{Stop}
+use Rattle.blazes_commands.specs.declared.stop.Stop.TheVariants.{NoMemory}
+use Rattle.blazes_commands.proofs.CommandLemmas.{stop_replies, then_replies}
+use Rattle.blazes_commands.proofs.MakeLemmas.{after_events, making_replies, runs_made}
+use Rattle.blazes_commands.proofs.ScriptLemmas.{came_at_once, came_checked, came_then, gives_ran, stop_handed, stop_then}
+
+-- the net of a topology runs after it made a schedule
+pub runs_on : (v : View) (given : Data) (loaded : List (Option Program)) (tables next : List Sets) (old new : Books) (w : View) (result : Result (List Line) MakeFault) → w ≡ v → Stands v given [] loaded tables old → LeavesMade w loaded tables next old new result → OnOk result (BooksRun v new)
+runs_on v given loaded tables next old new w result same stands leaves = runs_made v given 0 loaded tables next old new v v result refl refl stands (subst (λ (z : View). LeavesMade z loaded tables next old new result) same leaves)
+
+-- a net that made a schedule is summed up
+pub sums_reply : (batches : ℕ) (v : View) (given : Data) (seed : ℕ) (loaded : List (Option Program)) (tables next : List Sets) (old new : Books) (bench : BenchStates) (s : Source) (w : View) (result : Result (List Line) MakeFault) (outcome : Result Reply Stop)
+    → check.opened v (fault_of_opening v (λ kind. kind) bench.kinds) ≡ Ok tt → w ≡ v → Stands v given [] loaded tables old → AnswersMade w loaded tables old seed result → LeavesMade w loaded tables next old new result
+    → IsSummaryOf batches v new result outcome → Replies (files_states s s) bench outcome (making_for (soaked batches v given) bench.kinds v given seed)
+sums_reply batches v given seed loaded tables next old new bench s w result outcome opens same stands answers leaves said =
+    making_replies v given seed loaded tables next old new bench s (soaked batches v given) (λ lines answer. SumsBooks batches v new answer)
+    (λ lines answer stands leaves said. record {
+      leaves = leaves;
+      summary = subst (λ (x : Execution). HasSummary batches v given x answer) (after_events v given lines loaded next new stands leaves) (said given (steps_of v lines) stands.books);
+    })
+    w result outcome opens same stands answers leaves said
+
+-- the plan of the built-in word count stops where this does
+abbrev on_count : Validated → Script View
+on_count seen = gives (planned seen.view)
+
+pub count_stops : {X Y : Type 0} (view : X → Validated) (out : Y → View) (result : Result Y Stop) (stop : Stop) → IsErrAnd result (λ given. given ≡ stop) → RanAtOnce view (Err stop) word_count → RanAtOnce out result planned_count
+unfolding planned_count
+count_stops view out result stop is stopped s = stop_handed out (files_states s s) planned_count result stop is (stop_then (files_states s s) stop word_count on_count (stopped s))
+
+pub count_lost : {Y : Type 0} (out : Y → View) (result : Result Y Stop) → IsErrAnd result (λ stop. stop ≡ NoMemory) → RanAtOnce out result planned_count
+count_lost out result is s = stop_handed out (files_states s s) planned_count result NoMemory is tt
+
+pub count_planned : {X Y : Type 0} (view : X → Validated) (out : Y → View) (x : X) (y : Y) → RanAtOnce view (Ok x) word_count → out y ≡ planned (view x).view → RanAtOnce out (Ok y) planned_count
+unfolding planned_count
+count_planned view out x y counts is s =
+    subst (λ (v : View). Came (files_states s s) planned_count (gave v)) (sym is)
+    (came_then s s s word_count on_count (view x) (gave (planned (view x).view)) (counts s) (came_at_once s (planned (view x).view)))
+
+module _ (bench : BenchStates) (words : SoakWords) (result : Result Reply Stop) where
+  -- what follows on the plan of the word count, and on its data
+  abbrev on_plan : View → Script Work
+  on_plan v = soaking words.count bench.kinds v words.seed
+
+  -- a soak whose topology stops
+  pub plan_stops : {X : Type 0} (view : X → View) (stop : Stop) → IsErrAnd result (λ given. given ≡ stop) → RanAtOnce view (Err stop) planned_count → RepliesAtOnce bench result (script bench.kinds (Asked.soak words))
+  plan_stops view stop is stopped s = stop_replies (files_states s s) bench planned_count on_plan result stop is (stopped s)
+
+  -- and one that goes on with its plan
+  pub plan_then : {X : Type 0} (view : X → View) (x : X) → RanAtOnce view (Ok x) planned_count → RepliesAtOnce bench result (on_plan (view x)) → RepliesAtOnce bench result (script bench.kinds (Asked.soak words))
+  plan_then view x counts replies s = then_replies s s s bench planned_count on_plan (view x) result (counts s) (replies s)
+
+  module _ (v : View) where
+    abbrev on_data : Data → Script Work
+    on_data given = making_for (soaked words.count v given) bench.kinds v given words.seed
+
+    -- one whose data stop
+    pub tweets_stop : {Y : Type 0} (view : Y → Data) (stop : Stop) → IsErrAnd result (λ given. given ≡ stop) → Gives view (Err stop) (tweets_data v words.count) → RepliesAtOnce bench result (on_plan v)
+    tweets_stop view stop is given s = stop_replies (files_states s s) bench (check.checked (tweets_data v words.count)) on_data result stop is (gives_ran view s (Err stop) (tweets_data v words.count) given)
+
+    -- and one that goes on with them
+    pub tweets_then : (given : Data) → tweets_data v words.count ≡ Ok given → RepliesAtOnce bench result (on_data given) → RepliesAtOnce bench result (on_plan v)
+    tweets_then given is replies s = then_replies s s s bench (check.checked (tweets_data v words.count)) on_data given result (came_checked s (tweets_data v words.count) given is) (replies s)

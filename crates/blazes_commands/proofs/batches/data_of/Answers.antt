@@ -1,0 +1,16 @@
+use Rattle.std.proofs.Common.{Option, ap, subst}
+use Rattle.data_read.specs.Making.{data_from}
+use Rattle.report_print.specs.declared.refusal.Refusal.{Refusal}
+use Rattle.blazes_commands.specs.Checks as check
+use Rattle.blazes_commands.specs.Code.Ran.{IsStopAt}
+use Rattle.blazes_commands.specs.Soak.{one_source}
+use Rattle.blazes_commands.proofs.GivenLemmas.{data_gives}
+use Rattle.blazes_commands.proofs.batches.data_of.Goals as goal
+
+pub returns-in-Ok-clause-gives : goal.returns-in-Ok-clause-gives
+returns-in-Ok-clause-gives c = ap (check.data_in c.args.valid.now.view) c.in-Ok.ensures.making
+
+pub returns-in_ok-data_refusal-in-Err-clause-gives : goal.returns-in_ok-data_refusal-in-Err-clause-gives
+returns-in_ok-data_refusal-in-Err-clause-gives c =
+    data_gives c.args.valid.now.view c.in-Err.fault (data_from c.args.valid.now.view (one_source c.args.rows.items)) c.stop_at.result c.in-Err.ensures.making
+    (subst (λ (refused : Option Refusal). IsStopAt refused c.stop_at.result) c.in_ok-data_refusal-in-Err.ensures c.stop_at.ensures)

@@ -1,0 +1,76 @@
+use Rattle.std.proofs.Common.{map, subst, sym}
+use Rattle.std.proofs.lemmas.List.Sorted.{IsPermutation-refl}
+use Rattle.blazes_commands.specs.Bench.{bench_states}
+use Rattle.blazes_commands.specs.Code.Ran.{RepliesTo}
+use Rattle.blazes_commands.specs.Code.Requests.{asked_by}
+use Rattle.blazes_commands.specs.Ends.{files_states, source}
+use Rattle.blazes_commands.specs.Words.{IsWithin}
+use Rattle.blazes_commands.specs.declared.words.Request.{Request}
+use Rattle.blazes_commands.proofs.CommandLemmas.{kept_anyway}
+use Rattle.blazes_commands.proofs.commands.outcome_of.Goals as goal
+
+pub returns-in-Label : goal.returns-in-Label
+returns-in-Label g c =
+    let bench = bench_states (map (λ b. (goal.Component-dyn g (b.vtable, b.value)).kind b.value) c.args.bench.now.items) (map (λ b. (goal.Component-dyn g (b.vtable, b.value)).kind b.value) c.args.bench.now.items) (map (λ b. (goal.Component-dyn g (b.vtable, b.value)).loaded b.value) c.args.bench.now.items) (map (λ b. (goal.Component-dyn g (b.vtable, b.value)).kept b.value) c.args.bench.now.items) in
+    let files = files_states (source (g.F.Files.held c.args.files.now) (g.F.Files.steady c.args.files.now) (g.F.Files.faults c.args.files.now)) (source (g.F.Files.held c.label.new.files) (g.F.Files.steady c.label.new.files) (g.F.Files.faults c.label.new.files)) in
+    record {
+      replies = subst (λ (request : Request). RepliesTo (asked_by request) files bench c.label.result) (sym c.in-Label.is) (c.label.ensures bench);
+      kinds = kept_anyway bench c.label.result (IsPermutation-refl bench.kinds);
+    }
+
+pub returns-in-Derive : goal.returns-in-Derive
+returns-in-Derive g c =
+    let bench = bench_states (map (λ b. (goal.Component-dyn g (b.vtable, b.value)).kind b.value) c.args.bench.now.items) (map (λ b. (goal.Component-dyn g (b.vtable, b.value)).kind b.value) c.args.bench.now.items) (map (λ b. (goal.Component-dyn g (b.vtable, b.value)).loaded b.value) c.args.bench.now.items) (map (λ b. (goal.Component-dyn g (b.vtable, b.value)).kept b.value) c.args.bench.now.items) in
+    let files = files_states (source (g.F.Files.held c.args.files.now) (g.F.Files.steady c.args.files.now) (g.F.Files.faults c.args.files.now)) (source (g.F.Files.held c.derive.new.files) (g.F.Files.steady c.derive.new.files) (g.F.Files.faults c.derive.new.files)) in
+    record {
+      replies = subst (λ (request : Request). RepliesTo (asked_by request) files bench c.derive.result) (sym c.in-Derive.is) (c.derive.ensures bench);
+      kinds = kept_anyway bench c.derive.result (IsPermutation-refl bench.kinds);
+    }
+
+pub returns-in-Plan : goal.returns-in-Plan
+returns-in-Plan g c =
+    let bench = bench_states (map (λ b. (goal.Component-dyn g (b.vtable, b.value)).kind b.value) c.args.bench.now.items) (map (λ b. (goal.Component-dyn g (b.vtable, b.value)).kind b.value) c.args.bench.now.items) (map (λ b. (goal.Component-dyn g (b.vtable, b.value)).loaded b.value) c.args.bench.now.items) (map (λ b. (goal.Component-dyn g (b.vtable, b.value)).kept b.value) c.args.bench.now.items) in
+    let files = files_states (source (g.F.Files.held c.args.files.now) (g.F.Files.steady c.args.files.now) (g.F.Files.faults c.args.files.now)) (source (g.F.Files.held c.plan.new.files) (g.F.Files.steady c.plan.new.files) (g.F.Files.faults c.plan.new.files)) in
+    record {
+      replies = subst (λ (request : Request). RepliesTo (asked_by request) files bench c.plan.result) (sym c.in-Plan.is) (c.plan.ensures bench);
+      kinds = kept_anyway bench c.plan.result (IsPermutation-refl bench.kinds);
+    }
+
+pub returns-in-Run : goal.returns-in-Run
+returns-in-Run g c =
+    let bench = bench_states (map (λ b. (goal.Component-dyn g (b.vtable, b.value)).kind b.value) c.args.bench.now.items) (map (λ b. (goal.Component-dyn g (b.vtable, b.value)).kind b.value) c.run.new.bench.items) (map (λ b. (goal.Component-dyn g (b.vtable, b.value)).loaded b.value) c.run.new.bench.items) (map (λ b. (goal.Component-dyn g (b.vtable, b.value)).kept b.value) c.run.new.bench.items) in
+    let files = files_states (source (g.F.Files.held c.args.files.now) (g.F.Files.steady c.args.files.now) (g.F.Files.faults c.args.files.now)) (source (g.F.Files.held c.run.new.files) (g.F.Files.steady c.run.new.files) (g.F.Files.faults c.run.new.files)) in
+    record {
+      replies = subst (λ (request : Request). RepliesTo (asked_by request) files bench c.run.result) (sym c.in-Run.is) c.run.ensures.replies;
+      kinds = c.run.ensures.kinds;
+    }
+
+pub returns-in-Make : goal.returns-in-Make
+returns-in-Make g c =
+    let bench = bench_states (map (λ b. (goal.Component-dyn g (b.vtable, b.value)).kind b.value) c.args.bench.now.items) (map (λ b. (goal.Component-dyn g (b.vtable, b.value)).kind b.value) c.make.new.bench.items) (map (λ b. (goal.Component-dyn g (b.vtable, b.value)).loaded b.value) c.make.new.bench.items) (map (λ b. (goal.Component-dyn g (b.vtable, b.value)).kept b.value) c.make.new.bench.items) in
+    let files = files_states (source (g.F.Files.held c.args.files.now) (g.F.Files.steady c.args.files.now) (g.F.Files.faults c.args.files.now)) (source (g.F.Files.held c.make.new.files) (g.F.Files.steady c.make.new.files) (g.F.Files.faults c.make.new.files)) in
+    record {
+      replies = subst (λ (request : Request). RepliesTo (asked_by request) files bench c.make.result) (sym c.in-Make.is) c.make.ensures.replies;
+      kinds = c.make.ensures.kinds;
+    }
+
+pub returns-in-Soak : goal.returns-in-Soak
+returns-in-Soak g c =
+    let bench = bench_states (map (λ b. (goal.Component-dyn g (b.vtable, b.value)).kind b.value) c.args.bench.now.items) (map (λ b. (goal.Component-dyn g (b.vtable, b.value)).kind b.value) c.soak.new.bench.items) (map (λ b. (goal.Component-dyn g (b.vtable, b.value)).loaded b.value) c.soak.new.bench.items) (map (λ b. (goal.Component-dyn g (b.vtable, b.value)).kept b.value) c.soak.new.bench.items) in
+    let files = source (g.F.Files.held c.args.files.now) (g.F.Files.steady c.args.files.now) (g.F.Files.faults c.args.files.now) in
+    record {
+      replies = subst (λ (request : Request). RepliesTo (asked_by request) (files_states files files) bench c.soak.result) (sym c.in-Soak.is) (c.soak.ensures.replies files);
+      kinds = c.soak.ensures.kinds;
+    }
+
+pub returns-in-Shard : goal.returns-in-Shard
+returns-in-Shard g c =
+    let bench = bench_states (map (λ b. (goal.Component-dyn g (b.vtable, b.value)).kind b.value) c.args.bench.now.items) (map (λ b. (goal.Component-dyn g (b.vtable, b.value)).kind b.value) c.args.bench.now.items) (map (λ b. (goal.Component-dyn g (b.vtable, b.value)).loaded b.value) c.args.bench.now.items) (map (λ b. (goal.Component-dyn g (b.vtable, b.value)).kept b.value) c.args.bench.now.items) in
+    let files = files_states (source (g.F.Files.held c.args.files.now) (g.F.Files.steady c.args.files.now) (g.F.Files.faults c.args.files.now)) (source (g.F.Files.held c.shard.new.files) (g.F.Files.steady c.shard.new.files) (g.F.Files.faults c.shard.new.files)) in
+    record {
+      replies = subst (λ (request : Request). RepliesTo (asked_by request) files bench c.shard.result) (sym c.in-Shard.is) (c.shard.ensures bench);
+      kinds = kept_anyway bench c.shard.result (IsPermutation-refl bench.kinds);
+    }
+
+pub shard-requires : goal.shard-requires
+shard-requires g c = subst (λ (request : Request). IsWithin (asked_by request)) c.in-Shard.is c.requires

@@ -1,0 +1,43 @@
+use Rattle.std.proofs.Common.{map}
+use Rattle.std.proofs.lemmas.List.Sorted.{IsPermutation-refl}
+use Rattle.blazes_commands.specs.Bench.{bench_states}
+use Rattle.blazes_commands.specs.Commands.{making}
+use Rattle.blazes_commands.specs.Ends.{source, files_states}
+use Rattle.blazes_commands.proofs.CommandFiles.{topology_stops, data_stops, files_then}
+use Rattle.blazes_commands.proofs.CommandLemmas.{kept_anyway}
+use Rattle.blazes_commands.proofs.making.make.Goals as goal
+
+pub returns-in_err-valid : goal.returns-in_err-valid
+returns-in_err-valid g c =
+    let bench = bench_states (map (λ b. (goal.Component-dyn g (b.vtable, b.value)).kind b.value) c.args.bench.now.items) (map (λ b. (goal.Component-dyn g (b.vtable, b.value)).kind b.value) c.args.bench.now.items) (map (λ b. (goal.Component-dyn g (b.vtable, b.value)).loaded b.value) c.args.bench.now.items) (map (λ b. (goal.Component-dyn g (b.vtable, b.value)).kept b.value) c.args.bench.now.items) in
+    let a = source (g.F.Files.held c.args.files.now) (g.F.Files.steady c.args.files.now) (g.F.Files.faults c.args.files.now) in
+    let b = source (g.F.Files.held c.valid_topology.new.files) (g.F.Files.steady c.valid_topology.new.files) (g.F.Files.faults c.valid_topology.new.files) in
+    record {
+      replies = topology_stops bench c.args.words.topology.now c.args.words.given.now (λ seen given. making bench.kinds seen.view given c.args.words.seed) c.from_residual.result (files_states a b) c.in_err-valid.field-0.0
+          c.from_residual.ensures.1 c.in_err-valid.ensures;
+      kinds = kept_anyway bench c.from_residual.result (IsPermutation-refl bench.kinds);
+    }
+
+pub returns-in_err-given : goal.returns-in_err-given
+returns-in_err-given g c =
+    let bench = bench_states (map (λ b. (goal.Component-dyn g (b.vtable, b.value)).kind b.value) c.args.bench.now.items) (map (λ b. (goal.Component-dyn g (b.vtable, b.value)).kind b.value) c.args.bench.now.items) (map (λ b. (goal.Component-dyn g (b.vtable, b.value)).loaded b.value) c.args.bench.now.items) (map (λ b. (goal.Component-dyn g (b.vtable, b.value)).kept b.value) c.args.bench.now.items) in
+    let a = source (g.F.Files.held c.args.files.now) (g.F.Files.steady c.args.files.now) (g.F.Files.faults c.args.files.now) in
+    let b = source (g.F.Files.held c.valid_topology.new.files) (g.F.Files.steady c.valid_topology.new.files) (g.F.Files.faults c.valid_topology.new.files) in
+    let d = source (g.F.Files.held c.data_file.new.files) (g.F.Files.steady c.data_file.new.files) (g.F.Files.faults c.data_file.new.files) in
+    record {
+      replies = data_stops bench c.args.words.topology.now c.args.words.given.now (λ seen given. making bench.kinds seen.view given c.args.words.seed) c.from_residual-in_err-given.result a b d c.in_ok-valid.valid c.in_err-given.field-0.0
+          c.from_residual-in_err-given.ensures.1 c.in_ok-valid.ensures c.in_err-given.ensures.ran;
+      kinds = kept_anyway bench c.from_residual-in_err-given.result (IsPermutation-refl bench.kinds);
+    }
+
+pub returns : goal.returns
+returns g c =
+    let bench = bench_states (map (λ b. (goal.Component-dyn g (b.vtable, b.value)).kind b.value) c.args.bench.now.items) (map (λ b. (goal.Component-dyn g (b.vtable, b.value)).kind b.value) c.made_over.new.bench.items) (map (λ b. (goal.Component-dyn g (b.vtable, b.value)).loaded b.value) c.made_over.new.bench.items) (map (λ b. (goal.Component-dyn g (b.vtable, b.value)).kept b.value) c.made_over.new.bench.items) in
+    let a = source (g.F.Files.held c.args.files.now) (g.F.Files.steady c.args.files.now) (g.F.Files.faults c.args.files.now) in
+    let b = source (g.F.Files.held c.valid_topology.new.files) (g.F.Files.steady c.valid_topology.new.files) (g.F.Files.faults c.valid_topology.new.files) in
+    let d = source (g.F.Files.held c.data_file.new.files) (g.F.Files.steady c.data_file.new.files) (g.F.Files.faults c.data_file.new.files) in
+    record {
+      replies = files_then bench c.args.words.topology.now c.args.words.given.now (λ seen given. making bench.kinds seen.view given c.args.words.seed) c.made_over.result a b d d c.in_ok-valid.valid c.in_ok-given.given
+          c.in_ok-valid.ensures c.in_ok-given.ensures.ran (c.made_over.ensures.replies d);
+      kinds = c.made_over.ensures.kinds;
+    }

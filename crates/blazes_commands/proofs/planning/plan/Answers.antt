@@ -1,0 +1,28 @@
+use Rattle.blazes_commands.specs.Checks as check
+use Rattle.blazes_commands.specs.Code.Ran.{answer_of}
+use Rattle.blazes_commands.specs.Commands.{script}
+use Rattle.blazes_commands.specs.Commands.Work.{planned}
+use Rattle.blazes_commands.specs.Ends.{files_states, source}
+use Rattle.blazes_commands.specs.Script.{Script}
+use Rattle.blazes_commands.specs.Words.{Asked}
+use Rattle.blazes_commands.proofs.CommandLemmas.{followed, lost_replies, stop_replies}
+use Rattle.blazes_commands.proofs.planning.plan.Goals as goal
+
+pub returns-in_err-valid : goal.returns-in_err-valid
+returns-in_err-valid g c =
+    let a = source (g.F.Files.held c.args.files.now) (g.F.Files.steady c.args.files.now) (g.F.Files.faults c.args.files.now) in
+    let b = source (g.F.Files.held c.valid_topology.new.files) (g.F.Files.steady c.valid_topology.new.files) (g.F.Files.faults c.valid_topology.new.files) in
+    λ bench. stop_replies (files_states a b) bench (check.valid_topology c.args.name.now) (λ seen. Script.gives (planned seen)) c.from_residual.result c.in_err-valid.field-0.0 c.from_residual.ensures.1
+    c.in_err-valid.ensures
+
+pub returns-in_err-planned : goal.returns-in_err-planned
+returns-in_err-planned g c =
+    let a = source (g.F.Files.held c.args.files.now) (g.F.Files.steady c.args.files.now) (g.F.Files.faults c.args.files.now) in
+    let b = source (g.F.Files.held c.valid_topology.new.files) (g.F.Files.steady c.valid_topology.new.files) (g.F.Files.faults c.valid_topology.new.files) in
+    λ bench. lost_replies (files_states a b) bench (script bench.kinds (Asked.plan c.args.name.now)) c.from_residual-in_err-planned.result c.from_residual-in_err-planned.ensures.1
+
+pub returns : goal.returns
+returns g c =
+    let a = source (g.F.Files.held c.args.files.now) (g.F.Files.steady c.args.files.now) (g.F.Files.faults c.args.files.now) in
+    let b = source (g.F.Files.held c.valid_topology.new.files) (g.F.Files.steady c.valid_topology.new.files) (g.F.Files.faults c.valid_topology.new.files) in
+    λ bench. followed a b bench (check.valid_topology c.args.name.now) planned c.in_ok-valid.valid (answer_of c.in_ok-planned.field-0) c.in_ok-valid.ensures c.in_ok-planned.ensures

@@ -1,0 +1,20 @@
+-- What a command answers to the files that it reads.
+use Rattle.std.specs.Prelude.{◌≡◌}
+use Rattle.blazes_commands.specs.Bench.{BenchStates}
+use Rattle.blazes_commands.specs.Script.{Script, Ending}
+use Rattle.blazes_commands.specs.Ends.{FilesStates, Came}
+use Rattle.blazes_commands.specs.Commands.{Answer, Work, Says}
+use Rattle.blazes_commands.specs.Lines.{cannot_read}
+use Rattle.blazes_commands.specs.declared.status.Status.TheVariants.{Refused, ReadFault}
+
+-- the answer where a script has ended so
+abbrev pub Answers : Ending Work → BenchStates → Answer → Type 0
+Answers (Ending.gave work) bench answer = Says work bench answer
+Answers (Ending.refused line) bench answer = answer ≡ record { status = Refused; text = line }
+Answers (Ending.failed name) bench answer = answer ≡ record { status = ReadFault; text = cannot_read name }
+
+-- the script came to some end over this source, and this is the answer
+pub record IsAnswered (checks : Script Work) (files : FilesStates) (bench : BenchStates) (answer : Answer) : Type 0 where
+  pub ending : Ending Work
+  pub came : Came files checks ending
+  pub answers : Answers ending bench answer

@@ -1,0 +1,190 @@
+-- What each command does, check by check, and what it has to write.
+use Rattle.std.specs.Prelude.{◌≡◌, ◌⊎◌, ℕ, List, take, Ok}
+use Rattle.bloom_ast.specs.declared.program.Program.{Program}
+use Rattle.blz_boxes.specs.declared.kind.ProgramKind.{ProgramKind}
+use Rattle.topo_types.specs.declared.topology.Topology.{Topology}
+use Rattle.topo_types.specs.Data.{Data}
+use Rattle.topo_types.specs.Valid.{Validated}
+use Rattle.topo_types.specs.View.{View}
+use Rattle.label_rules.specs.declared.label.Label.{Label}
+use Rattle.label_walk.specs.Labels.{AreLabels}
+use Rattle.confluence.specs.Sound.{Sound, RestartSound}
+use Rattle.inbox.specs.Completeness.{IsComplete}
+use Rattle.inbox.specs.Events.{Event}
+use Rattle.inbox.specs.Executions.{Execution, contents}
+use Rattle.inbox.specs.Folds.{fold_rows}
+use Rattle.inbox.specs.OrderReplicas.{most_taken}
+use Rattle.inbox.specs.Wiring.{wiring_of}
+use Rattle.coord_synth.specs.Laws.{AreCoordinated}
+use Rattle.coord_synth.specs.Plan as plan
+use Rattle.report_print.specs.DeriveText.{derive_text}
+use Rattle.report_print.specs.LabelText.{label_text}
+use Rattle.report_print.specs.RunText.{run_text}
+use Rattle.report_print.specs.SoakText.{soak_text}
+use Rattle.sched_run.specs.Applying.{Line}
+use Rattle.sched_run.specs.Made.{LeavesNothing, execution_after}
+use Rattle.sched_run.specs.Making.{events_of}
+use Rattle.shard_route.specs.declared.sharded.Sharded.{Sharded}
+use Rattle.sched_run.specs.Reading.{IsOrdered}
+use Rattle.sched_text.specs.Reading.{ReadsAs, event_reading}
+use Rattle.sched_text.specs.Text.{schedule_text}
+use Rattle.topo_read.specs.Reading.{IsReading}
+use Rattle.blazes_commands.specs.Bench.{BenchStates, HasInstances}
+use Rattle.blazes_commands.specs.Script.{Bytes, Script, ◌>>=◌}
+use Rattle.blazes_commands.specs.ShardText.{shard_text}
+use Rattle.blazes_commands.specs.Words.{Asked}
+use Rattle.blazes_commands.specs.Checks as check
+use Rattle.blazes_commands.specs.Soak.{planned_count, tweets_data}
+use Rattle.blazes_commands.specs.declared.status.Status.{Status}
+use Rattle.blazes_commands.specs.declared.status.Status.TheVariants.{Done, Incomplete}
+
+-- a status and a text
+pub record Answer : Type 0 where
+  pub status : Status
+  pub text : Bytes
+
+-- what a command has found that no check refused
+pub data Work : Type 0 where
+  -- a topology whose streams are to be labelled
+  labelled : Validated → Work
+  -- a topology whose labels are to be derived
+  derived : Validated → Work
+  -- a topology whose plan is to be written
+  planned : Validated → Work
+  -- an execution of a topology over data, whose contents are to be written
+  ran : View → Data → Execution → Work
+  -- a schedule of a topology over data, by its events, which is to be written
+  made : View → Data → List Event → Work
+  -- an execution of so many batches, by the topology, its data and the events, which is to be summed up
+  soaked : (batches : ℕ) → View → Data → List Event → Work
+  -- a topology with copies of a component, which is to be written with their modules
+  sharded : Sharded → Work
+
+-- what follows in a run on the checks of its files: the net is opened, and the events happen
+abbrev pub running : List ProgramKind → View → Data → List Line → Script Work
+running kinds v given lines = do
+  opened ← check.opening v kinds
+  x ← check.execution v given lines
+  Script.gives (Work.ran v given x)
+
+-- a net is opened, and a seed chooses the events, of which there is this work
+abbrev pub making_for : (List Event → Work) → List ProgramKind → View → Data → (seed : ℕ) → Script Work
+making_for work kinds v given seed = do
+  opened ← check.opening v kinds
+  events ← check.making v given seed
+  Script.gives (work events)
+
+-- what follows in `make` on the checks of its files
+abbrev pub making : List ProgramKind → View → Data → (seed : ℕ) → Script Work
+making kinds v given seed = making_for (Work.made v given) kinds v given seed
+
+-- what follows in `soak` on the plan of the built-in word count, over so many batches
+abbrev pub soaking : (batches : ℕ) → List ProgramKind → View → (seed : ℕ) → Script Work
+soaking batches kinds v seed = do
+  given ← check.checked (tweets_data v batches)
+  making_for (Work.soaked batches v given) kinds v given seed
+
+-- the checks of each command, in their order, where the bench has shells of these kinds
+abbrev pub script : List ProgramKind → Asked → Script Work
+script kinds (Asked.label topology) = do
+  seen ← check.valid_topology topology
+  Script.gives (Work.labelled seen)
+script kinds (Asked.derive topology) = do
+  seen ← check.valid_topology topology
+  Script.gives (Work.derived seen)
+script kinds (Asked.plan topology) = do
+  seen ← check.valid_topology topology
+  Script.gives (Work.planned seen)
+script kinds (Asked.run files) = do
+  seen ← check.valid_topology files.topology
+  given ← check.data_file seen files.given
+  lines ← check.schedule_file files.schedule
+  running kinds seen.view given lines
+script kinds (Asked.make words) = do
+  seen ← check.valid_topology words.topology
+  given ← check.data_file seen words.given
+  making kinds seen.view given words.seed
+script kinds (Asked.soak words) = do
+  v ← planned_count
+  soaking words.count kinds v words.seed
+script kinds (Asked.shard words) = do
+  found ← check.with_modules words.topology
+  copies ← check.sharding found words
+  Script.gives (Work.sharded copies)
+
+-- the answer is Done with a text of the labels that the rules give, and these hold in all complete executions, also in those with forgets
+pub record HasLabels (text : View → List Label → Bytes) (v : View) (answer : Answer) : Type 0 where
+  pub labels : List Label
+  pub rules : AreLabels v labels
+  pub sound : Sound v labels
+  pub restarts : RestartSound v labels
+  pub says : answer ≡ record { status = Done; text = text v labels }
+
+-- the planned topology as a file has it, in format 2
+abbrev pub planned_file : Validated → Topology
+planned_file seen = record (plan.topology_with_modes seen.topology (plan.planned seen.view)) { format = 2 }
+
+-- the answer is Done with a text that is read as the planned topology; there no stream is worse than Run, and each of a component in mode Pass or Seal is Seal or Async
+pub record HasPlan (seen : Validated) (answer : Answer) : Type 0 where
+  pub status : answer.status ≡ Done
+  pub reads : IsReading answer.text (Ok (planned_file seen))
+  pub coordinated : AreCoordinated (plan.planned seen.view)
+
+-- the answer is Done with a text that is read as the new topology, and the texts of the modules of its copies
+pub record HasShards (copies : Sharded) (answer : Answer) : Type 0 where
+  pub text : Bytes
+  pub reads : IsReading text (Ok copies.topology)
+  pub says : answer ≡ record { status = Done; text = shard_text text copies.files }
+
+-- Done where an execution is complete, and else Incomplete
+abbrev pub IsStatusOf : View → Data → Execution → Status → Type 0
+IsStatusOf v given x status = ((status ≡ Done) × IsComplete (wiring_of v) given x) ⊎ ((status ≡ Incomplete) × ¬ IsComplete (wiring_of v) given x)
+
+-- the contents of each replica of an Order component are what its program puts out over the first entries of the log, as many as it took in the life in which it took most
+abbrev pub HasOrderReplicas : View → Data → Execution → Type 0
+HasOrderReplicas v given x = (stream replica component output : ℕ) (program : Program) → IsOrdered v stream replica component output program
+    → contents (wiring_of v) given x stream replica ≡ fold_rows program (take (most_taken (x.lives component replica)) (x.logs component)) output
+
+-- the answer is the text of the execution, under this status
+pub record HasContents (v : View) (given : Data) (x : Execution) (answer : Answer) : Type 0 where
+  pub text : answer.text ≡ run_text v given x
+  pub status : IsStatusOf v given x answer.status
+  pub ordered : HasOrderReplicas v given x
+
+-- and the bench ends with the shells of its instances
+pub record HasRun (v : View) (given : Data) (x : Execution) (bench : BenchStates) (answer : Answer) : Type 0 where
+  pub contents : HasContents v given x answer
+  pub instances : HasInstances v x bench
+
+-- the answer is the text of a schedule that reads as these events, which leave nothing; it is Done where nothing is held either
+pub record HasSchedule (v : View) (given : Data) (events : List Event) (answer : Answer) : Type 0 where
+  pub lines : List Line
+  pub text : answer.text ≡ schedule_text lines
+  pub reads : ReadsAs event_reading answer.text lines
+  pub are : events_of v lines ≡ events
+  pub leaves : LeavesNothing (wiring_of v) given events
+  pub status : IsStatusOf v given (execution_after (wiring_of v) given events) answer.status
+
+-- the answer is Done with the summary of the execution under the labels that the rules give, and these hold in all complete executions; there no stream is worse than Run, and each of a component in mode Pass or Seal is Seal or Async
+pub record HasSummary (batches : ℕ) (v : View) (given : Data) (x : Execution) (answer : Answer) : Type 0 where
+  pub labels : List Label
+  pub rules : AreLabels v labels
+  pub sound : Sound v labels
+  pub restarts : RestartSound v labels
+  pub coordinated : AreCoordinated v
+  pub says : answer ≡ record { status = Done; text = soak_text batches v labels given x }
+
+-- so it is of the execution of these events, which leave nothing
+pub record HasSoak (batches : ℕ) (v : View) (given : Data) (events : List Event) (answer : Answer) : Type 0 where
+  pub leaves : LeavesNothing (wiring_of v) given events
+  pub summary : HasSummary batches v given (execution_after (wiring_of v) given events) answer
+
+-- the status and the text of what was found, and what the bench has then
+abbrev pub Says : Work → BenchStates → Answer → Type 0
+Says (Work.labelled seen) bench answer = HasLabels label_text seen.view answer
+Says (Work.derived seen) bench answer = HasLabels derive_text seen.view answer
+Says (Work.planned seen) bench answer = HasPlan seen answer
+Says (Work.ran v given x) bench answer = HasRun v given x bench answer
+Says (Work.made v given events) bench answer = HasSchedule v given events answer
+Says (Work.soaked batches v given events) bench answer = HasSoak batches v given events answer
+Says (Work.sharded copies) bench answer = HasShards copies answer

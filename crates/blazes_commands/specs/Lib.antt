@@ -1,0 +1,13 @@
+pub mod Script
+pub mod Ends
+pub mod Numbers
+pub mod Words
+pub mod Lines
+pub mod Checks
+pub mod Soak
+pub mod Bench
+pub mod ShardText
+pub mod Commands
+pub mod Answer
+pub mod Status
+pub mod Code

@@ -1,0 +1,75 @@
+-- The word count that is built in: its files, its tweets, and what is said of its run.
+use Rattle.std.specs.Prelude.{ℕ, ◌+◌, ◌*◌, ◌%◌, ◌==◌, ◌&&◌, pos, Bool, List, [], ◌∷◌, ◌++◌, map, length, Result, Err, codes, if◌then◌else◌}
+use Rattle.std.specs.Fmt.{decimal}
+use Rattle.std.specs.List.{flat_map}
+use Rattle.std.specs.Str.{bytes_eq}
+use Rattle.blz_value.specs.Record.{Row}
+use Rattle.blz_value.specs.declared.value.Value.TheVariants.{Int, Text}
+use Rattle.coord_synth.specs.Plan.{planned}
+use Rattle.topo_types.specs.Data.{Data, SourceData}
+use Rattle.topo_types.specs.Sets.{below}
+use Rattle.topo_types.specs.Valid.{Validated}
+use Rattle.topo_types.specs.View.{View, source_count, stream_at}
+use Rattle.data_read.specs.Making.{data_from, sources_of}
+use Rattle.report_print.specs.declared.refusal.Refusal.TheVariants as refusal
+use Rattle.report_print.specs.Refusals.{refusal_line}
+use Rattle.blazes_commands.specs.Checks as check
+use Rattle.blazes_commands.specs.Script.{Bytes, Script, ◌>>=◌}
+use Rattle.blazes_commands.specs.declared.built_in.TheConstants.{TOPOLOGY, COUNT, COMMIT}
+
+-- ---- its files
+
+-- the built-in files by their names: the topology, and the modules of count and of commit; it names no others
+abbrev pub built_in : Bytes → Bytes
+built_in name = if bytes_eq name (codes "wc.toml") then TOPOLOGY.now else (if bytes_eq name (codes "count.bloom") then COUNT.now else COMMIT.now)
+
+-- a script over files that are all there: each read gives the bytes of the name
+abbrev pub over : {A : Type 0} → (files : Bytes → Bytes) → Script A → Script A
+over files (Script.gives x) = Script.gives x
+over files (Script.refuses line) = Script.refuses line
+over files (Script.reads name next) = over files (next (files name))
+
+-- the topology, by the checks of one in files
+unfoldable pub word_count : Script Validated
+word_count = over built_in (check.valid_topology (codes "wc.toml"))
+
+-- and under its plan
+unfoldable pub planned_count : Script View
+planned_count = do
+  seen ← word_count
+  Script.gives (planned seen.view)
+
+-- ---- its tweets; batches and places are numbered from 0
+
+-- two words
+abbrev pub words : (first second : ℕ) → Bytes
+words first second = codes "w" ++ (decimal first ++ (codes " w" ++ decimal second))
+
+-- the tweet at a place of a batch: its number, its words, and the batch, counted from 1
+abbrev pub tweet : (batch place : ℕ) → Row
+tweet batch place = Int (pos (16 * batch + place + 1)) ∷ Text (words (place % 4) ((place + batch + 1) % 4)) ∷ Int (pos (batch + 1)) ∷ []
+
+-- a batch has sixteen of them
+unfoldable pub tweets_of : (batch : ℕ) → List Row
+tweets_of batch = map (tweet batch) (below 16)
+
+-- those of so many batches
+abbrev pub tweets : (batches : ℕ) → List Row
+tweets batches = flat_map tweets_of (below batches)
+
+-- ---- its data
+
+-- a topology takes them where it has one source, of three columns
+abbrev pub takes_tweets : View → Bool
+takes_tweets v = source_count v == 1 && length (stream_at v 0).columns == 3
+
+-- one source with these rows, and without declared partitions
+abbrev pub one_source : List Row → List SourceData
+one_source rows = sources_of (rows ∷ []) ([] ∷ [])
+
+abbrev pub data_of : View → List Row → Result Data Bytes
+data_of v rows = check.data_in v (data_from v (one_source rows))
+
+-- the data of so many batches
+abbrev pub tweets_data : View → (batches : ℕ) → Result Data Bytes
+tweets_data v batches = if takes_tweets v then data_of v (tweets batches) else Err (refusal_line (refusal.DataForm (codes "tweets") 0))

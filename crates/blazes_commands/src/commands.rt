@@ -1,0 +1,53 @@
+//! The commands by what is asked.
+ghost use Rattle.std.specs.Prelude.{map};
+ghost use Rattle.blazes_commands.specs.Bench.{bench_states};
+ghost use Rattle.blazes_commands.specs.Code.Ran.{RepliesTo};
+ghost use Rattle.blazes_commands.specs.Code.Requests.{asked_by};
+ghost use Rattle.blazes_commands.specs.Code.Runs.{KeepsKinds};
+ghost use Rattle.blazes_commands.specs.Ends.{files_states, source};
+ghost use Rattle.blazes_commands.specs.Words.{IsWithin};
+
+use crate::labelling::{derive, label};
+use crate::making::make;
+use crate::planning::plan;
+use crate::reply::Reply;
+use crate::running::run;
+use crate::sharding::shard;
+use crate::soaking::soak;
+use crate::stop::Stop;
+use crate::words::Request;
+use blz_boxes::Component;
+use blz_outside::Files;
+use std::alloc::Global;
+
+/// The reply of the command that is asked for, or what stopped it: its checks go in their order, and it
+/// reads the files that they reach. Instances run in shells of the bench, which go back to its end, but
+/// where memory runs out.
+pub fn outcome_of<F: Files>(
+    alloc: Global,
+    request: Request<'_>,
+    files: &mut F,
+    bench: &mut Vec<Box<dyn Component>>,
+) -> Result<Reply, Stop>
+    requires { IsWithin (asked_by request) }
+    ensures replies { RepliesTo (asked_by request.entry)
+        (files_states (source (F.held files.old) (F.steady files.old) (F.faults files.old))
+        (source (F.held files.new) (F.steady files.new) (F.faults files.new)))
+        (bench_states (map (λ b. kind b) bench.old.items) (map (λ b. kind b) bench.new.items)
+        (map (λ b. loaded b) bench.new.items) (map (λ b. kept b) bench.new.items))
+        result }
+    ensures kinds { KeepsKinds
+        (bench_states (map (λ b. kind b) bench.old.items) (map (λ b. kind b) bench.new.items)
+        (map (λ b. loaded b) bench.new.items) (map (λ b. kept b) bench.new.items))
+        result }
+{
+    match request {
+        Request::Label { topology } => label(alloc, topology, files),
+        Request::Derive { topology } => derive(alloc, topology, files),
+        Request::Plan { topology } => plan(alloc, topology, files),
+        Request::Run(names) => run(alloc, names, files, bench),
+        Request::Make(words) => make(alloc, words, files, bench),
+        Request::Soak(words) => soak(alloc, words, bench),
+        Request::Shard(words) => shard(alloc, &words, files),
+    }
+}

@@ -1,0 +1,133 @@
+//! The command that makes a schedule.
+ghost use Rattle.std.specs.Prelude.{◌≡◌, IfOk, OnOk, Some, map};
+ghost use Rattle.report_print.specs.declared.refusal.Refusal.TheVariants as refusal;
+ghost use Rattle.sched_run.specs.Making.{CountFromOne};
+ghost use Rattle.sched_run.specs.Net.{BooksRun};
+ghost use Rattle.sched_text.specs.Text.{IsPrintable};
+ghost use Rattle.topo_types.specs.Data.{IsData};
+ghost use Rattle.blazes_commands.specs.Bench.{bench_states};
+ghost use Rattle.blazes_commands.specs.Checks as check;
+ghost use Rattle.blazes_commands.specs.Code.Made.{IsMadeOf, PrintsBooks};
+ghost use Rattle.blazes_commands.specs.Code.Ran.{answer_of, RepliesTo};
+ghost use Rattle.blazes_commands.specs.Code.Requests.{make_shown};
+ghost use Rattle.blazes_commands.specs.Code.Runs.{KeepsKinds, RepliesAtOnce};
+ghost use Rattle.blazes_commands.specs.Commands.{making};
+ghost use Rattle.blazes_commands.specs.Ends.{files_states, source};
+ghost use Rattle.blazes_commands.specs.Words.{Asked};
+
+use crate::data_file::data_file;
+use crate::opening::opened;
+use crate::reply::Reply;
+use crate::running::status_of;
+use crate::stop::{Stop, stop_at};
+use crate::valid_topology::valid_topology;
+use crate::words::MakeWords;
+use blz_boxes::Component;
+use blz_outside::Files;
+use data_read::Data;
+use report_print::{MakeKind, Refusal};
+use sched_run::{MakeFault, Net};
+use sched_text::{Schedule, print};
+use std::alloc::{AllocError, Global};
+use topo_types::Valid;
+
+// The number of the first event that is one too many.
+const FIRST_TOO_MANY: u32 = 1_000_001;
+
+fn at_event(event: u32, kind: MakeKind) -> Option<Refusal>
+    ensures { result ≡ Some (refusal.Make event kind) }
+{
+    Some(Refusal::Make { event, kind })
+}
+
+/// The refusal of a schedule that can't be made; want of memory is none.
+pub fn make_refusal(fault: &MakeFault) -> Option<Refusal>
+    ensures { result ≡ check.make_refusal fault.now }
+{
+    match fault {
+        MakeFault::TooManyEvents => at_event(FIRST_TOO_MANY, MakeKind::TooManyEvents),
+        MakeFault::TooManyRows { event } => at_event(*event, MakeKind::TooManyRows),
+        MakeFault::TooManyMessages { event } => at_event(*event, MakeKind::TooManyMessages),
+        MakeFault::NoMemory => None,
+    }
+}
+
+// The text of a schedule that a net has just made, and whether anything is held after it.
+fn printed(alloc: Global, net: &Net<'_>, schedule: &Schedule) -> Result<Reply, AllocError>
+    requires runs { BooksRun net.now.valid.now.view net.now.books }
+    requires numbers { CountFromOne schedule.now }
+    requires printable { IsPrintable schedule.now }
+    ensures { IfOk result (λ reply. PrintsBooks net.now.valid.now.view net.now.books schedule.now (answer_of reply)) }
+{
+    Ok(Reply {
+        status: status_of(net),
+        text: print(alloc, schedule)?,
+    })
+}
+
+// The outcome of a net that made a schedule, or couldn't.
+fn outcome_of(
+    alloc: Global,
+    net: &Net<'_>,
+    made: Result<Schedule, MakeFault>,
+) -> Result<Reply, Stop>
+    requires runs { OnOk made (BooksRun net.now.valid.now.view net.now.books) }
+    requires numbers { IfOk made CountFromOne }
+    requires printable { IfOk made IsPrintable }
+    ensures { IsMadeOf net.now.valid.now.view net.now.books made result }
+{
+    match made {
+        Ok(schedule) => Ok(printed(alloc, net, &schedule)?),
+        Err(fault) => Err(stop_at(alloc, make_refusal(&fault))),
+    }
+}
+
+// Opens a net over the data with shells of the bench and lets it make the schedule of a seed; then the
+// shells go back to the bench.
+fn made_over(
+    alloc: Global,
+    valid: &Valid,
+    given: Data,
+    seed: u64,
+    bench: &mut Vec<Box<dyn Component>>,
+) -> Result<Reply, Stop>
+    requires { IsData valid.now.view given }
+    ensures replies { RepliesAtOnce
+        (bench_states (map (λ b. kind b) bench.old.items) (map (λ b. kind b) bench.new.items)
+        (map (λ b. loaded b) bench.new.items) (map (λ b. kept b) bench.new.items))
+        result (making (map (λ b. kind b) bench.old.items) valid.now.view given seed) }
+    ensures kinds { KeepsKinds
+        (bench_states (map (λ b. kind b) bench.old.items) (map (λ b. kind b) bench.new.items)
+        (map (λ b. loaded b) bench.new.items) (map (λ b. kept b) bench.new.items))
+        result }
+{
+    let mut net = opened(alloc, valid, given, bench)?;
+    let made = sched_run::make(&mut net, seed);
+    let outcome = outcome_of(alloc, &net, made);
+    net.close(bench)?;
+    outcome
+}
+
+/// The schedule that a seed gives over the topology and the data in these files, after which nothing is
+/// left to deliver. It is tried with shells of the bench, which go back to its end.
+pub fn make<F: Files>(
+    alloc: Global,
+    words: MakeWords<'_>,
+    files: &mut F,
+    bench: &mut Vec<Box<dyn Component>>,
+) -> Result<Reply, Stop>
+    ensures replies { RepliesTo (Asked.make (make_shown words.entry))
+        (files_states (source (F.held files.old) (F.steady files.old) (F.faults files.old))
+        (source (F.held files.new) (F.steady files.new) (F.faults files.new)))
+        (bench_states (map (λ b. kind b) bench.old.items) (map (λ b. kind b) bench.new.items)
+        (map (λ b. loaded b) bench.new.items) (map (λ b. kept b) bench.new.items))
+        result }
+    ensures kinds { KeepsKinds
+        (bench_states (map (λ b. kind b) bench.old.items) (map (λ b. kind b) bench.new.items)
+        (map (λ b. loaded b) bench.new.items) (map (λ b. kept b) bench.new.items))
+        result }
+{
+    let valid = valid_topology(alloc, words.topology, files)?;
+    let given = data_file(alloc, &valid, words.given, files)?;
+    made_over(alloc, &valid, given, words.seed, bench)
+}

@@ -1,0 +1,34 @@
+//! The command that plans a topology.
+ghost use Rattle.std.specs.Prelude.{◌≡◌, IfOk};
+ghost use Rattle.blazes_commands.specs.Bench.{BenchStates};
+ghost use Rattle.blazes_commands.specs.Code.Ran.{RepliesTo, answer_of};
+ghost use Rattle.blazes_commands.specs.Commands.{HasPlan};
+ghost use Rattle.blazes_commands.specs.Ends.{files_states, source};
+ghost use Rattle.blazes_commands.specs.Words.{Asked};
+
+use crate::reply::{Reply, done};
+use crate::stop::Stop;
+use crate::valid_topology::valid_topology;
+use blz_outside::Files;
+use std::alloc::{AllocError, Global};
+use topo_read::{topology_of, write};
+use topo_types::Valid;
+
+fn planned(alloc: Global, valid: &Valid) -> Result<Reply, AllocError>
+    ensures { IfOk result (λ reply. HasPlan valid.now (answer_of reply)) }
+{
+    let planned = coord_synth::plan(alloc, valid)?;
+    let topology = topology_of(alloc, &planned)?;
+    Ok(done(write(alloc, &topology)?))
+}
+
+/// The plan of the topology in the file of this name, as a file of a topology.
+pub fn plan<F: Files>(alloc: Global, name: &str, files: &mut F) -> Result<Reply, Stop>
+    ensures { (bench : BenchStates) → RepliesTo (Asked.plan name.now)
+        (files_states (source (F.held files.old) (F.steady files.old) (F.faults files.old))
+        (source (F.held files.new) (F.steady files.new) (F.faults files.new)))
+        bench result }
+{
+    let valid = valid_topology(alloc, name, files)?;
+    Ok(planned(alloc, &valid)?)
+}

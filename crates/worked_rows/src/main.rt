@@ -1,0 +1,156 @@
+//! Worked rows of the program: what it writes, and with which status it ends, for words over files.
+//!
+//! A word of the command line names a file of rows, which stands in the folder data/. A line of it that
+//! begins with `== ` is a heading:
+//!
+//! - `== file NAME`: the lines below are the file NAME.
+//! - `== copy NAME`: the file NAME of the folder is a file of the rows too.
+//! - `== ask WORDS`: the words of the command line, with a blank between two.
+//! - `== hold NAME`: what the program writes, asked so over the files so far, is the file NAME.
+//! - `== answer STATUS`: the program, asked so over the files so far, writes the lines below and ends
+//!   with this status.
+//!
+//! The lines in front of the first heading say what the rows show.
+#![tactic(auto)]
+
+use anyhow::Result;
+use blazes_cli::{Status, blazes};
+use blz_boxes::{Component, LatestShell, NumberShell, PlainShell, SplitShell};
+use blz_outside::{Files, MemFiles, MemSink, RealFiles};
+use std::alloc::Global;
+use std::env;
+
+/// The most bytes of a file of rows, of a file beside it, and of what is written for a row.
+const TEXT_LIMIT: usize = 65_536;
+
+// What a row asks of the program: files, of which the first with a name counts, and words.
+#[derive(Drop)]
+struct Question {
+    files: Vec<(String, Vec<u8>)>,
+    words: Vec<String>,
+}
+
+impl Question {
+    fn new(alloc: Global) -> Question {
+        Question {
+            files: Vec::new(alloc),
+            words: Vec::new(alloc),
+        }
+    }
+
+    // Holds a file, in place of another of this name.
+    fn hold(&mut self, alloc: Global, name: &str, text: &[u8]) -> Result<()> {
+        let file = (
+            String::from_str(alloc, name)?,
+            Vec::from_slice(alloc, text)?,
+        );
+        self.files.insert(0, file)?;
+        Ok(())
+    }
+
+    // Asks with these words, in place of others.
+    fn ask(&mut self, alloc: Global, words: &str) -> Result<()> {
+        self.words.clear();
+        for word in words.split(' ') {
+            self.words.push(String::from_str(alloc, word)?)?;
+        }
+        Ok(())
+    }
+
+    // The files once more.
+    fn copied(&self, alloc: Global) -> Result<MemFiles> {
+        let mut files = Vec::new(alloc);
+        for (name, text) in &self.files {
+            let name = String::from_str(alloc, name.as_str())?;
+            files.push((name, Vec::from_slice(alloc, text.as_slice())?))?;
+        }
+        Ok(MemFiles::new(files, Vec::new(alloc)))
+    }
+
+    // The program's answer, on a bench with four shells for modules and sixteen of each stock kind.
+    fn answer(&self, alloc: Global) -> Result<(Status, MemSink)> {
+        let mut bench: Vec<Box<dyn Component>> = Vec::new(alloc);
+        for number in 0..16 {
+            if number < 4 {
+                bench.push(Box::new(alloc, PlainShell::new(alloc))?)?;
+            }
+            bench.push(Box::new(alloc, SplitShell::new(alloc))?)?;
+            bench.push(Box::new(alloc, LatestShell::new(alloc))?)?;
+            bench.push(Box::new(alloc, NumberShell::new(alloc))?)?;
+        }
+        let mut files = self.copied(alloc)?;
+        let mut out = MemSink::new(alloc, TEXT_LIMIT)?;
+        let status = blazes(alloc, &self.words, &mut files, &mut out, &mut bench);
+        Ok((status, out))
+    }
+}
+
+// The headings of a text of rows, each with the lines below it.
+fn sections<'a>(alloc: Global, text: &'a str) -> Result<Vec<(&'a str, String)>> {
+    let mut sections: Vec<(&str, String)> = Vec::new(alloc);
+    for line in text.lines() {
+        if let Some(heading) = line.strip_prefix("== ") {
+            sections.push((heading, String::new(alloc)))?;
+        } else if let Some((_, below)) = sections.last_mut() {
+            below.push_str(line)?;
+            below.push('\n')?;
+        }
+    }
+    Ok(sections)
+}
+
+// The bytes of a file of the folder.
+fn bytes_of(rt: &HostRuntime, name: &str) -> Result<Vec<u8>> {
+    let mut bytes = Vec::new(rt.alloc());
+    RealFiles::new(rt.clone()?).read(name, TEXT_LIMIT, &mut bytes)?;
+    Ok(bytes)
+}
+
+// Whether the program answers with this status and this text; an answer that differs is shown.
+fn answers(rt: &HostRuntime, asked: &Question, status: &str, text: &str) -> Result<bool> {
+    let (ended, out) = asked.answer(rt.alloc())?;
+    let ended = format!(in rt.alloc(); "{ended:?}")?;
+    let is_right = ended.as_str() == status && out.bytes() == text.as_bytes();
+    if !is_right {
+        let written = str::from_utf8(out.bytes()).unwrap_or("bytes that are no text\n");
+        println!(rt; "not {status} but {ended}:\n{written}")?;
+    }
+    Ok(is_right)
+}
+
+// How many of the rows of a file are as it says, and how many it has.
+fn right_rows(rt: &HostRuntime, name: &str) -> Result<(u64, u64)> {
+    let bytes = bytes_of(rt, name)?;
+    let text = str::from_utf8(bytes.as_slice())?;
+    let mut asked = Question::new(rt.alloc());
+    let (mut right, mut all) = (0u64, 0u64);
+    for (heading, below) in &sections(rt.alloc(), text)? {
+        match heading.split_once(' ') {
+            Some(("file", name)) => asked.hold(rt.alloc(), name, below.as_bytes())?,
+            Some(("copy", name)) => {
+                let copied = bytes_of(rt, name)?;
+                asked.hold(rt.alloc(), name, copied.as_slice())?
+            }
+            Some(("ask", words)) => asked.ask(rt.alloc(), words)?,
+            Some(("hold", name)) => {
+                let (_, out) = asked.answer(rt.alloc())?;
+                asked.hold(rt.alloc(), name, out.bytes())?
+            }
+            Some(("answer", status)) => {
+                all = all.wrapping_add(1);
+                let is_right = answers(rt, &asked, status, below.as_str())?;
+                right = right.wrapping_add(is_right as u64);
+            }
+            _ => println!(rt; "no heading: {heading}")?,
+        }
+    }
+    Ok((right, all))
+}
+
+fn main(rt: HostRuntime) -> Result<()> {
+    for name in env::args(&rt)?.skip(1) {
+        let (right, all) = right_rows(&rt, name.as_str())?;
+        println!(rt; "{name}: {right} of {all} rows")?;
+    }
+    Ok(())
+}

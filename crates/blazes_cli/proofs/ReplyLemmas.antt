@@ -7,7 +7,7 @@ use Rattle.blazes_commands.specs.Bench.{BenchStates}
 use Rattle.blazes_commands.specs.Script.{Bytes, Script, Ending, IsFailed}
 use Rattle.blazes_commands.specs.Script.Ending.{gave, refused, failed}
 use Rattle.blazes_commands.specs.Ends.{FilesStates, Came, Ends, ended}
-use Rattle.blazes_commands.specs.Words.{Asked, request_of}
+use Rattle.blazes_words.specs.Words.{Asked, request_of}
 use Rattle.blazes_commands.specs.Commands.{Answer, Work, script}
 use Rattle.blazes_commands.specs.Commands.Work.{labelled, derived, planned, ran, made, soaked, sharded}
 use Rattle.blazes_commands.specs.Answer.{Answers}

@@ -4,7 +4,7 @@ use Rattle.blazes_commands.specs.Answer.{IsAnswered}
 use Rattle.blazes_commands.specs.Bench.{BenchStates}
 use Rattle.blazes_commands.specs.Commands.{Answer, script}
 use Rattle.blazes_commands.specs.Ends.{FilesStates}
-use Rattle.blazes_commands.specs.Words.{Asked}
+use Rattle.blazes_words.specs.Words.{Asked}
 use Rattle.blazes_commands.specs.declared.status.Status.TheVariants.{Usage}
 use Rattle.blazes_cli.specs.Lines.{usage_line}
 

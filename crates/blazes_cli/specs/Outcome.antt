@@ -7,7 +7,7 @@ use Rattle.blz_boxes.specs.declared.kind.ProgramKind.{ProgramKind}
 use Rattle.blazes_commands.specs.Bench.{BenchStates}
 use Rattle.blazes_commands.specs.Script.{Bytes, IsFailed}
 use Rattle.blazes_commands.specs.Ends.{FilesStates, ended}
-use Rattle.blazes_commands.specs.Words.{request_of}
+use Rattle.blazes_words.specs.Words.{request_of}
 use Rattle.blazes_commands.specs.Commands.{Answer, script}
 use Rattle.blazes_cli.specs.Answer.{IsReply}
 use Rattle.blazes_commands.specs.declared.status.Status.{Status}

@@ -13,9 +13,13 @@ use Rattle.sched_run.specs.Made.{AnswersSo}
 use Rattle.sched_run.specs.declared.fault.MakeFault.{MakeFault}
 use Rattle.sched_run.specs.declared.fault.MakeFault.TheVariants as make_faults
 use Rattle.blazes_commands.specs.declared.making.TheConstants.{FIRST_TOO_MANY}
+use Rattle.topo_read.specs.Document.{document_of}
+use Rattle.topo_read.specs.Fields.{Path}
+use Rattle.topo_read.specs.Reading.{IsFormOf}
 use Rattle.topo_types.specs.Data.{Data}
 use Rattle.topo_types.specs.Modes.{names_in}
 use Rattle.topo_types.specs.View.{View, fd_at}
+use Rattle.topo_types.specs.declared.topology.Topology.{Topology}
 use Rattle.blazes_commands.specs.Checks as check
 use Rattle.blazes_commands.specs.Code.Ran.{Gives, IsStopAt}
 use Rattle.blazes_commands.specs.Script.{Bytes}
@@ -31,6 +35,10 @@ refused_gives view given refused NoMemory is said = tt
 -- want of memory stops each check
 pub memory_gives : {X A : Type 0} (view : X → A) (given : Result A Bytes) (stop : Stop) → stop ≡ NoMemory → Gives view (Err stop) given
 memory_gives view given stop is = subst (λ s. Gives view (Err s) given) (sym is) tt
+
+-- what is read of a document
+pub formed_gives : (bytes : Bytes) (form : Result Topology Path) → IsFormOf bytes form → check.topology_in (document_of bytes) ≡ check.formed form
+formed_gives bytes form is = ap check.topology_in is.1 ∙ ap check.formed is.2
 
 -- data that are refused
 pub data_gives : (v : View) (fault : DataFault) (given : Result Data DataFault) (stop : Stop) → reading.Gives (λ (d : Data). d) (Err fault) given → IsStopAt (check.data_refusal v fault) stop

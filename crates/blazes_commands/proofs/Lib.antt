@@ -7,8 +7,6 @@ pub mod GivenLemmas
 pub mod OpeningLemmas
 pub mod CommandFiles
 pub mod MakeLemmas
-pub mod NumbersLemmas
-pub mod WordsLemmas
 pub mod BuiltInLemmas
 pub mod TweetsLemmas
 pub mod SoakLemmas

@@ -29,8 +29,8 @@ use Rattle.sched_run.specs.Reading.{IsOrdered}
 use Rattle.sched_run.specs.Tables.{last_tables}
 use Rattle.sched_run.specs.declared.applying.EventRefusal.{EventRefusal}
 use Rattle.sched_run.specs.declared.books.Books.{Books}
-use Rattle.sched_run.specs.declared.fault.EventFault.{EventFault}
-use Rattle.sched_run.specs.declared.fault.EventFault.TheVariants as event_faults
+use Rattle.sched_lists.specs.declared.fault.EventFault.{EventFault}
+use Rattle.sched_lists.specs.declared.fault.EventFault.TheVariants as event_faults
 use Rattle.topo_types.specs.Data.{Data}
 use Rattle.topo_types.specs.Valid.{IsValid, Validated}
 use Rattle.topo_types.specs.View.{View, component_at, program_of, stream_at, stream_of, is_order_mode}
@@ -45,7 +45,7 @@ use Rattle.blazes_commands.specs.Ends.{Source, files_states, Came}
 use Rattle.blazes_commands.specs.Script.{Bytes, Script, ◌>>=◌}
 use Rattle.blazes_commands.specs.Script.Script.{gives}
 use Rattle.blazes_commands.specs.Script.Ending.{gave}
-use Rattle.blazes_commands.specs.Words.{RunFiles}
+use Rattle.blazes_words.specs.Words.{RunFiles}
 use Rattle.blazes_commands.specs.declared.reply.Reply.{Reply}
 use Rattle.blazes_commands.specs.declared.status.Status.TheVariants.{Done, Incomplete}
 use Rattle.blazes_commands.specs.declared.stop.Stop.{Stop}

@@ -22,7 +22,7 @@ use Rattle.blazes_commands.specs.Ends.{Source, FilesStates, files_states, Came}
 use Rattle.blazes_commands.specs.Script.{Script, ◌>>=◌}
 use Rattle.blazes_commands.specs.Script.Script.{gives}
 use Rattle.blazes_commands.specs.Script.Ending.{gave}
-use Rattle.blazes_commands.specs.Words.{Asked, ShardWords}
+use Rattle.blazes_words.specs.Words.{Asked, ShardWords}
 use Rattle.blazes_commands.specs.declared.reply.Reply.{Reply}
 use Rattle.blazes_commands.specs.declared.stop.Stop.{Stop}
 use Rattle.blazes_commands.proofs.CommandLemmas.{followed, stop_replies, then_replies}

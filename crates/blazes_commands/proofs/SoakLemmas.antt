@@ -26,7 +26,7 @@ use Rattle.blazes_commands.specs.Script.{Script}
 use Rattle.blazes_commands.specs.Script.Script.{gives}
 use Rattle.blazes_commands.specs.Script.Ending.{gave}
 use Rattle.blazes_commands.specs.Soak.{planned_count, tweets_data, word_count}
-use Rattle.blazes_commands.specs.Words.{Asked, SoakWords}
+use Rattle.blazes_words.specs.Words.{Asked, SoakWords}
 use Rattle.blazes_commands.specs.declared.reply.Reply.{Reply}
 use Rattle.blazes_commands.specs.declared.stop.Stop.{Stop}
 use Rattle.blazes_commands.specs.declared.stop.Stop.TheVariants.{NoMemory}

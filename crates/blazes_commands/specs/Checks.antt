@@ -18,8 +18,8 @@ use Rattle.inbox.specs.Wiring.{wiring_of}
 use Rattle.sched_run.specs.Applying.{Line, after_lines}
 use Rattle.sched_run.specs.Bench.{fault_of_opening}
 use Rattle.sched_run.specs.declared.applying.EventRefusal.{EventRefusal}
-use Rattle.sched_run.specs.declared.fault.EventFault.{EventFault}
-use Rattle.sched_run.specs.declared.fault.EventFault.TheVariants as event_faults
+use Rattle.sched_lists.specs.declared.fault.EventFault.{EventFault}
+use Rattle.sched_lists.specs.declared.fault.EventFault.TheVariants as event_faults
 use Rattle.sched_run.specs.Made.{made_of}
 use Rattle.sched_run.specs.declared.fault.MakeFault.{MakeFault}
 use Rattle.sched_run.specs.declared.fault.MakeFault.TheVariants as make_faults
@@ -46,7 +46,7 @@ use Rattle.shard_route.specs.Sharding.{sharded}
 use Rattle.shard_route.specs.declared.fault.ShardFault.{ShardFault}
 use Rattle.shard_route.specs.declared.fault.ShardFault.TheVariants as shard_faults
 use Rattle.shard_route.specs.declared.sharded.Sharded.{Sharded}
-use Rattle.blazes_commands.specs.Words.{ShardWords}
+use Rattle.blazes_words.specs.Words.{ShardWords}
 use Rattle.blazes_commands.specs.Script.{Bytes, Script, ◌>>=◌}
 use Rattle.blazes_commands.specs.declared.data_file.TheConstants.{DATA_LIMIT}
 use Rattle.blazes_commands.specs.declared.making.TheConstants.{FIRST_TOO_MANY}

@@ -1,7 +1,6 @@
 -- What functions give, beside the scripts that they run.
 pub mod Ran
 pub mod Found
-pub mod Requests
 pub mod Runs
 pub mod Made
 pub mod Soaked

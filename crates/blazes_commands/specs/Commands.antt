@@ -32,7 +32,7 @@ use Rattle.topo_read.specs.Reading.{IsReading}
 use Rattle.blazes_commands.specs.Bench.{BenchStates, HasInstances}
 use Rattle.blazes_commands.specs.Script.{Bytes, Script, ◌>>=◌}
 use Rattle.blazes_commands.specs.ShardText.{shard_text}
-use Rattle.blazes_commands.specs.Words.{Asked}
+use Rattle.blazes_words.specs.Words.{Asked}
 use Rattle.blazes_commands.specs.Checks as check
 use Rattle.blazes_commands.specs.Soak.{planned_count, tweets_data}
 use Rattle.blazes_commands.specs.declared.status.Status.{Status}

@@ -1,7 +1,5 @@
 pub mod Script
 pub mod Ends
-pub mod Numbers
-pub mod Words
 pub mod Lines
 pub mod Checks
 pub mod Soak

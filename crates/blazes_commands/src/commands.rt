@@ -2,10 +2,10 @@
 ghost use Rattle.std.specs.Prelude.{map};
 ghost use Rattle.blazes_commands.specs.Bench.{bench_states};
 ghost use Rattle.blazes_commands.specs.Code.Ran.{RepliesTo};
-ghost use Rattle.blazes_commands.specs.Code.Requests.{asked_by};
+ghost use Rattle.blazes_words.specs.Requests.{asked_by};
 ghost use Rattle.blazes_commands.specs.Code.Runs.{KeepsKinds};
 ghost use Rattle.blazes_commands.specs.Ends.{files_states, source};
-ghost use Rattle.blazes_commands.specs.Words.{IsWithin};
+ghost use Rattle.blazes_words.specs.Words.{IsWithin};
 
 use crate::labelling::{derive, label};
 use crate::making::make;
@@ -15,7 +15,7 @@ use crate::running::run;
 use crate::sharding::shard;
 use crate::soaking::soak;
 use crate::stop::Stop;
-use crate::words::Request;
+use blazes_words::Request;
 use blz_boxes::Component;
 use blz_outside::Files;
 use std::alloc::Global;

@@ -8,7 +8,7 @@ ghost use Rattle.blazes_commands.specs.Bench.{BenchStates};
 ghost use Rattle.blazes_commands.specs.Code.Ran.{RepliesTo, answer_of};
 ghost use Rattle.blazes_commands.specs.Commands.{HasLabels};
 ghost use Rattle.blazes_commands.specs.Ends.{files_states, source};
-ghost use Rattle.blazes_commands.specs.Words.{Asked};
+ghost use Rattle.blazes_words.specs.Words.{Asked};
 
 use crate::reply::{Reply, done};
 use crate::stop::Stop;

@@ -9,7 +9,6 @@ mod file;
 mod labelling;
 mod making;
 mod module_file;
-mod numbers;
 mod opening;
 mod planning;
 mod reply;
@@ -22,10 +21,8 @@ mod status;
 mod stop;
 mod topology_file;
 mod valid_topology;
-mod words;
 
 pub use commands::outcome_of;
 pub use reply::{Reply, conclusion, line};
 pub use status::Status;
 pub use stop::Stop;
-pub use words::{MakeWords, Request, RunFiles, ShardWords, SoakWords, request_of};

@@ -1,5 +1,6 @@
 -- What is read is what the grammar says, and where it stops.
 pub mod SingleCorrect
+pub mod StepLemmas
 pub mod PredicateCorrect
 pub mod PredicateComplete
 pub mod RepeatLemmas

@@ -10,7 +10,7 @@ use Rattle.label_walk.specs.Paths.{label_at}
 use Rattle.inbox.specs.Completeness.{left_count}
 use Rattle.inbox.specs.Executions.{Execution, contents}
 use Rattle.inbox.specs.Wiring.{wiring_of}
-use Rattle.sched_run.specs.Limits.{all_messages}
+use Rattle.sched_lists.specs.Limits.{all_messages}
 use Rattle.sched_run.specs.Reading.{is_complete}
 use Rattle.report_print.specs.RunText.{end_lines}
 use Rattle.report_print.specs.Words.{Text, label_word, line}

@@ -16,13 +16,13 @@ use Rattle.inbox.proofs.Executions.Appending.{legal_more}
 use Rattle.inbox.proofs.Executions.Results.{Ok_same}
 use Rattle.sched_run.specs.Answers.{Answers, answer_to, fault_of, fault_at}
 use Rattle.sched_run.specs.Applying.{Line, within, made_by, in_line, after_line, after_lines, steps_of, Reaches, Applied}
-use Rattle.sched_run.specs.Limits.{Limit, limit_of_event}
+use Rattle.sched_lists.specs.Limits.{Limit, limit_of_event}
 use Rattle.sched_run.specs.Net.{Stands, Runs, EventAnswers, EventLeaves, execution_in}
 use Rattle.sched_run.specs.Numbered.{numbered}
 use Rattle.sched_run.specs.declared.applying.EventRefusal.{EventRefusal}
 use Rattle.sched_run.specs.declared.books.Books.{Books}
-use Rattle.sched_run.specs.declared.fault.EventFault.{EventFault}
-use Rattle.sched_run.specs.declared.fault.EventFault.TheVariants.{NoMemory}
+use Rattle.sched_lists.specs.declared.fault.EventFault.{EventFault}
+use Rattle.sched_lists.specs.declared.fault.EventFault.TheVariants.{NoMemory}
 
 -- ---- one answer
 

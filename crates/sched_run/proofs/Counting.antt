@@ -26,8 +26,8 @@ use Rattle.inbox.specs.Log.{EntryId, IsLog, is_same_entry_id}
 use Rattle.inbox.specs.Code.Known.{entry_id_cmp}
 use Rattle.inbox.specs.declared.message.Message.{Message as IdMessage}
 use Rattle.inbox.specs.declared.message.Message.TheVariants.{Row, Seal}
-use Rattle.sched_run.specs.Lists.{read_list}
-use Rattle.sched_run.proofs.PlacesLemmas.{below_more}
+use Rattle.sched_lists.specs.Lists.{read_list}
+use Rattle.sched_lists.proofs.PlacesLemmas.{below_more}
 
 -- ---- one more number
 

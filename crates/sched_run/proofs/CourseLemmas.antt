@@ -16,17 +16,16 @@ use Rattle.inbox.specs.Instances.{Instance}
 use Rattle.inbox.specs.Lives.{kept_after}
 use Rattle.inbox.specs.Timesteps.{SetOff}
 use Rattle.inbox.specs.Wiring.{instance_at, wiring_of}
-use Rattle.sched_run.specs.Limits.{Limit, limit_of, limit_at, all_messages, messages_in, outputs_from}
-use Rattle.sched_run.specs.Lists.{read_lists, list_at}
+use Rattle.sched_lists.specs.Limits.{Limit, limit_of, limit_at, all_messages, messages_in, outputs_from}
+use Rattle.sched_lists.specs.Lists.{read_lists, list_at}
 use Rattle.sched_run.specs.Net.{Stands, execution_in}
-use Rattle.sched_run.specs.Outlets.{ShowsOutlets, outlets_for}
-use Rattle.sched_run.specs.Places.{instance_place}
-use Rattle.sched_run.specs.Code.Hearing.{EmitsAt, MeetsAt}
-use Rattle.sched_run.specs.Code.Running.{IsCourseOf, outputs_of_outlets}
+use Rattle.sched_lists.specs.Outlets.{ShowsOutlets, outlets_for}
+use Rattle.sched_lists.specs.Places.{instance_place}
+use Rattle.sched_lists.specs.Code.Running.{EmitsAt, MeetsAt, IsCourseOf, outputs_of_outlets}
 use Rattle.sched_run.specs.declared.books.Books.{Books}
-use Rattle.sched_run.proofs.ListsLemmas.{length-read_lists}
+use Rattle.sched_lists.proofs.ListsLemmas.{length-read_lists}
 use Rattle.sched_run.proofs.OwnOutlets.{outlets_are, outlets_there}
-use Rattle.sched_run.proofs.PlacesLemmas.{place-before}
+use Rattle.sched_lists.proofs.PlacesLemmas.{place-before}
 use Rattle.sched_run.proofs.ShellsLemmas.{loaded_at, many_loaded}
 use Rattle.sched_run.proofs.Showing.{is_there-true, course_of}
 

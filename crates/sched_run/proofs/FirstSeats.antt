@@ -10,12 +10,12 @@ use Rattle.topo_types.specs.declared.mode.Mode.TheVariants.{Free, Pass, Seal}
 use Rattle.inbox.specs.Inbox.{HasHeard, IsFrom, feeds_in}
 use Rattle.inbox.specs.Wiring.{instance_for}
 use Rattle.inbox.specs.declared.inbox.Inbox.{Inbox}
-use Rattle.sched_run.specs.Lists.{Listed}
+use Rattle.sched_lists.specs.Lists.{Listed}
 use Rattle.sched_run.specs.Net.{ShowsInbox}
-use Rattle.sched_run.specs.Places.{instance_place}
+use Rattle.sched_lists.specs.Places.{instance_place}
 use Rattle.sched_run.specs.Code.First.{first_seat, IsFirst, AreFirst}
 use Rattle.sched_run.specs.declared.seated.Seated.{Seated}
-use Rattle.sched_run.proofs.PlacesLemmas.{one_place, before-more}
+use Rattle.sched_lists.proofs.PlacesLemmas.{one_place, before-more}
 
 -- ---- one instance
 

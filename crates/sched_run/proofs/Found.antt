@@ -6,13 +6,13 @@ use Rattle.std.proofs.lemmas.Bool.{cases_lt, and_from}
 use Rattle.std.proofs.lemmas.Bool.Decides.{nat_tests}
 use Rattle.topo_types.specs.View.{View, replicas_of, stream_replicas}
 use Rattle.inbox.specs.Ids.{IsGiven}
-use Rattle.sched_run.specs.Lists.{Listed, list_at, AllAreGiven}
+use Rattle.sched_lists.specs.Lists.{Listed, list_at, AllAreGiven}
 use Rattle.sched_run.specs.Net.{BooksRun}
-use Rattle.sched_run.specs.Places.{places_before, instance_place, list_place}
+use Rattle.sched_lists.specs.Places.{places_before, instance_place, list_place}
 use Rattle.sched_run.specs.declared.books.Books.{Books}
 use Rattle.sched_run.specs.Code.Seen.{list_seen, seat_seen}
-use Rattle.sched_run.proofs.ListsLemmas.{given-list, length-read_lists}
-use Rattle.sched_run.proofs.PlacesLemmas.{before-more, place-before}
+use Rattle.sched_lists.proofs.ListsLemmas.{given-list, length-read_lists}
+use Rattle.sched_lists.proofs.PlacesLemmas.{before-more, place-before}
 
 -- ---- tests of numbers
 

@@ -22,7 +22,7 @@ use Rattle.inbox.specs.Standing.{Seat}
 use Rattle.inbox.specs.declared.inbox.Inbox.{Inbox}
 use Rattle.inbox.specs.declared.message.Message.{Message as IdMessage}
 use Rattle.inbox.proofs.Keeping.Later.{stands_later, keeps_later}
-use Rattle.sched_run.specs.Lists.{Listed, read_lists}
+use Rattle.sched_lists.specs.Lists.{Listed, read_lists}
 use Rattle.sched_run.specs.Net.{KnowsHeard, ShowsEar, ShowsSeat, list_on}
 use Rattle.sched_run.specs.Code.Hearing.{EarCanHear, InboxHears, KnowsMore, EarHears, SeatHears}
 use Rattle.sched_run.specs.Code.Parts.{HaveIndexes}

@@ -18,15 +18,16 @@ use Rattle.inbox.specs.Timesteps.{SetOff}
 use Rattle.inbox.specs.Wiring.{wiring_of, instance_at, instance_for, feeds_for}
 use Rattle.inbox.specs.declared.message.Message.{Message as IdMessage}
 use Rattle.sched_run.specs.Answers.{fault_at}
-use Rattle.sched_run.specs.Limits.{Limit}
-use Rattle.sched_run.specs.Lists.{Listed, IsExact, read_lists}
+use Rattle.sched_lists.specs.Limits.{Limit}
+use Rattle.sched_lists.specs.Lists.{Listed, IsExact, read_lists}
 use Rattle.sched_run.specs.Net.{Runs, BooksStand, Stands, execution_in}
-use Rattle.sched_run.specs.Outlets.{OthersStay, outlets_for}
-use Rattle.sched_run.specs.Places.{instance_place}
-use Rattle.sched_run.specs.Code.Hearing.{OneHears, EmitsAt, MeetsAt, IsHearingOf, HearingAnswers, HearingLeaves}
+use Rattle.sched_lists.specs.Outlets.{OthersStay, outlets_for}
+use Rattle.sched_lists.specs.Places.{instance_place}
+use Rattle.sched_run.specs.Code.Hearing.{OneHears, IsHearingOf, HearingAnswers, HearingLeaves}
+use Rattle.sched_lists.specs.Code.Running.{EmitsAt, MeetsAt}
 use Rattle.sched_run.specs.Code.Parts.{HaveIndexes, hears_itself}
 use Rattle.sched_run.specs.declared.books.Books.{Books}
-use Rattle.sched_run.specs.declared.outlets.Outlet.{Outlet}
+use Rattle.sched_lists.specs.declared.outlets.Outlet.{Outlet}
 use Rattle.sched_run.specs.declared.seated.Seated.{Seated}
 use Rattle.sched_run.proofs.HeardBatch.{set_same}
 use Rattle.sched_run.proofs.HearingEnds.{batch_is}

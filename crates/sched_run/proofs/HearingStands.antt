@@ -33,26 +33,26 @@ use Rattle.inbox.specs.declared.message.Message.{Message as IdMessage}
 use Rattle.inbox.proofs.Executions.Standing.{seat_hears}
 use Rattle.inbox.proofs.WiringLemmas.{instance-wired}
 use Rattle.sched_run.specs.Answers.{Answers, answer_to, answer_at, fault_at}
-use Rattle.sched_run.specs.Limits.{Limit, limit_of, limit_at, limit_of_event, limit_of_pairs, all_messages, messages_in, outputs_from}
-use Rattle.sched_run.specs.Lists.{IsExact, read_lists}
-use Rattle.sched_run.specs.Net.{BooksStand, BooksRun, Stands, ArePlaces, ShowsSeat, ShowSeats, ShowLogs, execution_in}
-use Rattle.sched_run.specs.Outlets.{OthersStay, ShowsOutlets, outlets_for}
-use Rattle.sched_run.specs.Places.{instance_place, instance_count, list_count}
+use Rattle.sched_lists.specs.Limits.{Limit, limit_of, limit_at, limit_of_event, limit_of_pairs, all_messages, messages_in, outputs_from}
+use Rattle.sched_lists.specs.Lists.{IsExact, read_lists}
+use Rattle.sched_run.specs.Net.{BooksStand, BooksRun, Stands, ShowsSeat, ShowSeats, ShowLogs, execution_in}
+use Rattle.sched_lists.specs.Places.{ArePlaces, instance_place, instance_count, list_count}
+use Rattle.sched_lists.specs.Outlets.{OthersStay, ShowsOutlets, outlets_for}
 use Rattle.sched_run.specs.Seated.{with_seat}
-use Rattle.sched_run.specs.Code.Hearing.{EarCanHear, SeatHears, OneHears, EmitsAt, MeetsAt, IsHearingOf}
+use Rattle.sched_run.specs.Code.Hearing.{EarCanHear, SeatHears, OneHears, IsHearingOf}
+use Rattle.sched_lists.specs.Code.Running.{EmitsAt, MeetsAt, Emits, IsCourseOf, HasEmitted, outputs_of_outlets}
 use Rattle.sched_run.specs.Code.Parts.{HaveIndexes, hears_itself}
-use Rattle.sched_run.specs.Code.Running.{Emits, IsCourseOf, HasEmitted, outputs_of_outlets}
 use Rattle.sched_run.specs.declared.books.Books.{Books}
-use Rattle.sched_run.specs.declared.outlets.Outlet.{Outlet}
+use Rattle.sched_lists.specs.declared.outlets.Outlet.{Outlet}
 use Rattle.sched_run.specs.declared.seated.Seated.{Seated}
 use Rattle.sched_run.proofs.ArrivingLemmas.{hearing_arrives}
 use Rattle.sched_run.proofs.HearingTests.{hears_is, mode-wired, hearing_holds, after_heard}
 use Rattle.sched_run.proofs.HeardBatch.{ear_can, ear_sets, seat_after}
 use Rattle.sched_run.proofs.Lifting.{Lifts, hearing_lifts}
-use Rattle.sched_run.proofs.ListsLemmas.{length-read_lists}
+use Rattle.sched_lists.proofs.ListsLemmas.{length-read_lists}
 use Rattle.sched_run.proofs.OwnOutlets.{outlets_there, outlets_are}
 use Rattle.sched_run.proofs.PartsFound.{seat_within}
-use Rattle.sched_run.proofs.PlacesLemmas.{place-before}
+use Rattle.sched_lists.proofs.PlacesLemmas.{place-before}
 use Rattle.sched_run.proofs.SeatsLemmas.{later_pool, logs_stay, has_grown, seats_after}
 use Rattle.sched_run.proofs.ShellsLemmas.{loaded_at, many_loaded}
 use Rattle.sched_run.proofs.Showing.{course_of, is_there-true}

@@ -23,7 +23,7 @@ use Rattle.inbox.proofs.Executions.Histories.{Changes, hears, logs, takes, forge
 use Rattle.inbox.proofs.Executions.Lengthening.{same_numbers, with_logged-lives, lives-other}
 use Rattle.inbox.proofs.WiringLemmas.{instance-wired, there-wired, length-below}
 use Rattle.sched_run.specs.Net.{BooksStand, ShowsEar, execution_in}
-use Rattle.sched_run.specs.Places.{instance_place}
+use Rattle.sched_lists.specs.Places.{instance_place}
 use Rattle.sched_run.specs.declared.books.Books.{Books}
 use Rattle.sched_run.specs.declared.seated.Ear.{Ear}
 use Rattle.sched_run.specs.declared.seated.Ear.TheVariants.{Hears, Takes}

@@ -17,7 +17,7 @@ use Rattle.sched_run.specs.declared.making.lanes.Lane.{Lane}
 use Rattle.sched_run.specs.declared.making.lanes.Lane.TheVariants.{Deliver, Order}
 use Rattle.sched_run.specs.declared.making.lanes.Taker.{Taker}
 use Rattle.sched_run.proofs.LanesLemmas.{streams_wired, many_wired, replicas_wired, feeds_wired, order_wired}
-use Rattle.sched_run.proofs.PlacesLemmas.{Has-below}
+use Rattle.sched_lists.proofs.PlacesLemmas.{Has-below}
 
 -- a numbered element stands at its number
 from_enumerated : {X : Type 0} (n : ℕ) (xs : List X) (place : ℕ × X) → Has place (enumerate_from n xs) → (k : ℕ) × (place.0 ≡ n + k) × (slice_get xs k ≡ Some place.1)

@@ -38,9 +38,9 @@ use Rattle.inbox.proofs.LogLemmas.{is_same_entry_id-is, is_same_entry_id-itself,
 use Rattle.inbox.proofs.MessagesLemmas.{is_same_pair-is, is_same_pair-itself, any-from_same, same-from_any}
 use Rattle.inbox.proofs.Ranges.{all_below, not_all_below}
 use Rattle.inbox.proofs.WiringLemmas.{instance-feeds, instance-wired, instances-wired, length-below}
-use Rattle.sched_run.specs.Lists.{read_lists, list_at}
+use Rattle.sched_lists.specs.Lists.{read_lists, list_at}
 use Rattle.sched_run.specs.Net.{BooksStand, KnowsHeard, ShowsEar, ShowsInbox, execution_in, list_on}
-use Rattle.sched_run.specs.Places.{instance_place}
+use Rattle.sched_lists.specs.Places.{instance_place}
 use Rattle.sched_run.specs.Reading.{holds_none_at, holds_none, is_complete}
 use Rattle.sched_run.specs.declared.books.Books.{Books}
 use Rattle.sched_run.specs.declared.seated.Ear.TheVariants.{Hears, Takes}
@@ -50,7 +50,7 @@ use Rattle.sched_run.specs.Code.Remaining.{unknown_on, unknown_at, unknown_in, i
 use Rattle.sched_run.proofs.Counting.{numbers_counted, rows_counted, length-joined, few_entries}
 use Rattle.sched_run.proofs.EmittedSeen.{seen_emitted, seen_length}
 use Rattle.sched_run.proofs.HeldSeen.{component_of_replica, not_there}
-use Rattle.sched_run.proofs.PlacesLemmas.{Has-below, range_has}
+use Rattle.sched_lists.proofs.PlacesLemmas.{Has-below, range_has}
 use Rattle.sched_run.proofs.Showing.{is_there-true, emitted_shown, sums_same, sums_numbered}
 
 -- ---- limits of a topology

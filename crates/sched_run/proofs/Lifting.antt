@@ -20,14 +20,14 @@ use Rattle.inbox.specs.Standing.{Seat, Seats, StandsFor}
 use Rattle.inbox.specs.Events.{Part, Step}
 use Rattle.inbox.proofs.Executions.Lengthening.{same_numbers}
 use Rattle.inbox.proofs.Executions.Standing.{OtherSeatsStay, seat_hears, seat_takes, seat_forgets, stands_hearing, stands_taking, stands_forgetting}
-use Rattle.sched_run.specs.Lists.{list_at}
-use Rattle.sched_run.specs.Outlets.{ShowsOutlets, OthersStay, output_number, outlet_for, outlets_for}
-use Rattle.sched_run.specs.Places.{instance_place, list_place}
+use Rattle.sched_lists.specs.Lists.{list_at}
+use Rattle.sched_lists.specs.Outlets.{ShowsOutlets, OthersStay, output_number, outlet_for, outlets_for}
+use Rattle.sched_lists.specs.Places.{instance_place, list_place}
 use Rattle.sched_run.specs.Seated.{with_seat}
 use Rattle.sched_run.specs.Shown.{ShowsSeats}
-use Rattle.sched_run.specs.declared.outlets.Outlet.{Outlet}
+use Rattle.sched_lists.specs.declared.outlets.Outlet.{Outlet}
 use Rattle.sched_run.proofs.OwnOutlets.{ComesOf, from_component}
-use Rattle.sched_run.proofs.PlacesLemmas.{range_has, one_place, place-before}
+use Rattle.sched_lists.proofs.PlacesLemmas.{range_has, one_place, place-before}
 use Rattle.sched_run.proofs.Showing.{is_there-true}
 
 -- ---- one seat

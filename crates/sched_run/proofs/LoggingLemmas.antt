@@ -27,15 +27,16 @@ use Rattle.inbox.proofs.LogLemmas.{is_same_entry_id-is, is_same_entry_id-itself,
 use Rattle.inbox.proofs.MessagesLemmas.{Has-from_with_new}
 use Rattle.inbox.proofs.WiringLemmas.{instance-wired, length-below}
 use Rattle.sched_run.specs.Answers.{answer_to}
-use Rattle.sched_run.specs.Lists.{IsExact, read_lists, list_at}
-use Rattle.sched_run.specs.Net.{Stands, ArePlaces, ShowSeats, ShowLogs, EventAnswers, execution_in}
+use Rattle.sched_lists.specs.Lists.{IsExact, read_lists, list_at}
+use Rattle.sched_run.specs.Net.{Stands, ShowSeats, ShowLogs, EventAnswers, execution_in}
+use Rattle.sched_lists.specs.Places.{ArePlaces}
 use Rattle.sched_run.specs.Shown.{ShowsSeats}
 use Rattle.sched_run.specs.Code.Hearing.{EventLeavesOpen}
 use Rattle.sched_run.specs.Code.Parts.{PairAnswers}
 use Rattle.sched_run.specs.Code.Taking.{has_log, log_with, LogGets}
 use Rattle.sched_run.specs.declared.books.Books.{Books}
-use Rattle.sched_run.specs.declared.fault.EventFault.{EventFault}
-use Rattle.sched_run.specs.declared.fault.EventFault.TheVariants.{NoInstance, NoMessage, NothingToTake, TooManyRows, TooManyMessages, NoMemory}
+use Rattle.sched_lists.specs.declared.fault.EventFault.{EventFault}
+use Rattle.sched_lists.specs.declared.fault.EventFault.TheVariants.{NoInstance, NoMessage, NothingToTake, TooManyRows, TooManyMessages, NoMemory}
 
 -- ---- who has a log
 

@@ -28,11 +28,11 @@ use Rattle.inbox.specs.declared.message.Message.TheVariants.{Row, Seal}
 use Rattle.inbox.proofs.LogLemmas.{any-with_ids, one_id}
 use Rattle.sched_turns.specs.Windows.{Looked, IsWindow, MayShow, OthersAreOpen}
 use Rattle.sched_turns.specs.declared.windows.Stale.{Stale}
-use Rattle.sched_run.specs.Code.Ids.{id_in}
-use Rattle.sched_run.specs.Lists.{read_list, read_lists, list_at}
+use Rattle.sched_lists.specs.Code.Ids.{id_in}
+use Rattle.sched_lists.specs.Lists.{read_list, read_lists, list_at}
 use Rattle.sched_run.specs.Made.{is_undelivered, is_unordered, is_open_in}
 use Rattle.sched_run.specs.Net.{BooksStand, ShowsEar, ShowsInbox, execution_in, list_on}
-use Rattle.sched_run.specs.Places.{instance_place}
+use Rattle.sched_lists.specs.Places.{instance_place}
 use Rattle.sched_run.specs.Code.Looking.{is_unknown_at, is_unlogged_at, IsDelivery, IsOrdering, IsTaker, MayLook, LooksAt, TellsTake}
 use Rattle.sched_run.specs.Code.Seen.{list_seen}
 use Rattle.sched_run.specs.Code.Taking.{taken_in}

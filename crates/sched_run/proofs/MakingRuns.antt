@@ -16,15 +16,15 @@ use Rattle.inbox.proofs.Executions.Results.{Ok_same}
 use Rattle.inbox.proofs.Lists.Growing.{continues_itself, continues_on}
 use Rattle.sched_run.specs.Answers.{Answers, answer_at, answer_to, fault_at}
 use Rattle.sched_run.specs.Applying.{Line, steps_of}
-use Rattle.sched_run.specs.Limits.{Limit, too_many_rows, too_many_messages, limit_of_event}
+use Rattle.sched_lists.specs.Limits.{Limit, too_many_rows, too_many_messages, limit_of_event}
 use Rattle.sched_run.specs.Made.{execution_after}
 use Rattle.sched_run.specs.Making.{events_of}
 use Rattle.sched_run.specs.Net.{Stands, EventAnswers, EventLeaves, execution_in}
 use Rattle.sched_run.specs.Numbered.{numbered}
 use Rattle.sched_run.specs.Code.Making.{EndsNet, fault_with, MeetNone, HasRun, MeetsLimit, FailsAt, FailsIn}
 use Rattle.sched_run.specs.declared.books.Books.{Books}
-use Rattle.sched_run.specs.declared.fault.EventFault.{EventFault}
-use Rattle.sched_run.specs.declared.fault.EventFault.TheVariants.{NoInstance, NoMessage, NothingToTake, TooManyRows, TooManyMessages, NoMemory}
+use Rattle.sched_lists.specs.declared.fault.EventFault.{EventFault}
+use Rattle.sched_lists.specs.declared.fault.EventFault.TheVariants.{NoInstance, NoMessage, NothingToTake, TooManyRows, TooManyMessages, NoMemory}
 use Rattle.sched_run.specs.declared.fault.MakeFault.{MakeFault}
 use Rattle.sched_run.specs.declared.fault.MakeFault.TheVariants as make_fault
 use Rattle.sched_run.specs.declared.limits.TheConstants.{MAX_EVENTS}

@@ -14,7 +14,7 @@ use Rattle.inbox.specs.Wiring.{Wiring, wiring_of}
 use Rattle.inbox.proofs.Lists.Growing.{continues_with}
 use Rattle.sched_turns.specs.Draws.{next_state, drawn_number}
 use Rattle.sched_run.specs.Applying.{Line, steps_of}
-use Rattle.sched_run.specs.Limits.{Limit, too_many_rows, too_many_messages, limit_of_event}
+use Rattle.sched_lists.specs.Limits.{Limit, too_many_rows, too_many_messages, limit_of_event}
 use Rattle.sched_run.specs.Made.{Course, after_turns, chosen_events, execution_after, fault_by, made_of, made_within, open_works, turn, turn_among, AnswersSo}
 use Rattle.sched_run.specs.Making.{events_of}
 use Rattle.sched_run.specs.Net.{BooksStand, execution_in}

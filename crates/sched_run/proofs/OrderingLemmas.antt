@@ -25,13 +25,13 @@ use Rattle.inbox.specs.Standing.{Seat, Seats}
 use Rattle.inbox.specs.Wiring.{instance_at, is_there, wiring_of}
 use Rattle.inbox.proofs.Executions.Standing.{seat_takes}
 use Rattle.inbox.proofs.WiringLemmas.{instance-wired, there-wired, instance-ports, length-below}
-use Rattle.sched_run.specs.Limits.{Limit, limit_at, limit_of_event, limit_of_taking}
-use Rattle.sched_run.specs.Lists.{Listed, IsExact, read_lists, list_at}
-use Rattle.sched_run.specs.Net.{Stands, BooksStand, ArePlaces, ShowsSeat, ShowsEar, ShowSeats, ShowLogs, execution_in}
-use Rattle.sched_run.specs.Outlets.{OthersStay, outlets_for}
-use Rattle.sched_run.specs.Places.{instance_place}
+use Rattle.sched_lists.specs.Limits.{Limit, limit_at, limit_of_event, limit_of_taking}
+use Rattle.sched_lists.specs.Lists.{Listed, IsExact, read_lists, list_at}
+use Rattle.sched_run.specs.Net.{Stands, BooksStand, ShowsSeat, ShowsEar, ShowSeats, ShowLogs, execution_in}
+use Rattle.sched_lists.specs.Places.{ArePlaces, instance_place}
+use Rattle.sched_lists.specs.Outlets.{OthersStay, outlets_for}
 use Rattle.sched_run.specs.Seated.{with_seat}
-use Rattle.sched_run.specs.Code.Hearing.{EmitsAt, MeetsAt}
+use Rattle.sched_lists.specs.Code.Running.{EmitsAt, MeetsAt}
 use Rattle.sched_run.specs.Code.Taking.{takes_itself, taken_in, IsNext, entry_sets_off, EarChanges, took_one}
 use Rattle.sched_run.specs.declared.books.Books.{Books}
 use Rattle.sched_run.specs.declared.seated.Ear.{Ear}
@@ -40,7 +40,7 @@ use Rattle.sched_run.specs.declared.seated.Seated.{Seated}
 use Rattle.sched_run.proofs.ArrivingLemmas.{taking_arrives}
 use Rattle.sched_run.proofs.CourseLemmas.{HasEmittedAt, meets_at, emits_at, program_here}
 use Rattle.sched_run.proofs.Lifting.{taking_lifts}
-use Rattle.sched_run.proofs.PlacesLemmas.{place-before}
+use Rattle.sched_lists.proofs.PlacesLemmas.{place-before}
 use Rattle.sched_run.proofs.SeatsLemmas.{later_pool, logs_stay, seats_after}
 use Rattle.sched_run.proofs.Showing.{is_there-true}
 

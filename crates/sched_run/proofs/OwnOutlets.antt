@@ -12,12 +12,12 @@ use Rattle.topo_types.specs.View.{View, End, Stream, no_stream, stream_of, same_
 use Rattle.inbox.specs.Emission.{output_key}
 use Rattle.inbox.specs.Wiring.{carried_places, instance_for, wiring_of}
 use Rattle.inbox.proofs.WiringLemmas.{get_or-below, length-below}
-use Rattle.sched_run.specs.Limits.{output_from, outputs_from}
-use Rattle.sched_run.specs.Code.Running.{outputs_of_outlets}
-use Rattle.sched_run.specs.Outlets.{AreApart, output_number, outlet_for, outlets_for}
-use Rattle.sched_run.specs.Places.{list_place, list_count}
-use Rattle.sched_run.specs.declared.outlets.Outlet.{Outlet}
-use Rattle.sched_run.proofs.PlacesLemmas.{Has-below, place-before, one_place}
+use Rattle.sched_lists.specs.Limits.{output_from, outputs_from}
+use Rattle.sched_lists.specs.Code.Running.{outputs_of_outlets}
+use Rattle.sched_lists.specs.Outlets.{AreApart, output_number, outlet_for, outlets_for}
+use Rattle.sched_lists.specs.Places.{list_place, list_count}
+use Rattle.sched_lists.specs.declared.outlets.Outlet.{Outlet}
+use Rattle.sched_lists.proofs.PlacesLemmas.{Has-below, place-before, one_place}
 
 -- ---- streams from a component
 

@@ -26,16 +26,16 @@ use Rattle.inbox.specs.declared.message.Message.{Message as IdMessage}
 use Rattle.inbox.proofs.Executions.Results.{Ok_same, and_then_Ok}
 use Rattle.inbox.proofs.Executions.Sent.{IsFeedOf, feed_of-is}
 use Rattle.inbox.proofs.WiringLemmas.{IsFeedInto, instance-feeds, instance-wired}
-use Rattle.sched_run.specs.Lists.{Listed, read_lists, list_at}
+use Rattle.sched_lists.specs.Lists.{Listed, read_lists, list_at}
 use Rattle.sched_run.specs.Net.{Runs, BooksStand, BooksRun, ShowsSeat, execution_in, list_on}
-use Rattle.sched_run.specs.Places.{instance_place, list_place}
+use Rattle.sched_lists.specs.Places.{instance_place, list_place}
 use Rattle.sched_run.specs.Code.Parts.{IsReadAs, PairAnswers, PairsAnswer, StandsAt, HaveIndexes}
 use Rattle.sched_run.specs.declared.books.Books.{Books}
-use Rattle.sched_run.specs.declared.fault.EventFault.{EventFault}
-use Rattle.sched_run.specs.declared.fault.EventFault.TheVariants.{NoInstance, NoMessage, NothingToTake, TooManyRows, TooManyMessages, NoMemory}
+use Rattle.sched_lists.specs.declared.fault.EventFault.{EventFault}
+use Rattle.sched_lists.specs.declared.fault.EventFault.TheVariants.{NoInstance, NoMessage, NothingToTake, TooManyRows, TooManyMessages, NoMemory}
 use Rattle.sched_run.specs.declared.seated.Seated.{Seated}
-use Rattle.sched_run.proofs.ListsLemmas.{read-at, length-read_lists}
-use Rattle.sched_run.proofs.PlacesLemmas.{place-before}
+use Rattle.sched_lists.proofs.ListsLemmas.{read-at, length-read_lists}
+use Rattle.sched_lists.proofs.PlacesLemmas.{place-before}
 use Rattle.sched_run.proofs.Showing.{emitted_shown}
 
 -- ---- the seat of an instance

@@ -31,16 +31,16 @@ use Rattle.inbox.proofs.Keeping.Later.{stands_later, keeps_later, given_later, r
 use Rattle.inbox.proofs.Lists.Repeats.{no_repeats-emitted_list}
 use Rattle.inbox.proofs.MessagesLemmas.{is_same_row-itself}
 use Rattle.inbox.proofs.WiringLemmas.{instance-wired, instance-feeds}
-use Rattle.sched_run.specs.Lists.{Listed, read_lists, list_at}
+use Rattle.sched_lists.specs.Lists.{Listed, read_lists, list_at}
 use Rattle.sched_run.specs.Net.{KnowsHeard, ShowsEar, ShowsSeat, ShowSeats, ShowLogs, list_on}
-use Rattle.sched_run.specs.Places.{instance_place}
+use Rattle.sched_lists.specs.Places.{instance_place}
 use Rattle.sched_run.specs.Seated.{with_seat}
 use Rattle.sched_run.specs.Shown.{ShowsSeats}
 use Rattle.sched_run.specs.declared.seated.Ear.{Ear}
 use Rattle.sched_run.specs.declared.seated.Ear.TheVariants.{Hears, Takes}
 use Rattle.sched_run.specs.declared.seated.Seated.{Seated}
 use Rattle.sched_run.proofs.Lifting.{Lifts, same_seat}
-use Rattle.sched_run.proofs.PlacesLemmas.{one_place, place-before}
+use Rattle.sched_lists.proofs.PlacesLemmas.{one_place, place-before}
 use Rattle.sched_run.proofs.Showing.{is_there-true, emitted_shown}
 
 -- ---- a pool that continues is later

@@ -11,8 +11,8 @@ use Rattle.bloom_ast.specs.Step.{Sets}
 use Rattle.topo_types.specs.Sets.{below}
 use Rattle.topo_types.specs.View.{View, program_of, replicas_of}
 use Rattle.sched_run.specs.Bench.{instance_components}
-use Rattle.sched_run.specs.Places.{places_before, instance_place, instance_count}
-use Rattle.sched_run.proofs.PlacesLemmas.{below_more, before-more, place-before}
+use Rattle.sched_lists.specs.Places.{places_before, instance_place, instance_count}
+use Rattle.sched_lists.proofs.PlacesLemmas.{below_more, before-more, place-before}
 
 module _ (size : ℕ → ℕ) where
   -- each number so many times, in order

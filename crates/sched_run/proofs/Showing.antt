@@ -24,17 +24,17 @@ use Rattle.inbox.proofs.Executions.Standing.{stands_emitted}
 use Rattle.inbox.proofs.Lists.Growing.{emit-continues}
 use Rattle.inbox.proofs.Lists.Origins.{source_list}
 use Rattle.inbox.proofs.WiringLemmas.{instances-wired, instance-wired, there-wired, stream-wired, length-below}
-use Rattle.sched_run.specs.Limits.{senders_in, messages_of, all_messages, messages_in, outputs_from}
-use Rattle.sched_run.specs.Lists.{list_at, total}
-use Rattle.sched_run.specs.Outlets.{ShowsOutlets, own_messages, output_number, outlet_for, outlets_for}
-use Rattle.sched_run.specs.Places.{places_before, instance_place, list_place}
+use Rattle.sched_lists.specs.Limits.{senders_in, messages_of, all_messages, messages_in, outputs_from}
+use Rattle.sched_lists.specs.Lists.{list_at, total}
+use Rattle.sched_lists.specs.Outlets.{ShowsOutlets, own_messages, output_number, outlet_for, outlets_for}
+use Rattle.sched_lists.specs.Places.{places_before, instance_place, list_place}
 use Rattle.sched_run.specs.Shown.{ShowsSeats}
-use Rattle.sched_run.specs.Code.Running.{StandingIsEmitted, IsCourseOf, HaveOwnKeys}
-use Rattle.sched_run.specs.declared.outlets.Outlet.{Outlet}
-use Rattle.sched_run.proofs.Emitting.{proper_stands, standing_is_emitted}
-use Rattle.sched_run.proofs.OutletsLemmas.{own-shown, own_at_most}
+use Rattle.sched_lists.specs.Code.Running.{StandingIsEmitted, IsCourseOf, HaveOwnKeys}
+use Rattle.sched_lists.specs.declared.outlets.Outlet.{Outlet}
+use Rattle.sched_lists.proofs.Emitting.{proper_stands, standing_is_emitted}
+use Rattle.sched_lists.proofs.OutletsLemmas.{own-shown, own_at_most}
 use Rattle.sched_run.proofs.OwnOutlets.{from_component, outlets_apart, outlets_there, outlets_outputs, outlets_keys, outlets_are}
-use Rattle.sched_run.proofs.PlacesLemmas.{Has-below}
+use Rattle.sched_lists.proofs.PlacesLemmas.{Has-below}
 use Rattle.sched_run.proofs.Totals.{all_of_all}
 
 -- ---- emitted lists

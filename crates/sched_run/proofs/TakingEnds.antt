@@ -18,22 +18,23 @@ use Rattle.inbox.specs.Log.{EntryId, entry_with_id}
 use Rattle.inbox.specs.Timesteps.{timestep_of}
 use Rattle.inbox.specs.Wiring.{wiring_of}
 use Rattle.sched_run.specs.Answers.{answer_to, answer_at, fault_at}
-use Rattle.sched_run.specs.Limits.{Limit, too_many_rows, too_many_messages, limit_of_event}
-use Rattle.sched_run.specs.Lists.{IsExact, read_lists, list_at}
+use Rattle.sched_lists.specs.Limits.{Limit, too_many_rows, too_many_messages, limit_of_event}
+use Rattle.sched_lists.specs.Lists.{IsExact, read_lists, list_at}
 use Rattle.sched_run.specs.Net.{Stands, Runs, EventAnswers, execution_in}
-use Rattle.sched_run.specs.Outlets.{OthersStay, outlets_for}
-use Rattle.sched_run.specs.Places.{instance_place}
-use Rattle.sched_run.specs.Code.Hearing.{EmitsAt, MeetsAt, EventLeavesOpen}
-use Rattle.sched_run.specs.Code.Ids.{IsLegal}
+use Rattle.sched_lists.specs.Outlets.{OthersStay, outlets_for}
+use Rattle.sched_lists.specs.Places.{instance_place}
+use Rattle.sched_run.specs.Code.Hearing.{EventLeavesOpen}
+use Rattle.sched_lists.specs.Code.Running.{EmitsAt, MeetsAt}
+use Rattle.sched_lists.specs.Code.Ids.{IsLegal}
 use Rattle.sched_run.specs.Code.Taking.{takes_itself, taken_in, IsNext, entry_sets_off, EarChanges, took_one}
 use Rattle.sched_run.specs.declared.books.Books.{Books}
-use Rattle.sched_run.specs.declared.fault.EventFault.{EventFault}
-use Rattle.sched_run.specs.declared.fault.EventFault.TheVariants.{NoInstance, NoMessage, NothingToTake, TooManyRows, TooManyMessages, NoMemory}
-use Rattle.sched_run.specs.declared.outlets.Outlet.{Outlet}
+use Rattle.sched_lists.specs.declared.fault.EventFault.{EventFault}
+use Rattle.sched_lists.specs.declared.fault.EventFault.TheVariants.{NoInstance, NoMessage, NothingToTake, TooManyRows, TooManyMessages, NoMemory}
+use Rattle.sched_lists.specs.declared.outlets.Outlet.{Outlet}
 use Rattle.sched_run.specs.declared.seated.Seated.{Seated}
 use Rattle.sched_run.proofs.CourseLemmas.{runs_here, shell_inside, outlets_inside}
 use Rattle.sched_run.proofs.OrderingLemmas.{TakesThere, takes_there, not_taking, seat_at, nothing_taken, entry_arrives, legal_taking, taking_meets, taking_fits, taking_stands}
-use Rattle.sched_run.proofs.PlacesLemmas.{place-before}
+use Rattle.sched_lists.proofs.PlacesLemmas.{place-before}
 
 -- ---- without an entry
 

@@ -22,7 +22,7 @@ use Rattle.topo_types.specs.Sets.{below}
 use Rattle.topo_types.specs.View.{View, Component, no_component, program_of, replicas_of, component_numbers}
 use Rattle.sched_run.specs.Bench.{number_of_kind, same_kind, fits_kind, fits_component, without_first, first_passing, taken_by, left_by, first_short, instance_components, first_without_body}
 use Rattle.sched_run.specs.Code.Flags.{flagged, claimed, may_claim}
-use Rattle.sched_run.proofs.PlacesLemmas.{below_more, Has-below}
+use Rattle.sched_lists.proofs.PlacesLemmas.{below_more, Has-below}
 
 -- ---- kinds
 

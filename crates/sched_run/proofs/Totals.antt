@@ -4,9 +4,9 @@ use Rattle.std.specs.List.{sum_by, fold}
 use Rattle.std.proofs.lemmas.List.{take_all}
 use Rattle.std.proofs.lemmas.List.Sums.{sum_by_more, sum_by-append}
 use Rattle.topo_types.specs.Sets.{below}
-use Rattle.sched_run.specs.Lists.{list_at, total}
-use Rattle.sched_run.specs.Places.{places_before}
-use Rattle.sched_run.proofs.PlacesLemmas.{below_more, before-more}
+use Rattle.sched_lists.specs.Lists.{list_at, total}
+use Rattle.sched_lists.specs.Places.{places_before}
+use Rattle.sched_lists.proofs.PlacesLemmas.{below_more, before-more}
 
 same_sums : {X : Type 0} (f g : X → ℕ) (xs : List X) → ((x : X) → f x ≡ g x) → sum_by f xs ≡ sum_by g xs
 same_sums f g xs same = go 0 xs

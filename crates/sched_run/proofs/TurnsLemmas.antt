@@ -16,7 +16,7 @@ use Rattle.inbox.specs.Growth.{Continues}
 use Rattle.inbox.specs.Wiring.{Wiring}
 use Rattle.inbox.proofs.Lists.Growing.{continues_itself, continues_with, continues_on}
 use Rattle.sched_turns.specs.Draws.{next_state, drawn_number}
-use Rattle.sched_run.specs.Limits.{Limit, limit_of_event}
+use Rattle.sched_lists.specs.Limits.{Limit, limit_of_event}
 use Rattle.sched_run.specs.declared.fault.MakeFault.{MakeFault}
 use Rattle.sched_run.specs.declared.fault.MakeFault.TheVariants.{TooManyEvents}
 use Rattle.sched_run.specs.declared.limits.TheConstants.{MAX_EVENTS}

@@ -10,13 +10,13 @@ use Rattle.inbox.specs.Events.{Step, event, Refusal}
 use Rattle.inbox.specs.Executions.{Execution, result_and_then, after_event}
 use Rattle.inbox.specs.Wiring.{wiring_of}
 use Rattle.sched_run.specs.Answers.{fault_of, fault_at}
-use Rattle.sched_run.specs.Limits.{Limit, limit_of_event}
+use Rattle.sched_lists.specs.Limits.{Limit, limit_of_event}
 use Rattle.sched_run.specs.Net.{Stands, Leaves, execution_in}
 use Rattle.sched_run.specs.Numbered.{numbered}
 use Rattle.sched_run.specs.declared.applying.EventRefusal.{EventRefusal}
 use Rattle.sched_run.specs.declared.books.Books.{Books}
-use Rattle.sched_run.specs.declared.fault.EventFault.{EventFault}
-use Rattle.sched_run.specs.declared.fault.EventFault.TheVariants.{NoMemory}
+use Rattle.sched_lists.specs.declared.fault.EventFault.{EventFault}
+use Rattle.sched_lists.specs.declared.fault.EventFault.TheVariants.{NoMemory}
 
 -- a line of a schedule: its number and its event
 abbrev pub Line : Type 0

@@ -7,9 +7,9 @@ use Rattle.topo_types.specs.View.{View, replicas_of}
 use Rattle.inbox.specs.Events.{Step}
 use Rattle.inbox.specs.Lives.{kept_after}
 use Rattle.inbox.specs.Wiring.{wiring_of, instance_at}
-use Rattle.sched_run.specs.Lists.{list_at}
+use Rattle.sched_lists.specs.Lists.{list_at}
 use Rattle.sched_run.specs.Net.{Stands, execution_in}
-use Rattle.sched_run.specs.Places.{instance_place}
+use Rattle.sched_lists.specs.Places.{instance_place}
 use Rattle.sched_run.specs.declared.books.Books.{Books}
 
 -- the tables are those with which the last life of each instance ends, for whatever steps the net stands

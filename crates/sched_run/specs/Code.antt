@@ -1,11 +1,7 @@
 -- What private functions give.
 pub mod Flags
-pub mod Ids
 pub mod Parts
-pub mod Running
-pub mod Counts
 pub mod First
-pub mod Sources
 pub mod Taking
 pub mod Hearing
 pub mod Seen

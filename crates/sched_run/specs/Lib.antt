@@ -1,10 +1,6 @@
 pub mod Numbered
-pub mod Limits
 pub mod Answers
 pub mod Bench
-pub mod Lists
-pub mod Places
-pub mod Outlets
 pub mod Shown
 pub mod Seated
 pub mod Net

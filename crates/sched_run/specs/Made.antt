@@ -14,7 +14,7 @@ use Rattle.inbox.specs.Executions.{Execution, first_execution, emitted_list, exe
 use Rattle.inbox.specs.Completeness.{left_count}
 use Rattle.sched_turns.specs.Draws.{next_state, drawn_number}
 use Rattle.sched_turns.specs.Windows.{first_open}
-use Rattle.sched_run.specs.Limits.{Limit, too_many_rows, too_many_messages, limit_of_event}
+use Rattle.sched_lists.specs.Limits.{Limit, too_many_rows, too_many_messages, limit_of_event}
 use Rattle.sched_run.specs.declared.fault.MakeFault.{MakeFault}
 use Rattle.sched_run.specs.declared.fault.MakeFault.TheVariants.{TooManyEvents, TooManyRows, TooManyMessages, NoMemory}
 use Rattle.sched_run.specs.declared.limits.TheConstants.{MAX_EVENTS}

@@ -19,26 +19,20 @@ use Rattle.topo_types.specs.Feeds.{Feed}
 use Rattle.inbox.specs.Executions.{Execution, after_event}
 use Rattle.inbox.specs.Events.{Step, Event, event}
 use Rattle.sched_run.specs.Answers.{Answers}
-use Rattle.sched_run.specs.declared.fault.EventFault.{EventFault}
-use Rattle.sched_run.specs.declared.fault.EventFault.TheVariants.{NoInstance, NoMessage, NothingToTake, TooManyRows, TooManyMessages, NoMemory}
+use Rattle.sched_lists.specs.declared.fault.EventFault.{EventFault}
+use Rattle.sched_lists.specs.declared.fault.EventFault.TheVariants.{NoInstance, NoMessage, NothingToTake, TooManyRows, TooManyMessages, NoMemory}
 use Rattle.sched_run.specs.Bench.{instance_components}
-use Rattle.sched_run.specs.Limits.{limit_of_event}
-use Rattle.sched_run.specs.Lists.{Listed, IsExact, read_lists, list_at}
-use Rattle.sched_run.specs.Outlets.{outlets_for}
-use Rattle.sched_run.specs.Places.{instance_place, instance_count, list_place}
+use Rattle.sched_lists.specs.Limits.{limit_of_event}
+use Rattle.sched_lists.specs.Lists.{Listed, IsExact, read_lists, list_at}
+use Rattle.sched_lists.specs.Outlets.{outlets_for}
+use Rattle.sched_lists.specs.Places.{ArePlaces, instance_place, instance_count, list_place}
 use Rattle.sched_run.specs.Shown.{ShowsSeats}
-use Rattle.sched_run.specs.declared.places.Places.{Places}
 use Rattle.sched_run.specs.declared.seated.Ear.{Ear}
 use Rattle.sched_run.specs.declared.seated.Ear.TheVariants.{Hears, Takes}
 use Rattle.sched_run.specs.declared.seated.Seated.{Seated}
 use Rattle.sched_run.specs.declared.books.Books.{Books}
 
 -- ---- books of one instance
-
--- the first places of the instances of each component, and of the emitted lists of each stream
-pub record ArePlaces (v : View) (p : Places) : Type 0 where
-  pub instances : (c : ℕ) → c < length v.components → slice_get p.instances c ≡ Some (instance_place v c 0)
-  pub lists : (s : ℕ) → s < length v.streams → slice_get p.lists s ≡ Some (list_place v s 0)
 
 -- the emitted list that comes on a feed
 abbrev pub list_on : View → List (List Message) → Feed → List Message

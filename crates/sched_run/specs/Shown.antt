@@ -6,8 +6,8 @@ use Rattle.topo_types.specs.Messages.{Message, source_messages}
 use Rattle.topo_types.specs.View.{View, stream_at, origin_of, replicas_of}
 use Rattle.inbox.specs.Emission.{list_of}
 use Rattle.inbox.specs.Standing.{Seats}
-use Rattle.sched_run.specs.Lists.{list_at}
-use Rattle.sched_run.specs.Places.{instance_place, instance_count, list_place, list_count}
+use Rattle.sched_lists.specs.Lists.{list_at}
+use Rattle.sched_lists.specs.Places.{instance_place, instance_count, list_place, list_count}
 
 -- the tables stand instance by instance, and the lists stream by stream; an output without a stream has no list
 pub record ShowsSeats (v : View) (given : Data) (seats : Seats) (tables : List Sets) (lists : List (List Message)) : Type 0 where

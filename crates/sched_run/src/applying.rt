@@ -3,8 +3,8 @@ ghost use Rattle.std.specs.Prelude.{◌≡◌, map};
 ghost use Rattle.sched_run.specs.Applying.{AppliesLines};
 ghost use Rattle.sched_run.specs.Net.{Runs};
 
-use crate::fault::EventFault;
 use crate::net::Net;
+use sched_lists::EventFault;
 use sched_text::Event;
 
 /// An event of a schedule that is refused.

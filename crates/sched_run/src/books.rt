@@ -1,11 +1,9 @@
 //! What a net keeps beside its shells.
 ghost use Rattle.sched_run.specs.Code.Hearing.{EndsAt};
 
-use crate::fault::EventFault;
-use crate::lists::Lists;
-use crate::places::Places;
 use crate::seated::Seated;
 use inbox::Log;
+use sched_lists::{EventFault, Lists, Places};
 
 /// The emitted lists over one pool, a log for each component, and the books of each instance, in
 /// component and replica order; and whether a fault ended the net.

@@ -1,6 +1,5 @@
-//! Why a net isn't opened, why an event or a forget is refused, and why no schedule is made.
+//! Why a net isn't opened, why a forget is refused, and why no schedule is made.
 ghost use Rattle.std.specs.Prelude.{◌≡◌};
-ghost use Rattle.sched_run.specs.declared.fault.EventFault.TheVariants as event;
 ghost use Rattle.sched_run.specs.declared.fault.MakeFault.TheVariants as make_fault;
 ghost use Rattle.sched_run.specs.declared.fault.OpenFault.TheVariants as open_fault;
 
@@ -40,45 +39,6 @@ impl<T: Drop> From<AllocFailed<T>> for OpenFault {
 
     fn from(_error: AllocFailed<T>) -> OpenFault {
         OpenFault::NoMemory
-    }
-}
-
-/// Why an event is refused. The first three leave the net as it was, and the others end it.
-#[derive(Debug, Drop, Error)]
-pub enum EventFault {
-    /// The event names what isn't there: a component, a replica, a port, a stream, or a feed.
-    #[error("there is no such instance or feed")]
-    NoInstance,
-    /// The emitted list isn't so long.
-    #[error("the message isn't emitted yet")]
-    NoMessage,
-    /// The replica has taken all that the log has.
-    #[error("there is nothing to take")]
-    NothingToTake,
-    /// A set of a step would have more than 262,144 rows.
-    #[error("a set would have more than 262144 rows")]
-    TooManyRows,
-    /// The emitted lists together would have more than 262,144 messages.
-    #[error("there would be more than 262144 messages")]
-    TooManyMessages,
-    /// Memory ran out.
-    #[error("out of memory")]
-    NoMemory,
-}
-
-impl From<AllocError> for EventFault {
-    ghost from_gives = { λ _ fault. fault ≡ event.NoMemory };
-
-    fn from(_error: AllocError) -> EventFault {
-        EventFault::NoMemory
-    }
-}
-
-impl<T: Drop> From<AllocFailed<T>> for EventFault {
-    ghost from_gives = { λ _ fault. fault ≡ event.NoMemory };
-
-    fn from(_error: AllocFailed<T>) -> EventFault {
-        EventFault::NoMemory
     }
 }
 

@@ -15,11 +15,12 @@ ghost use Rattle.sched_run.specs.Net.{BooksRun};
 ghost use Rattle.sched_run.specs.Code.Making.{EndsNet, fault_with, AreLines, Goes, GoesOn, IsDue, AppliesEvents, IsReady, Turns, StandsMade};
 ghost use Rattle.sched_run.specs.Code.Works.{HasNames, work_event};
 
-use crate::fault::{EventFault, MakeFault};
+use crate::fault::MakeFault;
 use crate::limits::MAX_EVENTS;
 use crate::making::works::{Work, Works};
 use crate::net::Net;
 use blz_boxes::Component;
+use sched_lists::EventFault;
 use sched_text::{Event, Schedule};
 use sched_turns::Draws;
 use std::alloc::AllocError;

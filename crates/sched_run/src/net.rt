@@ -4,9 +4,9 @@ ghost use Rattle.sched_run.specs.Net.{Runs, EventAnswers, EventLeaves};
 ghost use Rattle.sched_run.specs.Numbered.{numbered};
 
 use crate::books::Books;
-use crate::fault::EventFault;
 use crate::numbered::{component_of, part_of};
 use blz_boxes::Component;
+use sched_lists::EventFault;
 use sched_text::Event;
 use std::alloc::Global;
 use topo_types::Valid;

@@ -11,12 +11,11 @@ use crate::bench::open_shells;
 use crate::books::Books;
 use crate::fault::OpenFault;
 use crate::net::Net;
-use crate::places::Places;
 use crate::seated::first_seats;
-use crate::sources::first_lists;
 use blz_boxes::Component;
 use data_read::Data;
 use inbox::Log;
+use sched_lists::{Places, first_lists};
 use std::alloc::{AllocError, Global};
 use topo_types::Valid;
 

@@ -5,18 +5,17 @@ ghost use Rattle.topo_types.specs.View.{replicas_of, stream_replicas};
 ghost use Rattle.inbox.specs.Executions.{feed_of};
 ghost use Rattle.inbox.specs.Ids.{IsGiven, message_with_id, batch_with_ids};
 ghost use Rattle.inbox.specs.Wiring.{instance_for, feeds_for};
-ghost use Rattle.sched_run.specs.Lists.{read_lists, list_at};
+ghost use Rattle.sched_lists.specs.Lists.{read_lists, list_at};
 ghost use Rattle.sched_run.specs.Net.{BooksRun};
-ghost use Rattle.sched_run.specs.Places.{list_place};
-ghost use Rattle.sched_run.specs.Code.Ids.{IsLimit};
+ghost use Rattle.sched_lists.specs.Places.{list_place};
+ghost use Rattle.sched_lists.specs.Code.Ids.{IsLimit};
 ghost use Rattle.sched_run.specs.Code.Parts.{FeedsRise, PairAnswers, PairsAnswer, StandsAt, HaveIndexes};
 
 use crate::books::Books;
-use crate::fault::EventFault;
-use crate::lists::Lists;
 use crate::net::Net;
 use crate::numbered::PartNumbers;
 use inbox::{Feed, Message};
+use sched_lists::{EventFault, Lists};
 use std::alloc::{AllocError, Global};
 use topo_types::Valid;
 

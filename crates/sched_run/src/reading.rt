@@ -10,10 +10,10 @@ ghost use Rattle.inbox.specs.Completeness.{held_count_at};
 ghost use Rattle.inbox.specs.Executions.{emitted_list, contents};
 ghost use Rattle.inbox.specs.Ids.{IsGiven, message_with_id};
 ghost use Rattle.inbox.specs.Wiring.{wiring_of};
-ghost use Rattle.sched_run.specs.Limits.{all_messages};
-ghost use Rattle.sched_run.specs.Lists.{read_list};
+ghost use Rattle.sched_lists.specs.Limits.{all_messages};
+ghost use Rattle.sched_lists.specs.Lists.{read_list};
 ghost use Rattle.sched_run.specs.Net.{BooksRun};
-ghost use Rattle.sched_run.specs.Places.{instance_place};
+ghost use Rattle.sched_lists.specs.Places.{instance_place};
 ghost use Rattle.sched_run.specs.Reading.{IsRead, ReadEmitted, ReadInOrder};
 ghost use Rattle.sched_run.specs.Code.Seen.{list_seen, seat_seen, IsHeldBy};
 

@@ -10,8 +10,8 @@ ghost use Rattle.inbox.specs.Completeness.{left_at, left_count, left_of, left_ou
 ghost use Rattle.inbox.specs.Ids.{IsGiven};
 ghost use Rattle.inbox.specs.Log.{AreGiven, is_same_entry_id};
 ghost use Rattle.inbox.specs.Wiring.{wiring_of};
-ghost use Rattle.sched_run.specs.Limits.{message_limit};
-ghost use Rattle.sched_run.specs.Lists.{list_at};
+ghost use Rattle.sched_lists.specs.Limits.{message_limit};
+ghost use Rattle.sched_lists.specs.Lists.{list_at};
 ghost use Rattle.sched_run.specs.Net.{BooksRun};
 ghost use Rattle.sched_run.specs.Reading.{IsRead, TellsComplete, holds_none_at, holds_none, is_complete};
 ghost use Rattle.sched_run.specs.Code.Remaining.{unknown_on, unknown_at, unknown_in, is_unlogged, unlogged_on, unlogged_in};

@@ -1,15 +1,13 @@
 //! The books of one instance.
 ghost use Rattle.std.specs.Prelude.{◌≡◌, ◌+◌, ◌<◌, ◌^◌, IfOk, OnOk, length};
 ghost use Rattle.topo_types.specs.View.{replicas_of};
-ghost use Rattle.sched_run.specs.Net.{ArePlaces};
-ghost use Rattle.sched_run.specs.Places.{instance_place, instance_count};
+ghost use Rattle.sched_lists.specs.Places.{ArePlaces, instance_place, instance_count};
 ghost use Rattle.sched_run.specs.Code.First.{HeardNothing, IsFirst, AreFirst};
 ghost use Rattle.sched_run.specs.Code.Taking.{taken_in, took_one, EarForgets};
 
-use crate::outlets::{Outlet, outlets_of};
-use crate::places::Places;
 use blz_value::Items;
 use inbox::{Feed, Inbox, feeds_of};
+use sched_lists::{Outlet, Places, outlets_of};
 use std::alloc::{AllocError, Global};
 use std::collections::BTreeSet;
 use topo_types::{Mode, Valid};

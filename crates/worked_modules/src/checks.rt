@@ -46,6 +46,26 @@ fn module_with(
     })
 }
 
+// The module that a text is, with one collection behind its own.
+fn module_and(
+    rt: &impl Abort,
+    alloc: Global,
+    text: &str,
+    last: Collection,
+) -> Result<Module, Fail> {
+    let module = module_of(rt, alloc, text)?;
+    let mut collections = Vec::new(alloc);
+    for collection in module.collections.as_slice() {
+        collections.push(collection.copy(alloc)?)?;
+    }
+    collections.push(last)?;
+    Ok(Module {
+        name: module.name,
+        collections: Items::from_vec(collections),
+        rules: module.rules,
+    })
+}
+
 // The first fault of a module that is built by hand.
 fn built_fault(
     rt: &impl Abort,
@@ -59,23 +79,12 @@ fn built_fault(
 #[test]
 fn a_collection_without_columns_is_found(rt: HostRuntime) -> Result<(), Fail> {
     let alloc = rt.alloc();
-    let mut collections = Vec::new(alloc);
-    for collection in module_of(&rt, alloc, "module m; input a(x);")?
-        .collections
-        .as_slice()
-    {
-        collections.push(collection.copy(alloc)?)?;
-    }
-    collections.push(Collection {
+    let bare = Collection {
         kind: Kind::Table,
         name: Str::from_text(alloc, "t")?,
         columns: Items::from_vec(Vec::new(alloc)),
-    })?;
-    let module = Module {
-        name: Str::from_text(alloc, "m")?,
-        collections: Items::from_vec(collections),
-        rules: Items::from_vec(Vec::new(alloc)),
     };
+    let module = module_and(&rt, alloc, "module m; input a(x);", bare)?;
     let kind = ModuleKind::TooMany;
     let place = ModulePlace::Collection(2);
     let found = built_fault(&rt, alloc, &module)?;

@@ -2,7 +2,7 @@
 //! memory.
 ghost use Rattle.std.specs.Prelude.{IsSome};
 
-use crate::text::{AMPLE, Run, answer_on, files_of};
+use crate::text::{AMPLE, Run, answer_on};
 use crate::topologies::{LATEST, LATEST_DATA, SEALED_TALLY};
 use blazes_cli::Status;
 use bloom_ast::Program;
@@ -27,10 +27,8 @@ deliver asks 0 0 to cache.ask 0
 fn second_answer(alloc: Global) -> Result<(Status, Vec<u8>), Fail> {
     let mut bench: Vec<Box<dyn Component>> = Vec::new(alloc);
     bench.push(Box::new(alloc, LatestShell::new(alloc))?)?;
-    let files = files_of(alloc, LAST_PUT_WINS, Vec::new(alloc))?;
-    answer_on(alloc, files, AMPLE, &mut bench)?;
-    let files = files_of(alloc, LAST_PUT_WINS, Vec::new(alloc))?;
-    answer_on(alloc, files, AMPLE, &mut bench)
+    answer_on(alloc, LAST_PUT_WINS, AMPLE, &mut bench)?;
+    answer_on(alloc, LAST_PUT_WINS, AMPLE, &mut bench)
 }
 
 #[test]
@@ -116,10 +114,8 @@ fn two_statuses(alloc: Global, run: Run<'_>) -> Result<(Status, Status), Fail> {
     };
     let mut bench: Vec<Box<dyn Component>> = Vec::new(alloc);
     bench.push(Box::new(alloc, shell)?)?;
-    let files = files_of(alloc, run, Vec::new(alloc))?;
-    let (first, _) = answer_on(alloc, files, AMPLE, &mut bench)?;
-    let files = files_of(alloc, run, Vec::new(alloc))?;
-    let (second, _) = answer_on(alloc, files, AMPLE, &mut bench)?;
+    let (first, _) = answer_on(alloc, run, AMPLE, &mut bench)?;
+    let (second, _) = answer_on(alloc, run, AMPLE, &mut bench)?;
     Ok((first, second))
 }
 
@@ -185,8 +181,7 @@ fn poor_answer(alloc: Global) -> Result<(Status, Vec<u8>), Fail> {
     let inner = PlainShell::new(alloc);
     let mut bench: Vec<Box<dyn Component>> = Vec::new(alloc);
     bench.push(Box::new(alloc, PoorShell { inner })?)?;
-    let files = files_of(alloc, WHOLE_CAMPAIGN, Vec::new(alloc))?;
-    answer_on(alloc, files, AMPLE, &mut bench)
+    answer_on(alloc, WHOLE_CAMPAIGN, AMPLE, &mut bench)
 }
 
 #[test]

@@ -1,7 +1,8 @@
 //! Runs near the limit of all emitted lists together.
-use crate::text::{Run, answer_over, files_of};
+use crate::text::{Run, answer_on};
 use crate::topologies::{FOUR_COPIES, THREE_COPIES, Worked};
 use blazes_cli::Status;
+use blz_boxes::{Component, PlainShell};
 use std::alloc::Global;
 use std::test::Fail;
 
@@ -45,8 +46,11 @@ fn run_chain(alloc: Global, worked: Worked, more: u32) -> Result<(Status, Vec<u8
         data: data.as_str(),
         schedule: schedule.as_str(),
     };
-    let files = files_of(alloc, run, Vec::new(alloc))?;
-    answer_over(alloc, files, 4_000_000)
+    let mut bench: Vec<Box<dyn Component>> = Vec::new(alloc);
+    for _ in 0..4 {
+        bench.push(Box::new(alloc, PlainShell::new(alloc))?)?;
+    }
+    answer_on(alloc, run, 4_000_000, &mut bench)
 }
 
 #[test]

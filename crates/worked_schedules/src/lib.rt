@@ -1,19 +1,13 @@
-//! Worked runs of the program that no file of rows can hold: topologies, data and schedules as their
-//! files, over the call `blazes`.
+//! What the program answers where no file of rows can say it: lists that are filled to their limit, benches
+//! of other shells, words of two lines, and a plan that is read again.
 #![tactic(auto)]
 
+#[cfg(test)]
+mod answers;
 #[cfg(test)]
 mod benches;
 #[cfg(test)]
 mod chains;
-#[cfg(test)]
-mod orders;
-#[cfg(test)]
-mod reads;
-#[cfg(test)]
-mod refusals;
-#[cfg(test)]
-mod soaks;
 #[cfg(test)]
 mod text;
 #[cfg(test)]

@@ -1,10 +1,9 @@
-//! What the program answers to a run whose files are given as texts.
+//! What the program answers to files that are given as texts.
 use crate::topologies::Worked;
 use blazes_cli::{Status, blazes};
-use blz_boxes::{Component, LatestShell, NumberShell, PlainShell, SplitShell};
+use blz_boxes::Component;
 use blz_outside::{MemFiles, MemSink};
 use std::alloc::Global;
-use std::process::Abort;
 use std::test::Fail;
 
 /// A sink as large as this takes every text of these tests but those of long chains.
@@ -31,8 +30,8 @@ pub fn hold(
     Ok(())
 }
 
-/// The files of a run, of which the reads with these numbers fail.
-pub fn files_of(alloc: Global, run: Run<'_>, failing: Vec<u64>) -> Result<MemFiles, Fail> {
+/// The files of a run.
+pub fn files_of(alloc: Global, run: Run<'_>) -> Result<MemFiles, Fail> {
     let mut held = Vec::new(alloc);
     hold(alloc, &mut held, "t.toml", run.worked.topology)?;
     for (name, text) in run.worked.modules {
@@ -40,11 +39,8 @@ pub fn files_of(alloc: Global, run: Run<'_>, failing: Vec<u64>) -> Result<MemFil
     }
     hold(alloc, &mut held, "d.json", run.data)?;
     hold(alloc, &mut held, "s.txt", run.schedule)?;
-    Ok(MemFiles::new(held, failing))
+    Ok(MemFiles::new(held, Vec::new(alloc)))
 }
-
-// The words of a run.
-const RUN: &[&str] = &["run", "t.toml", "d.json", "s.txt"];
 
 /// The status of the program at these words over these files and this bench, and what is written into a
 /// sink with room for so many bytes.
@@ -67,43 +63,10 @@ pub fn answer_to(
 /// The same of a run.
 pub fn answer_on(
     alloc: Global,
-    files: MemFiles,
+    run: Run<'_>,
     most: usize,
     bench: &mut Vec<Box<dyn Component>>,
 ) -> Result<(Status, Vec<u8>), Fail> {
-    answer_to(alloc, RUN, files, most, bench)
-}
-
-/// A bench with four shells for modules and sixteen of each stock kind.
-pub fn bench_of(alloc: Global) -> Result<Vec<Box<dyn Component>>, Fail> {
-    let mut bench: Vec<Box<dyn Component>> = Vec::new(alloc);
-    for number in 0..16 {
-        if number < 4 {
-            bench.push(Box::new(alloc, PlainShell::new(alloc))?)?;
-        }
-        bench.push(Box::new(alloc, SplitShell::new(alloc))?)?;
-        bench.push(Box::new(alloc, LatestShell::new(alloc))?)?;
-        bench.push(Box::new(alloc, NumberShell::new(alloc))?)?;
-    }
-    Ok(bench)
-}
-
-/// The status of a run over these files on such a bench, and what is written.
-pub fn answer_over(alloc: Global, files: MemFiles, most: usize) -> Result<(Status, Vec<u8>), Fail> {
-    answer_on(alloc, files, most, &mut bench_of(alloc)?)
-}
-
-/// The program answers so to a run over files that never fail.
-pub fn check(
-    rt: &impl Abort,
-    alloc: Global,
-    run: Run<'_>,
-    status: Status,
-    text: &str,
-) -> Result<(), Fail> {
-    let files = files_of(alloc, run, Vec::new(alloc))?;
-    let (ended, written) = answer_over(alloc, files, AMPLE)?;
-    assert_eq!(rt; written.as_slice(), text.as_bytes());
-    assert_eq!(rt; ended, status);
-    Ok(())
+    let words = ["run", "t.toml", "d.json", "s.txt"];
+    answer_to(alloc, &words, files_of(alloc, run)?, most, bench)
 }

@@ -56,48 +56,6 @@ stream = [{ name = "sums", from = "tally.sums" }]
     modules: BY_CAMPAIGN,
 };
 
-const COUNT_AND_COMMIT: &[(&str, &str)] = &[
-    (
-        "count.bloom",
-        "module count_words;
-input words(id, batch, at, word);
-output counts(word, batch, n);
-table seen(id, batch, at, word);
-seen <= words;
-counts <= group(seen, [word, batch], count as n);
-",
-    ),
-    (
-        "commit.bloom",
-        "module commit;
-input counts(word, batch, n);
-output commits(word, batch, n);
-table committed(word, batch, n);
-committed <= counts;
-commits <= committed;
-",
-    ),
-];
-
-/// The word count, where nothing is coordinated.
-pub const WORD_COUNT: Worked = Worked {
-    topology: r#"
-format = 2
-source = [{ name = "tweets", columns = ["id", "text", "batch"], seal = ["batch"], to = ["split.in"] }]
-component = [
-    { name = "split", stock = "split", columns = ["id", "text", "batch"], split = "text" },
-    { name = "count", module = "count.bloom" },
-    { name = "commit", module = "commit.bloom" },
-]
-stream = [
-    { name = "words", from = "split.out", to = ["count.words"] },
-    { name = "counts", from = "count.counts", to = ["commit.counts"] },
-    { name = "commits", from = "commit.commits" },
-]
-"#,
-    modules: COUNT_AND_COMMIT,
-};
-
 /// A chain of three copies.
 pub const THREE_COPIES: Worked = Worked {
     topology: r#"

@@ -6,7 +6,7 @@ use Rattle.blazes_commands.specs.Bench.{BenchStates}
 use Rattle.blazes_commands.specs.Script.{Bytes, Script, Ending}
 use Rattle.blazes_commands.specs.Ends.{Source, FilesStates, files_states, Came}
 use Rattle.blazes_commands.specs.Commands.{Answer, Work, script}
-use Rattle.blazes_commands.specs.Words.{Asked}
+use Rattle.blazes_words.specs.Words.{Asked}
 use Rattle.blazes_commands.specs.Answer.{IsAnswered}
 use Rattle.blazes_commands.specs.Lines.{cannot_read}
 use Rattle.blazes_commands.specs.declared.reply.Reply.{Reply}

@@ -7,9 +7,9 @@ use Rattle.inbox.specs.Emission.{nothing_emitted}
 use Rattle.inbox.specs.Standing.{Seat}
 use Rattle.inbox.specs.Wiring.{wiring_of, instance_at}
 use Rattle.sched_run.specs.Bench.{instance_components}
-use Rattle.sched_run.specs.Lists.{Listed}
+use Rattle.sched_lists.specs.Lists.{Listed}
 use Rattle.sched_run.specs.Net.{ShowsEar, ShowsSeat, BooksStand}
-use Rattle.sched_run.specs.Places.{instance_place}
+use Rattle.sched_lists.specs.Places.{instance_place}
 use Rattle.sched_run.specs.declared.books.Books.{Books}
 use Rattle.sched_run.specs.declared.seated.Ear.{Ear}
 use Rattle.sched_run.specs.declared.seated.Seated.{Seated}

@@ -1,5 +1,5 @@
 -- What changes where an instance hears a batch, and what is emitted by it.
-use Rattle.std.specs.Prelude.{◌≡◌, ◌<◌, ◌↔◌, true, ◌⊎◌, ◌++◌, ◌∷◌, [], ℕ, Option, None, Some, Result, Ok, Err, List, slice_get, slice_set, slice_index_or}
+use Rattle.std.specs.Prelude.{◌≡◌, ◌<◌, ◌↔◌, true, ◌⊎◌, ◌++◌, ◌∷◌, [], ℕ, Option, Some, Result, Ok, Err, List, slice_get, slice_set}
 use Rattle.std.specs.List.{All}
 use Rattle.blz_value.specs.Members.{Has}
 use Rattle.blz_value.specs.Record.{Row}
@@ -18,13 +18,11 @@ use Rattle.inbox.specs.Executions.{Execution, after_event, after_hearing}
 use Rattle.inbox.specs.Events.{Part, Event, event, Step}
 use Rattle.inbox.specs.declared.inbox.Inbox.{Inbox}
 use Rattle.inbox.specs.declared.message.Message.{Message as IdMessage}
-use Rattle.sched_run.specs.Limits.{Limit, limit_of_event, limit_of_hearing}
+use Rattle.sched_lists.specs.Limits.{limit_of_event, limit_of_hearing}
 use Rattle.sched_run.specs.Net.{Stands, EventAnswers}
-use Rattle.sched_run.specs.Code.Running.{Emits, MeetsFirst}
 use Rattle.sched_run.specs.declared.books.Books.{Books}
-use Rattle.sched_run.specs.declared.fault.EventFault.{EventFault}
-use Rattle.sched_run.specs.declared.fault.EventFault.TheVariants.{NoInstance, NoMessage, NothingToTake, TooManyRows, TooManyMessages, NoMemory}
-use Rattle.sched_run.specs.declared.outlets.Outlet.{Outlet}
+use Rattle.sched_lists.specs.declared.fault.EventFault.{EventFault}
+use Rattle.sched_lists.specs.declared.fault.EventFault.TheVariants.{NoInstance, NoMessage, NothingToTake, TooManyRows, TooManyMessages, NoMemory}
 use Rattle.sched_run.specs.declared.seated.Ear.{Ear}
 use Rattle.sched_run.specs.declared.seated.Ear.TheVariants.{Hears, Takes}
 use Rattle.sched_run.specs.declared.seated.Seated.{Seated}
@@ -71,16 +69,6 @@ pub record OneHears (records : List Row) (batch : List (ℕ × IdMessage)) (inde
   pub hears : (was : Seated) → slice_get old place ≡ Some was → SeatHears records batch indexes s was seat
 
 -- ---- what is emitted
-
--- the shell at a place and the lists of its outlets emit what is set off
-pub record EmitsAt (loaded : List (Option Program)) (place : ℕ) (outlets : List Outlet) (tables next : List Sets) (before after : List (List Message)) (s : SetOff) : Type 0 where
-  pub tables_now : Sets
-  pub changed : next ≡ slice_set tables place tables_now
-  pub emits : Emits (slice_index_or loaded place None) outlets (slice_index_or tables place []) tables_now before after s
-
--- or meet this limit first
-abbrev pub MeetsAt : Limit → (loaded : List (Option Program)) → (place : ℕ) → List Outlet → (tables : List Sets) → (before : List (List Message)) → SetOff → Type 0
-MeetsAt limit loaded place outlets tables before s = MeetsFirst limit (slice_index_or loaded place None) outlets (slice_index_or tables place []) before s
 
 -- ---- what an event leaves before a fault ends the net
 

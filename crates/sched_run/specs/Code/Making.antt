@@ -11,14 +11,14 @@ use Rattle.inbox.specs.Executions.{Execution, after_event}
 use Rattle.inbox.specs.Growth.{Continues}
 use Rattle.inbox.specs.Wiring.{Wiring, wiring_of}
 use Rattle.sched_run.specs.Applying.{Line, steps_of}
-use Rattle.sched_run.specs.Limits.{Limit, too_many_rows, too_many_messages, limit_of_event}
+use Rattle.sched_lists.specs.Limits.{Limit, too_many_rows, too_many_messages, limit_of_event}
 use Rattle.sched_run.specs.Made.{after_turns, limit_at_place, made_of, open_works, execution_after, AnswersSo}
 use Rattle.sched_run.specs.Making.{events_of, CountFromOne}
 use Rattle.sched_run.specs.Net.{Stands, execution_in}
 use Rattle.sched_run.specs.Code.Works.{AreWorksOf, AreShown}
 use Rattle.sched_run.specs.declared.books.Books.{Books}
-use Rattle.sched_run.specs.declared.fault.EventFault.{EventFault}
-use Rattle.sched_run.specs.declared.fault.EventFault.TheVariants as event_fault
+use Rattle.sched_lists.specs.declared.fault.EventFault.{EventFault}
+use Rattle.sched_lists.specs.declared.fault.EventFault.TheVariants as event_fault
 use Rattle.sched_run.specs.declared.fault.MakeFault.{MakeFault}
 use Rattle.sched_run.specs.declared.fault.MakeFault.TheVariants.{TooManyEvents, TooManyRows, TooManyMessages, NoMemory}
 use Rattle.sched_run.specs.declared.limits.TheConstants.{MAX_EVENTS}

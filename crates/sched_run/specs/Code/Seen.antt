@@ -6,8 +6,8 @@ use Rattle.inbox.specs.Inbox.{HasHeard}
 use Rattle.inbox.specs.Instances.{Instance}
 use Rattle.inbox.specs.Messages.{Batch}
 use Rattle.inbox.specs.Timesteps.{held_count}
-use Rattle.sched_run.specs.Lists.{list_at}
-use Rattle.sched_run.specs.Places.{instance_place, list_place}
+use Rattle.sched_lists.specs.Lists.{list_at}
+use Rattle.sched_lists.specs.Places.{instance_place, list_place}
 use Rattle.sched_run.specs.declared.seated.Ear.{Ear}
 use Rattle.sched_run.specs.declared.seated.Ear.TheVariants.{Hears, Takes}
 

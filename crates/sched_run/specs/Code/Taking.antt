@@ -10,7 +10,7 @@ use Rattle.inbox.specs.Timesteps.{SetOff, timestep_of}
 use Rattle.inbox.specs.declared.inbox.Inbox.{Inbox}
 use Rattle.inbox.specs.declared.message.Message.{Message as IdMessage}
 use Rattle.inbox.specs.declared.message.Message.TheVariants.{Row, Seal}
-use Rattle.sched_run.specs.Lists.{list_at}
+use Rattle.sched_lists.specs.Lists.{list_at}
 use Rattle.sched_run.specs.declared.books.Books.{Books}
 use Rattle.sched_run.specs.declared.seated.Ear.{Ear}
 use Rattle.sched_run.specs.declared.seated.Ear.TheVariants.{Hears, Takes}

@@ -4,7 +4,7 @@ use Rattle.blazes_commands.specs.Bench.{bench_states}
 use Rattle.blazes_commands.specs.Code.Ran.{answer_of}
 use Rattle.blazes_commands.specs.Ends.{files_states, source}
 use Rattle.blazes_cli.specs.Outcome.{sink_states, IsSaid, IsUsageOrLost, IsReadFaultOrLost, Misses}
-use Rattle.blazes_commands.specs.Words.{request_of}
+use Rattle.blazes_words.specs.Words.{request_of}
 use Rattle.blazes_commands.specs.declared.status.Status.TheVariants.{Usage, ReadFault}
 use Rattle.blazes_cli.proofs.ReplyLemmas as lem
 use Rattle.blazes_cli.proofs.program.blazes.Goals as goal

@@ -2,10 +2,10 @@ use Rattle.std.proofs.Common.{map, subst, sym}
 use Rattle.std.proofs.lemmas.List.Sorted.{IsPermutation-refl}
 use Rattle.blazes_commands.specs.Bench.{bench_states}
 use Rattle.blazes_commands.specs.Code.Ran.{RepliesTo}
-use Rattle.blazes_commands.specs.Code.Requests.{asked_by}
+use Rattle.blazes_words.specs.Requests.{asked_by}
 use Rattle.blazes_commands.specs.Ends.{files_states, source}
-use Rattle.blazes_commands.specs.Words.{IsWithin}
-use Rattle.blazes_commands.specs.declared.words.Request.{Request}
+use Rattle.blazes_words.specs.Words.{IsWithin}
+use Rattle.blazes_words.specs.declared.words.Request.{Request}
 use Rattle.blazes_commands.proofs.CommandLemmas.{kept_anyway}
 use Rattle.blazes_commands.proofs.commands.outcome_of.Goals as goal
 

@@ -4,7 +4,7 @@ use Rattle.blazes_commands.specs.Commands.{script}
 use Rattle.blazes_commands.specs.Commands.Work.{derived}
 use Rattle.blazes_commands.specs.Ends.{files_states, source}
 use Rattle.blazes_commands.specs.Script.{Script}
-use Rattle.blazes_commands.specs.Words.{Asked}
+use Rattle.blazes_words.specs.Words.{Asked}
 use Rattle.blazes_commands.proofs.CommandLemmas.{followed, lost_replies, stop_replies}
 use Rattle.blazes_commands.proofs.labelling.derive.Goals as goal
 

@@ -2,7 +2,7 @@ use Rattle.std.proofs.Common.{List, map, subst}
 use Rattle.std.proofs.lemmas.List.Sorted.{IsPermutation-refl}
 use Rattle.sched_run.specs.Applying.{Line}
 use Rattle.blazes_commands.specs.Bench.{bench_states}
-use Rattle.blazes_commands.specs.Code.Requests.{files_shown}
+use Rattle.blazes_words.specs.Requests.{files_shown}
 use Rattle.blazes_commands.specs.Code.Runs.{RepliesAtOnce}
 use Rattle.blazes_commands.specs.Commands.{running}
 use Rattle.blazes_commands.specs.Ends.{source, files_states}

@@ -3,7 +3,7 @@ use Rattle.report_print.specs.declared.refusal.Refusal.{Refusal}
 use Rattle.blazes_commands.specs.Checks as check
 use Rattle.blazes_commands.specs.Code.Found.{found_shown}
 use Rattle.blazes_commands.specs.Code.Ran.{IsStopAt}
-use Rattle.blazes_commands.specs.Code.Requests.{shard_shown}
+use Rattle.blazes_words.specs.Requests.{shard_shown}
 use Rattle.blazes_commands.proofs.ShardLemmas.{copies_answer, copies_refused}
 use Rattle.blazes_commands.proofs.sharding.copies.Goals as goal
 

@@ -1,8 +1,8 @@
 use Rattle.blazes_commands.specs.Code.Found.{found_shown}
-use Rattle.blazes_commands.specs.Code.Requests.{shard_shown}
+use Rattle.blazes_words.specs.Requests.{shard_shown}
 use Rattle.blazes_commands.specs.Commands.{script}
 use Rattle.blazes_commands.specs.Ends.{files_states, source}
-use Rattle.blazes_commands.specs.Words.{Asked}
+use Rattle.blazes_words.specs.Words.{Asked}
 use Rattle.blazes_commands.proofs.CommandLemmas.{lost_replies}
 use Rattle.blazes_commands.proofs.ShardLemmas.{topology_stops, copies_stop, copies_written}
 use Rattle.blazes_commands.proofs.sharding.shard.Goals as goal

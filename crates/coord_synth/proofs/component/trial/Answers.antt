@@ -8,6 +8,9 @@ use Rattle.coord_synth.specs.Plan.{trial}
 use Rattle.coord_synth.proofs.TrialLemmas.{can_try, stays_with, view_with}
 use Rattle.coord_synth.proofs.component.trial.Goals as goal
 
+pub tried_mode-mode-requires : goal.tried_mode-mode-requires
+tried_mode-mode-requires c = c.requires.component
+
 pub with_mode-requires : goal.with_mode-requires
 with_mode-requires c = can_try c.args.now.now.view c.args.component c.requires.component c.requires.unordered c.args.key c.tried_mode-mode.result c.requires.outside c.requires.key c.tried_mode-mode.ensures
 

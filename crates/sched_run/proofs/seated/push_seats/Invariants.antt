@@ -1,6 +1,6 @@
 -- the books of the replicas so far
 use Rattle.std.proofs.Common.{◌≡◌, length}
-use Rattle.sched_run.specs.Places.{instance_place}
+use Rattle.sched_lists.specs.Places.{instance_place}
 use Rattle.sched_run.specs.Code.First.{AreFirst}
 use Rattle.sched_run.proofs.seated.push_seats.Given as goal
 

@@ -1,6 +1,6 @@
 use Rattle.std.proofs.Common.{◌∙◌, ap}
 use Rattle.inbox.specs.Events.{Part}
-use Rattle.sched_run.specs.Places.{list_place}
+use Rattle.sched_lists.specs.Places.{list_place}
 use Rattle.sched_run.proofs.PartsFound.{list_within}
 use Rattle.sched_run.proofs.books.Books.message_of.Goals as goal
 

@@ -5,7 +5,7 @@ use Rattle.topo_types.specs.Sets.{below}
 use Rattle.topo_types.specs.View.{replicas_of}
 use Rattle.inbox.specs.Completeness.{left_at}
 use Rattle.inbox.specs.Wiring.{wiring_of}
-use Rattle.sched_run.specs.Limits.{message_limit}
+use Rattle.sched_lists.specs.Limits.{message_limit}
 use Rattle.sched_run.specs.Reading.{IsRead}
 use Rattle.sched_run.proofs.net.Net.left.Given as goal
 

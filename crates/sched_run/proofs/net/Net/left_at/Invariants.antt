@@ -4,7 +4,7 @@ use Rattle.std.specs.List.{sum_by}
 use Rattle.topo_types.specs.Sets.{below}
 use Rattle.inbox.specs.Completeness.{left_of, left_out}
 use Rattle.inbox.specs.Wiring.{wiring_of}
-use Rattle.sched_run.specs.Limits.{message_limit}
+use Rattle.sched_lists.specs.Limits.{message_limit}
 use Rattle.sched_run.specs.Reading.{IsRead}
 use Rattle.sched_run.proofs.net.Net.left_at.Given as goal
 

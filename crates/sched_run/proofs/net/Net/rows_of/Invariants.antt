@@ -1,7 +1,7 @@
 -- the records so far
 use Rattle.std.proofs.Common.{◌≡◌, take}
 use Rattle.topo_types.specs.Messages.{rows_in}
-use Rattle.sched_run.specs.Lists.{read_list}
+use Rattle.sched_lists.specs.Lists.{read_list}
 use Rattle.sched_run.proofs.net.Net.rows_of.Given as goal
 
 abbrev pub invariant-loop-message : goal.invariant-loop-message

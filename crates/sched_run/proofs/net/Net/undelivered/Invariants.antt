@@ -2,7 +2,7 @@
 use Rattle.std.proofs.Common.{◌≡◌, ◌≤◌, ◌*◌}
 use Rattle.std.specs.List.{sum_by}
 use Rattle.topo_types.specs.Sets.{below}
-use Rattle.sched_run.specs.Limits.{message_limit}
+use Rattle.sched_lists.specs.Limits.{message_limit}
 use Rattle.sched_run.specs.Code.Remaining.{unknown_at}
 use Rattle.sched_run.proofs.net.Net.undelivered.Given as goal
 

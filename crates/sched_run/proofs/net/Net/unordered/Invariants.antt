@@ -1,7 +1,7 @@
 -- those of the feeds so far, at most so many for each
 use Rattle.std.proofs.Common.{◌≡◌, ◌≤◌, ◌*◌, take}
 use Rattle.std.specs.List.{sum_by}
-use Rattle.sched_run.specs.Limits.{message_limit}
+use Rattle.sched_lists.specs.Limits.{message_limit}
 use Rattle.sched_run.specs.Code.Remaining.{unlogged_on}
 use Rattle.sched_run.proofs.net.Net.unordered.Given as goal
 

@@ -1,9 +1,0 @@
-use Rattle.std.proofs.Common.{◌∙◌, ◌≡◌, true, rules}
-use Rattle.blazes_commands.specs.Numbers.{is_decimal}
-use Rattle.blazes_commands.proofs.NumbersLemmas.{number_parsed}
-use Rattle.blazes_commands.proofs.numbers.number_of.Goals as goal
-
-pub returns : goal.returns
-returns c =
-    let digits : is_decimal c.args.most c.args.word.now ≡ true = search rules in
-    c.ok.ensures.value ∙ number_parsed c.args.most c.args.word.now c.parse.result c.parse.ensures.value.0 digits

@@ -1,0 +1,5 @@
+-- What private functions give.
+pub mod Ids
+pub mod Running
+pub mod Counts
+pub mod Sources

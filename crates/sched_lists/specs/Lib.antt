@@ -1,0 +1,5 @@
+pub mod Limits
+pub mod Lists
+pub mod Places
+pub mod Outlets
+pub mod Code

@@ -5,9 +5,9 @@ ghost use Rattle.sched_run.specs.Net.{BooksRun};
 ghost use Rattle.topo_types.specs.Data.{IsData};
 ghost use Rattle.blazes_commands.specs.Bench.{bench_states};
 ghost use Rattle.blazes_commands.specs.Checks as check;
-ghost use Rattle.blazes_commands.specs.Code.Ran.{answer_of, RepliesTo};
+ghost use Rattle.blazes_commands.specs.Code.Ran.{answer_of, Replies, RepliesTo};
 ghost use Rattle.blazes_words.specs.Requests.{files_shown};
-ghost use Rattle.blazes_commands.specs.Code.Runs.{IsOutcomeOf, KeepsKinds, ReportsBooks, RepliesAtOnce, TellsStatus};
+ghost use Rattle.blazes_commands.specs.Code.Runs.{IsOutcomeOf, KeepsKinds, ReportsBooks, RepliesAtOnce, TellsStatus, running_file};
 ghost use Rattle.blazes_commands.specs.Commands.{running};
 ghost use Rattle.blazes_commands.specs.Ends.{files_states, source};
 ghost use Rattle.blazes_words.specs.Words.{Asked};
@@ -118,6 +118,31 @@ fn run_lines(
     outcome
 }
 
+// The same under the schedule in the file of this name.
+fn run_file<F: Files>(
+    alloc: Global,
+    valid: &Valid,
+    given: Data,
+    name: &str,
+    files: &mut F,
+    bench: &mut Vec<Box<dyn Component>>,
+) -> Result<Reply, Stop>
+    requires { IsData valid.now.view given }
+    ensures replies { Replies
+        (files_states (source (F.held files.old) (F.steady files.old) (F.faults files.old))
+        (source (F.held files.new) (F.steady files.new) (F.faults files.new)))
+        (bench_states (map (λ b. kind b) bench.old.items) (map (λ b. kind b) bench.new.items)
+        (map (λ b. loaded b) bench.new.items) (map (λ b. kept b) bench.new.items))
+        result (running_file (map (λ b. kind b) bench.old.items) valid.now.view given name.now) }
+    ensures kinds { KeepsKinds
+        (bench_states (map (λ b. kind b) bench.old.items) (map (λ b. kind b) bench.new.items)
+        (map (λ b. loaded b) bench.new.items) (map (λ b. kept b) bench.new.items))
+        result }
+{
+    let schedule = schedule_file(alloc, name, files)?;
+    run_lines(alloc, valid, given, schedule.lines(), bench)
+}
+
 /// What the instances of the topology in one of these files emit over the data in another under the
 /// schedule in the third, with shells of the bench, which go back to its end.
 pub fn run<F: Files>(
@@ -139,6 +164,5 @@ pub fn run<F: Files>(
 {
     let valid = valid_topology(alloc, names.topology, files)?;
     let given = data_file(alloc, &valid, names.given, files)?;
-    let schedule = schedule_file(alloc, names.schedule, files)?;
-    run_lines(alloc, &valid, given, schedule.lines(), bench)
+    run_file(alloc, &valid, given, names.schedule, files, bench)
 }

@@ -30,7 +30,26 @@ fn placed_after(
     }
 }
 
-// The same of a worked topology, on a bench with what the word count needs.
+// The same over data and under a schedule in bytes, on a bench with what the word count needs.
+fn placed_by(
+    rt: &impl Abort,
+    alloc: Global,
+    valid: &Valid,
+    data: &[u8],
+    schedule: &[u8],
+) -> Result<Option<usize>, Fail> {
+    assert!(rt; data.len() < 1_000_000);
+    let schedule = sched_text::read(alloc, schedule)?;
+    let mut bench: Vec<Box<dyn Component>> = Vec::new(alloc);
+    bench.push(Box::new(alloc, SplitShell::new(alloc))?)?;
+    for _ in 0..2 {
+        bench.push(Box::new(alloc, PlainShell::new(alloc))?)?;
+    }
+    let given = data_read::read(alloc, data, valid)?;
+    placed_after(alloc, valid, given, schedule.lines(), &mut bench)
+}
+
+// The same of a worked topology.
 fn placed(
     rt: &impl Abort,
     alloc: Global,
@@ -38,16 +57,8 @@ fn placed(
     data: &[u8],
     schedule: &[u8],
 ) -> Result<Option<usize>, Fail> {
-    assert!(rt; data.len() < 1_000_000);
     let valid = valid_of(rt, alloc, worked)?;
-    let given = data_read::read(alloc, data, &valid)?;
-    let schedule = sched_text::read(alloc, schedule)?;
-    let mut bench: Vec<Box<dyn Component>> = Vec::new(alloc);
-    bench.push(Box::new(alloc, SplitShell::new(alloc))?)?;
-    for _ in 0..2 {
-        bench.push(Box::new(alloc, PlainShell::new(alloc))?)?;
-    }
-    placed_after(alloc, &valid, given, schedule.lines(), &mut bench)
+    placed_by(rt, alloc, &valid, data, schedule)
 }
 
 const TWEETS: &[u8] = br#"{"tweets": [[1, "a b a", 1], [2, "b", 1], [3, "a", 2]]}"#;

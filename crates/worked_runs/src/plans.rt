@@ -5,6 +5,7 @@ use coord_synth::{order_plan, seal_plan};
 use label_rules::Label;
 use label_walk::labels;
 use std::alloc::Global;
+use std::process::Abort;
 use std::test::Fail;
 use topo_types::{ComponentEntry, ModeName, Valid};
 
@@ -39,11 +40,16 @@ fn modes_of(alloc: Global, planned: &Valid) -> Result<String, Fail> {
     Ok(text)
 }
 
+// The modes of the plan by seals alone.
+fn seal_modes(alloc: Global, valid: &Valid) -> Result<String, Fail> {
+    let planned = seal_plan(alloc, valid)?;
+    modes_of(alloc, &planned)
+}
+
 #[test]
 fn seals_alone_serve_the_word_count(rt: HostRuntime) -> Result<(), Fail> {
     let valid = valid_of(&rt, rt.alloc(), &REPLICATED_WORD_COUNT)?;
-    let planned = seal_plan(rt.alloc(), &valid)?;
-    let modes = modes_of(rt.alloc(), &planned)?;
+    let modes = seal_modes(rt.alloc(), &valid)?;
     assert_eq!(rt;
         modes.as_str(),
         "split pass batch\ncount seal batch\ncommit pass batch\n"
@@ -51,17 +57,27 @@ fn seals_alone_serve_the_word_count(rt: HostRuntime) -> Result<(), Fail> {
     Ok(())
 }
 
-#[test]
-fn without_seals_the_word_count_takes_a_sequencer(rt: HostRuntime) -> Result<(), Fail> {
-    let valid = valid_of(&rt, rt.alloc(), &REPLICATED_WORD_COUNT)?;
-    let planned = order_plan(rt.alloc(), &valid)?;
-    let modes = modes_of(rt.alloc(), &planned)?;
+// A plan by sequencers alone has these modes and labels.
+fn check_ordered(rt: &impl Abort, alloc: Global, planned: &Valid) -> Result<(), Fail> {
+    let modes = modes_of(alloc, planned)?;
     assert_eq!(rt; modes.as_str(), "split free\ncount order\ncommit free\n");
-    let labels = labels(rt.alloc(), &planned)?;
+    let labels = labels(alloc, planned)?;
     let agree = matches!(
         labels.as_slice(),
         [Label::Seal(_), Label::Async, Label::Run, Label::Run]
     );
     assert!(rt; agree, "counts and commits are Run");
     Ok(())
+}
+
+// So it is for a topology.
+fn check_order_plan(rt: &impl Abort, alloc: Global, valid: &Valid) -> Result<(), Fail> {
+    let planned = order_plan(alloc, valid)?;
+    check_ordered(rt, alloc, &planned)
+}
+
+#[test]
+fn without_seals_the_word_count_takes_a_sequencer(rt: HostRuntime) -> Result<(), Fail> {
+    let valid = valid_of(&rt, rt.alloc(), &REPLICATED_WORD_COUNT)?;
+    check_order_plan(&rt, rt.alloc(), &valid)
 }

@@ -7,9 +7,11 @@ use Rattle.sched_run.specs.Net.{BooksStand, execution_in}
 use Rattle.sched_run.specs.declared.books.Books.{Books}
 use Rattle.blazes_commands.specs.Bench.{BenchStates, HasSameKinds}
 use Rattle.sched_run.specs.declared.applying.EventRefusal.{EventRefusal}
+use Rattle.blz_boxes.specs.declared.kind.ProgramKind.{ProgramKind}
+use Rattle.blazes_commands.specs.Checks as check
 use Rattle.blazes_commands.specs.Checks.{event_refusal}
-use Rattle.blazes_commands.specs.Commands.{Answer, HasContents, IsStatusOf, Work}
-use Rattle.blazes_commands.specs.Script.{Script}
+use Rattle.blazes_commands.specs.Commands.{Answer, HasContents, IsStatusOf, Work, running}
+use Rattle.blazes_commands.specs.Script.{Bytes, Script, ◌>>=◌}
 use Rattle.blazes_commands.specs.Ends.{Source, files_states}
 use Rattle.blazes_commands.specs.Code.Ran.{answer_of, IsStopAt, Replies}
 use Rattle.blazes_commands.specs.declared.reply.Reply.{Reply}
@@ -42,3 +44,7 @@ KeepsKinds bench (Ok reply) = HasSameKinds bench
 KeepsKinds bench (Err (Refused line)) = HasSameKinds bench
 KeepsKinds bench (Err (Failed name)) = HasSameKinds bench
 KeepsKinds bench (Err NoMemory) = Unit {0}
+
+-- a run of a topology over its data, from the file of the schedule on
+abbrev pub running_file : List ProgramKind → View → Data → Bytes → Script Work
+running_file kinds v given name = check.schedule_file name >>= running kinds v given

@@ -1,14 +1,11 @@
-use Rattle.std.proofs.Common.{List, map, subst}
+use Rattle.std.proofs.Common.{map}
 use Rattle.std.proofs.lemmas.List.Sorted.{IsPermutation-refl}
-use Rattle.sched_run.specs.Applying.{Line}
 use Rattle.blazes_commands.specs.Bench.{bench_states}
 use Rattle.blazes_words.specs.Requests.{files_shown}
-use Rattle.blazes_commands.specs.Code.Runs.{RepliesAtOnce}
-use Rattle.blazes_commands.specs.Commands.{running}
 use Rattle.blazes_commands.specs.Ends.{source, files_states}
 use Rattle.blazes_commands.proofs.CommandFiles.{topology_stops, data_stops, files_then}
 use Rattle.blazes_commands.proofs.CommandLemmas.{kept_anyway}
-use Rattle.blazes_commands.proofs.RunLemmas.{with_schedule, schedule_stops, schedule_then}
+use Rattle.blazes_commands.proofs.RunLemmas.{with_schedule}
 use Rattle.blazes_commands.proofs.running.run.Goals as goal
 
 pub returns-in_err-valid : goal.returns-in_err-valid
@@ -35,35 +32,15 @@ returns-in_err-given g c =
       kinds = kept_anyway bench c.from_residual-in_err-given.result (IsPermutation-refl bench.kinds);
     }
 
-pub returns-in_err-schedule : goal.returns-in_err-schedule
-returns-in_err-schedule g c =
-    let asked = files_shown c.args.names in
-    let bench = bench_states (map (λ b. (goal.Component-dyn g (b.vtable, b.value)).kind b.value) c.args.bench.now.items) (map (λ b. (goal.Component-dyn g (b.vtable, b.value)).kind b.value) c.args.bench.now.items) (map (λ b. (goal.Component-dyn g (b.vtable, b.value)).loaded b.value) c.args.bench.now.items) (map (λ b. (goal.Component-dyn g (b.vtable, b.value)).kept b.value) c.args.bench.now.items) in
-    let a = source (g.F.Files.held c.args.files.now) (g.F.Files.steady c.args.files.now) (g.F.Files.faults c.args.files.now) in
-    let b = source (g.F.Files.held c.valid_topology.new.files) (g.F.Files.steady c.valid_topology.new.files) (g.F.Files.faults c.valid_topology.new.files) in
-    let d = source (g.F.Files.held c.data_file.new.files) (g.F.Files.steady c.data_file.new.files) (g.F.Files.faults c.data_file.new.files) in
-    let e = source (g.F.Files.held c.schedule_file.new.files) (g.F.Files.steady c.schedule_file.new.files) (g.F.Files.faults c.schedule_file.new.files) in
-    let result = c.from_residual-in_err-schedule.result in
-    record {
-      replies = files_then bench asked.topology asked.given (with_schedule bench asked) result a b d e c.in_ok-valid.valid c.in_ok-given.given c.in_ok-valid.ensures c.in_ok-given.ensures.ran
-          (schedule_stops bench asked result d e c.in_ok-valid.valid c.in_ok-given.given c.in_err-schedule.field-0.0 c.from_residual-in_err-schedule.ensures.1 c.in_err-schedule.ensures);
-      kinds = kept_anyway bench result (IsPermutation-refl bench.kinds);
-    }
-
 pub returns : goal.returns
 returns g c =
     let asked = files_shown c.args.names in
-    let bench = bench_states (map (λ b. (goal.Component-dyn g (b.vtable, b.value)).kind b.value) c.args.bench.now.items) (map (λ b. (goal.Component-dyn g (b.vtable, b.value)).kind b.value) c.run_lines.new.bench.items) (map (λ b. (goal.Component-dyn g (b.vtable, b.value)).loaded b.value) c.run_lines.new.bench.items) (map (λ b. (goal.Component-dyn g (b.vtable, b.value)).kept b.value) c.run_lines.new.bench.items) in
+    let bench = bench_states (map (λ b. (goal.Component-dyn g (b.vtable, b.value)).kind b.value) c.args.bench.now.items) (map (λ b. (goal.Component-dyn g (b.vtable, b.value)).kind b.value) c.run_file.new.bench.items) (map (λ b. (goal.Component-dyn g (b.vtable, b.value)).loaded b.value) c.run_file.new.bench.items) (map (λ b. (goal.Component-dyn g (b.vtable, b.value)).kept b.value) c.run_file.new.bench.items) in
     let a = source (g.F.Files.held c.args.files.now) (g.F.Files.steady c.args.files.now) (g.F.Files.faults c.args.files.now) in
     let b = source (g.F.Files.held c.valid_topology.new.files) (g.F.Files.steady c.valid_topology.new.files) (g.F.Files.faults c.valid_topology.new.files) in
     let d = source (g.F.Files.held c.data_file.new.files) (g.F.Files.steady c.data_file.new.files) (g.F.Files.faults c.data_file.new.files) in
-    let e = source (g.F.Files.held c.schedule_file.new.files) (g.F.Files.steady c.schedule_file.new.files) (g.F.Files.faults c.schedule_file.new.files) in
-    let v = c.in_ok-valid.valid.view in
-    let given = c.in_ok-given.given in
-    let result = c.run_lines.result in
+    let e = source (g.F.Files.held c.run_file.new.files) (g.F.Files.steady c.run_file.new.files) (g.F.Files.faults c.run_file.new.files) in
     record {
-      replies = files_then bench asked.topology asked.given (with_schedule bench asked) result a b d e c.in_ok-valid.valid given c.in_ok-valid.ensures c.in_ok-given.ensures.ran
-          (schedule_then bench asked result d e c.in_ok-valid.valid given c.in_ok-schedule.schedule c.in_ok-schedule.ensures
-          (subst (λ (lines : List Line). RepliesAtOnce bench result (running bench.kinds v given lines)) c.lines.ensures c.run_lines.ensures.replies));
-      kinds = c.run_lines.ensures.kinds;
+      replies = files_then bench asked.topology asked.given (with_schedule bench asked) c.run_file.result a b d e c.in_ok-valid.valid c.in_ok-given.given c.in_ok-valid.ensures c.in_ok-given.ensures.ran c.run_file.ensures.replies;
+      kinds = c.run_file.ensures.kinds;
     }

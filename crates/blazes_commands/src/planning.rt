@@ -1,5 +1,6 @@
 //! The command that plans a topology.
-ghost use Rattle.std.specs.Prelude.{◌≡◌, IfOk};
+ghost use Rattle.std.specs.Prelude.{◌≡◌, IfOk, Ok};
+ghost use Rattle.topo_read.specs.Reading.{IsReading};
 ghost use Rattle.blazes_commands.specs.Bench.{BenchStates};
 ghost use Rattle.blazes_commands.specs.Code.Ran.{RepliesTo, answer_of};
 ghost use Rattle.blazes_commands.specs.Commands.{HasPlan};
@@ -14,12 +15,19 @@ use std::alloc::{AllocError, Global};
 use topo_read::{topology_of, write};
 use topo_types::Valid;
 
+// The text of a file that is read as this topology, in format 2.
+fn text_of(alloc: Global, planned: &Valid) -> Result<Vec<u8>, AllocError>
+    ensures { IfOk result (λ text. IsReading text.items (Ok (record planned.now.topology { format = 2 }))) }
+{
+    let topology = topology_of(alloc, planned)?;
+    write(alloc, &topology)
+}
+
 fn planned(alloc: Global, valid: &Valid) -> Result<Reply, AllocError>
     ensures { IfOk result (λ reply. HasPlan valid.now (answer_of reply)) }
 {
     let planned = coord_synth::plan(alloc, valid)?;
-    let topology = topology_of(alloc, &planned)?;
-    Ok(done(write(alloc, &topology)?))
+    Ok(done(text_of(alloc, &planned)?))
 }
 
 /// The plan of the topology in the file of this name, as a file of a topology.

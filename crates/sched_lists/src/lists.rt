@@ -104,7 +104,7 @@ impl Lists {
         self.lists[place].messages()
     }
 
-    // What holds of all lists; the call does nothing.
+    /// What holds of all lists; the call does nothing.
     pub fn known(&self)
         ensures given { AllAreGiven self.now }
         ensures few { total self.now.lists ≤ message_limit }

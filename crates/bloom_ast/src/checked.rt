@@ -12,7 +12,7 @@ use std::marker::Model;
 
 /// A module that was checked, with the order in which a step takes its heads, and its rules by
 /// numbers.
-#[derive(Debug, Drop)]
+#[derive(Drop)]
 pub struct Checked {
     module: Module,
     heads: Vec<u32>,

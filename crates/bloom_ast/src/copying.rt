@@ -55,30 +55,49 @@ impl Term {
     }
 }
 
+fn boxed_pred(alloc: Global, pred: Pred) -> Result<Box<Pred>, AllocError>
+    ensures { IfOk result (λ boxed. boxed.value ≡ pred) }
+{
+    Ok(Box::new(alloc, pred)?)
+}
+
+// An equal predicate in a box. It recurses as deep as the predicate.
+fn copy_pred(alloc: Global, pred: &Pred) -> Result<Box<Pred>, AllocError>
+    ensures copied { IfOk result (λ copy. formula_of copy.value ≡ formula_of pred.now) }
+    ensures literals { IfOk result (λ _. FormulaLiterals (formula_of pred.now)) }
+{
+    match pred {
+        Pred::Compare { left, op, right } => {
+            let left = left.copy()?;
+            let right = right.copy()?;
+            let op = *op;
+            boxed_pred(alloc, Pred::Compare { left, op, right })
+        }
+        Pred::And(a, b) => {
+            let a = copy_pred(alloc, a)?;
+            let b = copy_pred(alloc, b)?;
+            boxed_pred(alloc, Pred::And(a, b))
+        }
+        Pred::Or(a, b) => {
+            let a = copy_pred(alloc, a)?;
+            let b = copy_pred(alloc, b)?;
+            boxed_pred(alloc, Pred::Or(a, b))
+        }
+        Pred::Not(a) => {
+            let a = copy_pred(alloc, a)?;
+            boxed_pred(alloc, Pred::Not(a))
+        }
+    }
+}
+
 impl Pred {
     /// An equal predicate of its own.
     pub fn copy(&self, alloc: Global) -> Result<Pred, AllocError>
         ensures copied { IfOk result (λ pred. formula_of pred ≡ formula_of self.now) }
         ensures literals { IfOk result (λ _. FormulaLiterals (formula_of self.now)) }
     {
-        match self {
-            Pred::Compare { left, op, right } => Ok(Pred::Compare {
-                left: left.copy()?,
-                op: *op,
-                right: right.copy()?,
-            }),
-            Pred::And(a, b) => {
-                let a = Box::new(alloc, a.copy(alloc)?)?;
-                let b = Box::new(alloc, b.copy(alloc)?)?;
-                Ok(Pred::And(a, b))
-            }
-            Pred::Or(a, b) => {
-                let a = Box::new(alloc, a.copy(alloc)?)?;
-                let b = Box::new(alloc, b.copy(alloc)?)?;
-                Ok(Pred::Or(a, b))
-            }
-            Pred::Not(a) => Ok(Pred::Not(Box::new(alloc, a.copy(alloc)?)?)),
-        }
+        let copy = copy_pred(alloc, self)?;
+        Ok(Box::into_inner(copy))
     }
 }
 
@@ -96,42 +115,67 @@ impl NamedAgg {
     }
 }
 
+fn boxed(alloc: Global, expr: Expr) -> Result<Box<Expr>, AllocError>
+    ensures { IfOk result (λ boxed. boxed.value ≡ expr) }
+{
+    Ok(Box::new(alloc, expr)?)
+}
+
+// An equal expression in a box. It recurses as deep as the expression.
+fn copy_expr(alloc: Global, expr: &Expr) -> Result<Box<Expr>, AllocError>
+    ensures copied { IfOk result (λ copy. query_of copy.value ≡ query_of expr.now) }
+    ensures literals { IfOk result (λ _. HasLiterals (query_of expr.now)) }
+{
+    match expr {
+        Expr::Base(name) => {
+            let name = name.copy()?;
+            boxed(alloc, Expr::Base(name))
+        }
+        Expr::Select(part, pred) => {
+            let pred = copy_pred(alloc, pred)?;
+            let part = copy_expr(alloc, part)?;
+            boxed(alloc, Expr::Select(part, Box::into_inner(pred)))
+        }
+        Expr::Project(part, items) => {
+            let items = copy_pairs(alloc, items.as_slice())?;
+            let part = copy_expr(alloc, part)?;
+            boxed(alloc, Expr::Project(part, items))
+        }
+        Expr::Join(a, b, pairs) => {
+            let a = copy_expr(alloc, a)?;
+            let b = copy_expr(alloc, b)?;
+            let pairs = copy_pairs(alloc, pairs.as_slice())?;
+            boxed(alloc, Expr::Join(a, b, pairs))
+        }
+        Expr::NotIn(a, b, pairs) => {
+            let a = copy_expr(alloc, a)?;
+            let b = copy_expr(alloc, b)?;
+            let pairs = copy_pairs(alloc, pairs.as_slice())?;
+            boxed(alloc, Expr::NotIn(a, b, pairs))
+        }
+        Expr::Group(part, keys, agg, name) => {
+            let part = copy_expr(alloc, part)?;
+            let keys = copy_names(alloc, keys.as_slice())?;
+            let agg = agg.copy()?;
+            let name = name.copy()?;
+            boxed(alloc, Expr::Group(part, keys, agg, name))
+        }
+        Expr::AtLeast(part, keys, bound) => {
+            let part = copy_expr(alloc, part)?;
+            let keys = copy_names(alloc, keys.as_slice())?;
+            boxed(alloc, Expr::AtLeast(part, keys, *bound))
+        }
+    }
+}
+
 impl Expr {
     /// An equal expression of its own.
     pub fn copy(&self, alloc: Global) -> Result<Expr, AllocError>
         ensures copied { IfOk result (λ expr. query_of expr ≡ query_of self.now) }
         ensures literals { IfOk result (λ _. HasLiterals (query_of self.now)) }
     {
-        match self {
-            Expr::Base(name) => Ok(Expr::Base(name.copy()?)),
-            Expr::Select(part, pred) => {
-                let part = Box::new(alloc, part.copy(alloc)?)?;
-                Ok(Expr::Select(part, pred.copy(alloc)?))
-            }
-            Expr::Project(part, items) => {
-                let part = Box::new(alloc, part.copy(alloc)?)?;
-                Ok(Expr::Project(part, copy_pairs(alloc, items.as_slice())?))
-            }
-            Expr::Join(a, b, pairs) => {
-                let a = Box::new(alloc, a.copy(alloc)?)?;
-                let b = Box::new(alloc, b.copy(alloc)?)?;
-                Ok(Expr::Join(a, b, copy_pairs(alloc, pairs.as_slice())?))
-            }
-            Expr::NotIn(a, b, pairs) => {
-                let a = Box::new(alloc, a.copy(alloc)?)?;
-                let b = Box::new(alloc, b.copy(alloc)?)?;
-                Ok(Expr::NotIn(a, b, copy_pairs(alloc, pairs.as_slice())?))
-            }
-            Expr::Group(part, keys, agg, name) => {
-                let part = Box::new(alloc, part.copy(alloc)?)?;
-                let keys = copy_names(alloc, keys.as_slice())?;
-                Ok(Expr::Group(part, keys, agg.copy()?, name.copy()?))
-            }
-            Expr::AtLeast(part, keys, bound) => {
-                let part = Box::new(alloc, part.copy(alloc)?)?;
-                Ok(Expr::AtLeast(part, copy_names(alloc, keys.as_slice())?, *bound))
-            }
-        }
+        let copy = copy_expr(alloc, self)?;
+        Ok(Box::into_inner(copy))
     }
 }
 

@@ -2,7 +2,7 @@
 use blz_value::{Items, Op, Str, Value};
 
 /// One side of a comparison.
-#[derive(Debug, Drop)]
+#[derive(Drop)]
 pub enum Term {
     /// The value in the column of this name.
     Column(Str),
@@ -11,7 +11,7 @@ pub enum Term {
 }
 
 /// A predicate over rows.
-#[derive(Debug, Drop)]
+#[derive(Drop)]
 pub enum Pred {
     /// The comparison holds of the two terms.
     Compare { left: Term, op: Op, right: Term },
@@ -24,7 +24,7 @@ pub enum Pred {
 }
 
 /// What a group makes of the rows of one key.
-#[derive(Debug, Drop)]
+#[derive(Drop)]
 pub enum NamedAgg {
     /// The number of rows.
     Count,
@@ -37,7 +37,7 @@ pub enum NamedAgg {
 }
 
 /// An expression over collections.
-#[derive(Debug, Drop)]
+#[derive(Drop)]
 pub enum Expr {
     /// The rows of the collection of this name.
     Base(Str),

@@ -16,7 +16,7 @@ pub enum Kind {
 }
 
 /// A collection and its columns in order.
-#[derive(Debug, Drop)]
+#[derive(Drop)]
 pub struct Collection {
     pub kind: Kind,
     pub name: Str,
@@ -24,14 +24,14 @@ pub struct Collection {
 }
 
 /// A rule: the head gets the rows of the body.
-#[derive(Debug, Drop)]
+#[derive(Drop)]
 pub struct Rule {
     pub head: Str,
     pub body: Expr,
 }
 
 /// A module: its name, its collections and its rules, each in the order of the text.
-#[derive(Debug, Drop)]
+#[derive(Drop)]
 pub struct Module {
     pub name: Str,
     pub collections: Items<Collection>,

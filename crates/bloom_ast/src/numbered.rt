@@ -2,7 +2,7 @@
 use blz_value::{Agg, Items, Test};
 
 /// An expression over collections and columns by their numbers.
-#[derive(Debug, Drop)]
+#[derive(Drop)]
 pub enum NumberedExpr {
     /// The rows of the collection with this number.
     Base(u32),
@@ -22,7 +22,7 @@ pub enum NumberedExpr {
 }
 
 /// A rule by numbers: the collection with the number of the head gets the rows of the body.
-#[derive(Debug, Drop)]
+#[derive(Drop)]
 pub struct NumberedRule {
     pub head: u32,
     pub body: NumberedExpr,

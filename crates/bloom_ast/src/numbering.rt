@@ -1,5 +1,5 @@
 //! The numbers of the names in expressions and rules.
-ghost use Rattle.std.specs.Prelude.{◌≡◌, ◌≤◌, ◌<◌, List, length, IfOk};
+ghost use Rattle.std.specs.Prelude.{◌≡◌, ◌≤◌, ◌<◌, ◌++◌, ◌∷◌, [], List, length, IfOk};
 ghost use Rattle.blz_value.specs.Members.{Has};
 ghost use Rattle.bloom_ast.specs.Code.Borrowed.{names_in};
 ghost use Rattle.bloom_ast.specs.Columns as spec;
@@ -130,11 +130,31 @@ fn test(alloc: Global, columns: &[&Str], pred: &Pred) -> Result<Test, AllocError
     }
 }
 
+// The expression in a box: a part that is held in one costs the prover less than the expression itself.
+fn boxed(alloc: Global, expr: NumberedExpr) -> Result<Box<NumberedExpr>, AllocError>
+    ensures { IfOk result (λ boxed. boxed.value ≡ expr) }
+{
+    Ok(Box::new(alloc, expr)?)
+}
+
 /// A part of a body by numbers, with the names of its columns.
 #[derive(Drop)]
 struct NumberedPart<'a> {
-    expr: NumberedExpr,
+    expr: Box<NumberedExpr>,
     columns: Vec<&'a Str>,
+}
+
+// The columns of a group: its keys, and the name of the aggregate.
+fn group_columns<'a>(
+    alloc: Global,
+    keys: &'a [Str],
+    name: &'a Str,
+) -> Result<Vec<&'a Str>, AllocError>
+    ensures { IfOk result (λ columns. names_in columns.items ≡ keys.now ++ name.now ∷ []) }
+{
+    let mut columns = fits::borrowed(alloc, keys)?;
+    columns.push(name)?;
+    Ok(columns)
 }
 
 impl<'a> NumberedPart<'a> {
@@ -143,22 +163,21 @@ impl<'a> NumberedPart<'a> {
         requires fits { FormulaFits (names_in self.columns.items) (formula_of pred.now) }
         ensures { IfOk result (λ part. (cs : List Collection) (q : Query) → IsNumberedPart cs q self.entry → IsNumberedPart cs (select q (formula_of pred.now)) part) }
     {
-        let test = test(alloc, &self.columns, pred)?;
-        Ok(NumberedPart {
-            expr: NumberedExpr::Select(Box::new(alloc, self.expr)?, test),
-            columns: self.columns,
-        })
+        let NumberedPart { expr, columns } = self;
+        let test = test(alloc, &columns, pred)?;
+        let expr = boxed(alloc, NumberedExpr::Select(expr, test))?;
+        Ok(NumberedPart { expr, columns })
     }
 
     fn project(self, alloc: Global, items: &'a [(Str, Str)]) -> Result<NumberedPart<'a>, AllocError>
         requires { length self.columns.items ≤ 8 }
         ensures { IfOk result (λ part. (cs : List Collection) (q : Query) → IsNumberable (declared cs) (project q items.now) → IsNumberedPart cs q self.entry → IsNumberedPart cs (project q items.now) part) }
     {
-        let numbers = item_numbers(alloc, &self.columns, items)?;
-        Ok(NumberedPart {
-            expr: NumberedExpr::Project(Box::new(alloc, self.expr)?, numbers),
-            columns: fits::seconds(alloc, items)?,
-        })
+        let NumberedPart { expr, columns } = self;
+        let numbers = item_numbers(alloc, &columns, items)?;
+        let expr = boxed(alloc, NumberedExpr::Project(expr, numbers))?;
+        let columns = fits::seconds(alloc, items)?;
+        Ok(NumberedPart { expr, columns })
     }
 
     fn join(
@@ -171,13 +190,18 @@ impl<'a> NumberedPart<'a> {
         requires right { length other.columns.items ≤ 8 }
         ensures { IfOk result (λ part. (cs : List Collection) (a b : Query) → IsNumberable (declared cs) (join a b pairs.now) → IsNumberedPart cs a self.entry → IsNumberedPart cs b other.entry → IsNumberedPart cs (join a b pairs.now) part) }
     {
-        let numbers = pair_numbers(alloc, &self.columns, &other.columns, pairs)?;
-        let left = Box::new(alloc, self.expr)?;
-        let right = Box::new(alloc, other.expr)?;
-        Ok(NumberedPart {
-            expr: NumberedExpr::Join(left, right, numbers),
-            columns: fits::joined(self.columns, &other.columns, pairs)?,
-        })
+        let NumberedPart {
+            expr: left,
+            columns,
+        } = self;
+        let NumberedPart {
+            expr: right,
+            columns: others,
+        } = other;
+        let numbers = pair_numbers(alloc, &columns, &others, pairs)?;
+        let expr = boxed(alloc, NumberedExpr::Join(left, right, numbers))?;
+        let all = fits::joined(columns, &others, pairs)?;
+        Ok(NumberedPart { expr, columns: all })
     }
 
     fn not_in(
@@ -190,13 +214,17 @@ impl<'a> NumberedPart<'a> {
         requires right { length other.columns.items ≤ 8 }
         ensures { IfOk result (λ part. (cs : List Collection) (a b : Query) → IsNumberedPart cs a self.entry → IsNumberedPart cs b other.entry → IsNumberedPart cs (notin a b pairs.now) part) }
     {
-        let numbers = pair_numbers(alloc, &self.columns, &other.columns, pairs)?;
-        let left = Box::new(alloc, self.expr)?;
-        let right = Box::new(alloc, other.expr)?;
-        Ok(NumberedPart {
-            expr: NumberedExpr::NotIn(left, right, numbers),
-            columns: self.columns,
-        })
+        let NumberedPart {
+            expr: left,
+            columns,
+        } = self;
+        let NumberedPart {
+            expr: right,
+            columns: others,
+        } = other;
+        let numbers = pair_numbers(alloc, &columns, &others, pairs)?;
+        let expr = boxed(alloc, NumberedExpr::NotIn(left, right, numbers))?;
+        Ok(NumberedPart { expr, columns })
     }
 
     fn group(
@@ -209,14 +237,12 @@ impl<'a> NumberedPart<'a> {
         requires { length self.columns.items ≤ 8 }
         ensures { IfOk result (λ part. (cs : List Collection) (q : Query) → IsNumberable (declared cs) (group q keys.now agg.now name.now) → IsNumberedPart cs q self.entry → IsNumberedPart cs (group q keys.now agg.now name.now) part) }
     {
-        let numbers = column_numbers(alloc, &self.columns, keys)?;
-        let agg = numbered_agg(&self.columns, agg);
-        let mut columns = fits::borrowed(alloc, keys)?;
-        columns.push(name)?;
-        Ok(NumberedPart {
-            expr: NumberedExpr::Group(Box::new(alloc, self.expr)?, numbers, agg),
-            columns,
-        })
+        let NumberedPart { expr, columns } = self;
+        let numbers = column_numbers(alloc, &columns, keys)?;
+        let agg = numbered_agg(&columns, agg);
+        let expr = boxed(alloc, NumberedExpr::Group(expr, numbers, agg))?;
+        let all = group_columns(alloc, keys, name)?;
+        Ok(NumberedPart { expr, columns: all })
     }
 
     fn at_least(
@@ -228,12 +254,14 @@ impl<'a> NumberedPart<'a> {
         requires { length self.columns.items ≤ 8 }
         ensures { IfOk result (λ part. (cs : List Collection) (q : Query) → IsNumberable (declared cs) (at_least q keys.now bound) → IsNumberedPart cs q self.entry → IsNumberedPart cs (at_least q keys.now bound) part) }
     {
-        let numbers = column_numbers(alloc, &self.columns, keys)?;
-        let expr = Box::new(alloc, self.expr)?;
-        Ok(NumberedPart {
-            expr: NumberedExpr::AtLeast(expr, numbers, row_bound(bound)),
-            columns: fits::borrowed(alloc, keys)?,
-        })
+        let NumberedPart { expr, columns } = self;
+        let numbers = column_numbers(alloc, &columns, keys)?;
+        let expr = boxed(
+            alloc,
+            NumberedExpr::AtLeast(expr, numbers, row_bound(bound)),
+        )?;
+        let columns = fits::borrowed(alloc, keys)?;
+        Ok(NumberedPart { expr, columns })
     }
 }
 
@@ -247,10 +275,10 @@ fn base_part<'a>(
     requires narrow { IsNumberable (declared collections.now) (base name.now) }
     ensures { IfOk result (IsNumberedPart collections.now (base name.now)) }
 {
-    Ok(NumberedPart {
-        expr: NumberedExpr::Base(collection_number(collections, name) as u32),
-        columns: fits::borrowed(alloc, declared(collections, name))?,
-    })
+    let columns = fits::borrowed(alloc, declared(collections, name))?;
+    let number = collection_number(collections, name) as u32;
+    let expr = boxed(alloc, NumberedExpr::Base(number))?;
+    Ok(NumberedPart { expr, columns })
 }
 
 // An expression by numbers. It recurses as deep as the expression.
@@ -306,7 +334,7 @@ fn numbered_rule(
     let part = numbered_part(alloc, collections, &rule.body)?;
     Ok(NumberedRule {
         head: collection_number(collections, &rule.head) as u32,
-        body: part.expr,
+        body: Box::into_inner(part.expr),
     })
 }
 

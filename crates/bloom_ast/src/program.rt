@@ -17,7 +17,7 @@ use blz_value::{Items, Str};
 
 /// What a component does: a module that was checked, or a stock body. A stock body has at most eight
 /// columns, each once, and its columns are numbered from 0.
-#[derive(Debug, Drop)]
+#[derive(Drop)]
 pub enum Program {
     /// A module.
     Module(Checked),

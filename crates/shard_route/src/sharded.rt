@@ -4,14 +4,14 @@ use blz_value::{Items, Str};
 use topo_types::Topology;
 
 /// The module of a copy, and the file that the topology names for it.
-#[derive(Debug, Drop)]
+#[derive(Drop)]
 pub struct ShardFile {
     pub name: Str,
     pub module: Checked,
 }
 
 /// A topology in which copies stand in the place of a component, and their modules in order.
-#[derive(Debug, Drop)]
+#[derive(Drop)]
 pub struct Sharded {
     pub topology: Topology,
     pub files: Items<ShardFile>,

@@ -10,7 +10,7 @@ use std::alloc::{AllocError, Global};
 use std::collections::BTreeMap;
 
 /// The numbers of streams, components and ports, by their names.
-#[derive(Debug, Drop)]
+#[derive(Drop)]
 pub(crate) struct Index {
     pub(crate) streams: BTreeMap<Str, usize>,
     pub(crate) components: BTreeMap<Str, usize>,

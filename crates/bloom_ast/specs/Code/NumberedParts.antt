@@ -10,6 +10,6 @@ use Rattle.bloom_ast.specs.Query.{Query}
 
 -- a part is an expression by numbers with the expression's columns, which are few
 pub record IsNumberedPart (cs : List Collection) (q : Query) (part : NumberedPart) : Type 0 where
-  pub expr : IsNumbered cs q part.expr
+  pub expr : IsNumbered cs q part.expr.value
   pub columns : names_in part.columns.items ≡ columns_of (declared cs) q
   pub few : length part.columns.items ≤ 8

@@ -13,7 +13,7 @@ use fd_closure::{Attrs, Fd, closure};
 use std::alloc::{AllocError, Global};
 
 /// What the rules of a module say of its collections, by their numbers.
-#[derive(Debug, Drop)]
+#[derive(Drop)]
 pub(crate) struct Facts {
     /// Who reads a rule's head reads what its body names.
     pub(crate) all: Items<Fd>,

@@ -8,7 +8,7 @@ use fd_closure::Attrs;
 use std::alloc::{AllocError, Global};
 
 /// What is found of a view.
-#[derive(Debug, Drop)]
+#[derive(Drop)]
 pub(crate) struct Found {
     /// The members of each region.
     pub(crate) regions: Items<u64>,

@@ -11,4 +11,3 @@ loop-word-preserved c = grind (arith, common_steps)
 
 pub returns-clause-value : goal.returns-clause-value
 returns-clause-value c = grind (arith, common_steps)
-

@@ -3,7 +3,7 @@ use Rattle.std.specs.Prelude.{if◌then◌else◌, ℕ, suc, ◌+◌, ◌||◌, 
 use Rattle.std.specs.List.{list_any}
 use Rattle.blz_value.specs.declared.value.Value.{Value}
 use Rattle.blz_value.specs.declared.value.Value.TheVariants.{Int, Text}
-use Rattle.bloom_ast.specs.declared.checking.bounds.TheConstants.{MOST_LEVELS, MOST_COMPARISONS, MOST_BYTES}
+use Rattle.bloom_ast.specs.declared.limits.TheConstants.{MOST_LEVELS, MOST_COMPARISONS, MOST_BYTES}
 use Rattle.bloom_ast.specs.declared.expr.Term.{Term}
 use Rattle.bloom_ast.specs.declared.expr.Term.TheVariants.{Column, Literal}
 use Rattle.bloom_ast.specs.Query.{Formula, Query}

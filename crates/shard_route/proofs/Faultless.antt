@@ -9,7 +9,7 @@ use Rattle.blz_value.specs.FirstPlace.{first_place}
 use Rattle.blz_value.specs.Members.{Has}
 use Rattle.fd_closure.specs.Bits.{meets}
 use Rattle.fd_closure.specs.Closure.{closure}
-use Rattle.bloom_ast.specs.declared.checking.bounds.TheConstants.{MOST_LEVELS}
+use Rattle.bloom_ast.specs.declared.limits.TheConstants.{MOST_LEVELS}
 use Rattle.bloom_ast.specs.declared.fault.ModuleFault.{ModuleFault}
 use Rattle.bloom_ast.specs.declared.fault.ModuleKind.{ModuleKind}
 use Rattle.bloom_ast.specs.declared.fault.ModuleKind.TheVariants as kind

@@ -1,7 +1,7 @@
 -- Copies of a module: one for each bucket of a column, with every port under the bucket's test.
 use Rattle.std.specs.Prelude.{ℤ, ◌&&◌, not, Bool, nat_lt, List, map}
 use Rattle.std.specs.List.{list_any}
-use Rattle.bloom_ast.specs.declared.checking.bounds.TheConstants.{MOST_LEVELS}
+use Rattle.bloom_ast.specs.declared.limits.TheConstants.{MOST_LEVELS}
 use Rattle.bloom_ast.specs.declared.module.Collection.{Collection}
 use Rattle.bloom_ast.specs.Bounds.{query_levels}
 use Rattle.bloom_ast.specs.Fits.{has_name}

@@ -1,5 +1,5 @@
 -- Levels, comparisons and heights.
-use Rattle.std.proofs.Common.{◌≡◌, ◌≤◌, ◌<◌, ◌+◌, ◌-◌, ◌||◌, ◌&&◌, inl, inr, ℕ, suc, max, Bool, true, false, nat_le, nat_lt, refl, arith, ◌∙◌, sym}
+use Rattle.std.proofs.Common.{◌≡◌, ◌≤◌, ◌<◌, ◌+◌, ◌-◌, ◌&&◌, inl, inr, ℕ, suc, max, Bool, true, false, nat_le, nat_lt, arith, ◌∙◌, sym}
 use Rattle.std.specs.List.{list_any}
 use Rattle.std.proofs.lemmas.Bool.{cases_Bool}
 use Rattle.std.proofs.lemmas.List.Folds.{list_any-append}

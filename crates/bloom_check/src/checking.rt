@@ -1,10 +1,10 @@
 //! The check of a module.
-ghost use Rattle.std.specs.Prelude.{◌≡◌, ◌<◌, ◌≤◌, ℕ, length, [], IfOk, IfSome};
+ghost use Rattle.std.specs.Prelude.{◌≡◌, ◌<◌, ◌≤◌, length, [], IfOk, IfSome};
 ghost use Rattle.blz_value.specs.FirstPlace.{first_place};
 ghost use Rattle.bloom_ast.specs.Checks.{Checks};
 ghost use Rattle.bloom_check.specs.Code.Checking as checking;
 ghost use Rattle.bloom_ast.specs.Faults as spec;
-ghost use Rattle.bloom_ast.specs.Form.{form_of, rule_form, rule_forms};
+ghost use Rattle.bloom_ast.specs.Form.{form_of, rule_forms};
 ghost use Rattle.bloom_ast.specs.HeadOrder as order;
 ghost use Rattle.bloom_ast.specs.HeadOrder.{heads_of};
 ghost use Rattle.bloom_ast.specs.Reads.{facts_of as facts_in};

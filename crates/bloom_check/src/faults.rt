@@ -1,5 +1,5 @@
 //! Whether a collection or a rule has a fault of a kind.
-ghost use Rattle.std.specs.Prelude.{◌≡◌, ◌≤◌, length, take, IfOk};
+ghost use Rattle.std.specs.Prelude.{◌≡◌, ◌≤◌, length, IfOk};
 ghost use Rattle.std.specs.List.{list_all, count_by};
 ghost use Rattle.bloom_ast.specs.Faults as spec;
 ghost use Rattle.bloom_ast.specs.Form.{query_of, rule_form};

@@ -1,12 +1,12 @@
 -- What it says that a module has no fault of a kind.
-use Rattle.std.proofs.Common.{◌≡◌, ◌≢◌, ◌≤◌, ◌<◌, ◌+◌, ◌||◌, not, inl, inr, ℕ, zero, suc, Bool, true, false, Option, None, Some, IfSome, List, [], ◌∷◌, length, take, get_or, nat_lt, refl, arith, ap, sym, ◌∙◌}
+use Rattle.std.proofs.Common.{◌≡◌, ◌≢◌, ◌≤◌, ◌<◌, ◌+◌, ◌||◌, not, inl, inr, ℕ, zero, suc, Bool, true, false, Option, None, Some, List, [], ◌∷◌, length, take, get_or, nat_lt, refl, arith, ap, sym, ◌∙◌}
 use Rattle.std.specs.List.{list_any, AllPairs}
 use Rattle.std.specs.Option.{option_or}
 use Rattle.std.specs.Str.{bytes_eq}
 use Rattle.std.proofs.lemmas.Slice.Eq.{bytes_eq-Decides}
 use Rattle.blz_value.specs.FirstPlace.{first_place}
 use Rattle.blz_value.specs.Members.{Has}
-use Rattle.blz_value.proofs.FirstPlace.{NoneBad, none_bad, none_has, place-below, place-at_most, length-at_most}
+use Rattle.blz_value.proofs.FirstPlace.{NoneBad, none_bad, length-at_most}
 use Rattle.bloom_ast.specs.declared.fault.ModuleFault.{ModuleFault}
 use Rattle.bloom_ast.specs.declared.fault.ModuleKind.{ModuleKind}
 use Rattle.bloom_ast.specs.declared.fault.ModuleKind.TheVariants as kind

@@ -11,8 +11,8 @@ ghost use Rattle.messages.specs.Ports.{port_key, port_keys};
 ghost use Rattle.inbox.specs.Code.Senders.{is_sender, senders_for};
 
 use crate::feed::Feed;
-use messages::Port;
 use blz_value::Items;
+use messages::Port;
 use std::alloc::{AllocError, Global};
 use topo_types::{Attrs, Mode, Valid, carries};
 

@@ -10,9 +10,9 @@ ghost use Rattle.topo_types.specs.Messages.{is_same_row};
 ghost use Rattle.inbox.specs.Code.Places.{places_of};
 ghost use Rattle.messages.specs.Log.{is_same_entry_id};
 
-use messages::Log;
 use blz_pool::Id;
 use blz_value::Record;
+use messages::Log;
 use std::alloc::{AllocError, Global};
 use std::collections::BTreeMap;
 

@@ -30,10 +30,7 @@ fn counter_at(counts: &BTreeMap<Record, Counter>, key: &Record) -> Counter
 }
 
 /// Counts a record.
-pub fn count_row(
-    counts: &mut BTreeMap<Record, Counter>,
-    key: Record,
-) -> Result<(), AllocError>
+pub fn count_row(counts: &mut BTreeMap<Record, Counter>, key: Record) -> Result<(), AllocError>
     requires { have_of counts.old key + 1 < 2 ^ 64 }
     ensures have { OnOk result ((k : Row) → have_of counts.new k ≡ (if is_same_row key k then have_of counts.old k + 1 else have_of counts.old k)) }
     ensures need { (k : Row) → need_of counts.new k ≡ need_of counts.old k }

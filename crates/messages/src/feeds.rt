@@ -58,11 +58,7 @@ fn all_pass(feeds: &[Feed], key: &Record) -> bool
 
 impl Feeds {
     /// Feeds on which nothing came, one for each of the ports that are named last.
-    pub fn new(
-        alloc: Global,
-        ports: Vec<Port>,
-        feed_ports: &[u32],
-    ) -> Result<Feeds, AllocError>
+    pub fn new(alloc: Global, ports: Vec<Port>, feed_ports: &[u32]) -> Result<Feeds, AllocError>
         ensures { IfOk result (λ feeds. IsFresh (port_keys ports.items) feed_ports.now feeds) }
     {
         let feeds = fresh_feeds(alloc, &ports, feed_ports)?;

@@ -14,6 +14,6 @@ pub mod Standing
 pub mod Laws
 pub use Rattle.messages.specs.Log
 pub mod Code
-pub mod Ids
+pub use Rattle.messages.specs.Ids
 pub mod Inbox
 pub mod Pools

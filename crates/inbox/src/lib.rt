@@ -5,7 +5,6 @@ mod feed;
 mod inbox;
 mod instance;
 mod laws;
-mod message;
 mod step;
 mod waiting;
 
@@ -13,6 +12,5 @@ pub use feed::Feed;
 pub use inbox::{Inbox, Timesteps};
 pub use instance::feeds_of;
 pub use laws::{execution_law, pool_law, sequencer_law};
-pub use message::Message;
-pub use messages::Log;
+pub use messages::{Log, Message};
 pub use step::timestep;

@@ -6,10 +6,12 @@ mod counter;
 mod feed;
 mod feeds;
 mod log;
+mod message;
 mod port;
 
 pub use counter::Counter;
 pub use feed::Feed;
 pub use feeds::Feeds;
 pub use log::Log;
+pub use message::Message;
 pub use port::Port;

@@ -20,8 +20,8 @@ use Rattle.inbox.specs.Log.{EntryId, AreGiven, is_same_entry_id, entry_with_id, 
 use Rattle.inbox.specs.Messages.{Pair, is_same_entry, with_new}
 use Rattle.inbox.specs.Standing.{Seats}
 use Rattle.inbox.specs.Wiring.{nobody, instances_at, instance_at, is_sequencer, wiring_of}
-use Rattle.inbox.specs.declared.message.Message.{Message as IdMessage}
-use Rattle.inbox.specs.declared.message.Message.TheVariants.{Row, Seal}
+use Rattle.messages.specs.declared.message.Message.{Message as IdMessage}
+use Rattle.messages.specs.declared.message.Message.TheVariants.{Row, Seal}
 use Rattle.inbox.proofs.Executions.Standing.{stands_ordering}
 use Rattle.messages.proofs.LogLemmas.{is_same_entry_id-is, is_same_entry_id-itself, one_id, with_new-with_ids}
 use Rattle.messages.proofs.MessagesLemmas.{Has-from_with_new}

@@ -20,7 +20,7 @@ use Rattle.topo_types.proofs.Regions.Spreading.{same_truth}
 use Rattle.messages.specs.Messages.{Pair, Batch, Entry, is_same_entry, all_pairs, firsts}
 use Rattle.inbox.specs.Instances.{Instance, port_of_feed, is_carrying, entry_of, entries_of}
 use Rattle.inbox.specs.Timesteps.{is_due, is_of_some, timestep_of, one_timestep, one_by_one, first_part, second_part, newly_whole, steps_in, held_count}
-use Rattle.inbox.specs.Ids.{message_with_id, pair_with_id, batch_with_ids, IsGiven}
+use Rattle.messages.specs.Ids.{message_with_id, pair_with_id, batch_with_ids, IsGiven}
 use Rattle.messages.specs.Log.{EntryId, AreGiven, is_same_entry_id, row_with_id, entry_with_id, entries_with_ids}
 use Rattle.messages.specs.Feeds.{feed_count, port_count, port_in, key_in, carries_in, is_whole_in, is_due_in}
 use Rattle.inbox.specs.Code.Batches.{AllWaitWith, id_in, entry_ids_of, goes_in, open_key, steps_released, Releases}
@@ -29,8 +29,8 @@ use Rattle.messages.specs.Ports.{port_keys}
 use Rattle.inbox.specs.Code.Places.{places_of}
 use Rattle.inbox.specs.Code.Waiting.{released_of}
 use Rattle.inbox.specs.Inbox.{Keeps, HasHeard}
-use Rattle.inbox.specs.declared.message.Message.{Message as IdMessage}
-use Rattle.inbox.specs.declared.message.Message.TheVariants.{Row, Seal}
+use Rattle.messages.specs.declared.message.Message.{Message as IdMessage}
+use Rattle.messages.specs.declared.message.Message.TheVariants.{Row, Seal}
 use Rattle.messages.specs.declared.feeds.Feeds.{Feeds}
 use Rattle.messages.specs.declared.port.Port.{Port}
 use Rattle.inbox.specs.declared.waiting.Waiting.{Waiting}

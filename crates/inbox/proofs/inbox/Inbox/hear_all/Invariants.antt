@@ -1,6 +1,6 @@
 -- the messages so far are heard
 use Rattle.std.proofs.Common.{◌≡◌, ◌++◌, Bool, List, take}
-use Rattle.inbox.specs.Ids.{batch_with_ids}
+use Rattle.messages.specs.Ids.{batch_with_ids}
 use Rattle.inbox.specs.Code.Batches.{AllWaitWith}
 use Rattle.inbox.specs.Inbox.{Keeps, IsFrom, feeds_in}
 use Rattle.inbox.specs.Instances.{Instance}

@@ -1,11 +1,11 @@
 -- Messages by the ids of their records, read in a pool with some records.
 use Rattle.std.specs.Prelude.{◌<◌, ℕ, List, map, length}
 use Rattle.blz_value.specs.Record.{Row as Record}
-use Rattle.topo_types.specs.Messages.{Message, row, seal}
+use Rattle.messages.specs.Message.{Message, row, seal}
 use Rattle.messages.specs.Messages.{Pair, Batch}
 use Rattle.messages.specs.Log.{row_with_id}
-use Rattle.inbox.specs.declared.message.Message.{Message as IdMessage}
-use Rattle.inbox.specs.declared.message.Message.TheVariants.{Row, Seal}
+use Rattle.messages.specs.declared.message.Message.{Message as IdMessage}
+use Rattle.messages.specs.declared.message.Message.TheVariants.{Row, Seal}
 
 -- the message whose record has this id in the pool
 abbrev pub message_with_id : List Record → IdMessage → Message

@@ -15,7 +15,8 @@ use crate::view::sites::Site;
 use bloom_ast::Program;
 use blz_value::{Items, Str};
 use fd_closure::{AttrNames, Attrs};
-use path_annotate::{Note, Notes, annotate, gate_of, roots};
+use path_annotate::{Note, Notes};
+use path_trace::{annotate, gate_of, roots};
 use std::alloc::{AllocError, Global};
 
 // ---- ports and outputs

@@ -8,7 +8,7 @@ use Rattle.bloom_ast.specs.declared.program.Program.{Program}
 use Rattle.bloom_ast.specs.ProgramStep.{tables_after_step, outputs_of_step, empty_tables}
 use Rattle.bloom_ast.specs.Step.{Sets, set_at}
 use Rattle.topo_types.specs.Messages.{Message, row, seal, is_same_row, rows_in}
-use Rattle.inbox.specs.Messages.{is_same_message, sealed_in, with_new}
+use Rattle.messages.specs.Messages.{is_same_message, sealed_in, with_new}
 use Rattle.inbox.specs.Instances.{Instance}
 use Rattle.inbox.specs.Timesteps.{SetOff}
 

@@ -4,7 +4,7 @@ use Rattle.blz_value.specs.Members.{Has}
 use Rattle.topo_types.specs.Data.{Data}
 use Rattle.topo_types.specs.Feeds.{Feed, no_feed}
 use Rattle.topo_types.specs.Messages.{Message, row, seal, is_same_row}
-use Rattle.inbox.specs.Messages.{Pair, Batch, Entry}
+use Rattle.messages.specs.Messages.{Pair, Batch, Entry}
 use Rattle.inbox.specs.Instances.{Instance}
 use Rattle.inbox.specs.Wiring.{Wiring, instance_at}
 use Rattle.inbox.specs.Lives.{Life, all_lives}

@@ -2,8 +2,8 @@
 use Rattle.std.specs.Prelude.{◌<◌, ℕ, List, map, length}
 use Rattle.blz_value.specs.Record.{Row as Record}
 use Rattle.topo_types.specs.Messages.{Message, row, seal}
-use Rattle.inbox.specs.Messages.{Pair, Batch}
-use Rattle.inbox.specs.Log.{row_with_id}
+use Rattle.messages.specs.Messages.{Pair, Batch}
+use Rattle.messages.specs.Log.{row_with_id}
 use Rattle.inbox.specs.declared.message.Message.{Message as IdMessage}
 use Rattle.inbox.specs.declared.message.Message.TheVariants.{Row, Seal}
 

@@ -1,4 +1,4 @@
-pub mod Messages
+pub use Rattle.messages.specs.Messages
 pub mod Instances
 pub mod Timesteps
 pub mod Emission
@@ -12,7 +12,7 @@ pub mod OrderReplicas
 pub mod Growth
 pub mod Standing
 pub mod Laws
-pub mod Log
+pub use Rattle.messages.specs.Log
 pub mod Code
 pub mod Ids
 pub mod Inbox

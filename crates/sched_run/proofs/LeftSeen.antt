@@ -34,8 +34,8 @@ use Rattle.inbox.specs.declared.inbox.Inbox.{Inbox}
 use Rattle.inbox.specs.declared.message.Message.{Message as IdMessage}
 use Rattle.inbox.specs.declared.message.Message.TheVariants.{Row}
 use Rattle.inbox.proofs.Executions.Sent.{history_holds}
-use Rattle.inbox.proofs.LogLemmas.{is_same_entry_id-is, is_same_entry_id-itself, any-with_ids, one_id}
-use Rattle.inbox.proofs.MessagesLemmas.{is_same_pair-is, is_same_pair-itself, any-from_same, same-from_any}
+use Rattle.messages.proofs.LogLemmas.{is_same_entry_id-is, is_same_entry_id-itself, any-with_ids, one_id}
+use Rattle.messages.proofs.MessagesLemmas.{is_same_pair-is, is_same_pair-itself, any-from_same, same-from_any}
 use Rattle.inbox.proofs.Ranges.{all_below, not_all_below}
 use Rattle.inbox.proofs.WiringLemmas.{instance-feeds, instance-wired, instances-wired, length-below}
 use Rattle.sched_lists.specs.Lists.{read_lists, list_at}

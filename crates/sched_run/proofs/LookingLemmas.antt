@@ -25,7 +25,7 @@ use Rattle.inbox.specs.Wiring.{feeds_for, instance_for, wiring_of}
 use Rattle.inbox.specs.declared.inbox.Inbox.{Inbox}
 use Rattle.inbox.specs.declared.message.Message.{Message as IdMessage}
 use Rattle.inbox.specs.declared.message.Message.TheVariants.{Row, Seal}
-use Rattle.inbox.proofs.LogLemmas.{any-with_ids, one_id}
+use Rattle.messages.proofs.LogLemmas.{any-with_ids, one_id}
 use Rattle.sched_turns.specs.Windows.{Looked, IsWindow, MayShow, OthersAreOpen}
 use Rattle.sched_turns.specs.declared.windows.Stale.{Stale}
 use Rattle.sched_lists.specs.Code.Ids.{id_in}

@@ -11,13 +11,13 @@ use Rattle.bloom_ast.specs.declared.program.Program.{Program}
 use Rattle.bloom_ast.specs.ProgramStep.{tables_after_step, outputs_of_step, empty_tables}
 use Rattle.bloom_ast.specs.Step.{Sets, set_at}
 use Rattle.topo_types.specs.Messages.{Message, row, seal, row_in, rows_in}
-use Rattle.inbox.specs.Messages.{Entry, is_same_message}
+use Rattle.messages.specs.Messages.{Entry, is_same_message}
 use Rattle.inbox.specs.Instances.{Instance}
 use Rattle.inbox.specs.Timesteps.{SetOff}
 use Rattle.inbox.specs.Emission.{Kept, list_of, has_seal, count_in, with_row, with_rows, with_seal, with_seals, output_key, seal_all, emit_step, emit_of, emit, first_tables, begin_life, nothing_emitted}
 use Rattle.inbox.specs.Lives.{Life, Lives, all_lives, life_sets_off, life_timesteps, after_life, emitted_by}
 use Rattle.inbox.specs.Folds.{rows_from}
-use Rattle.inbox.proofs.MessagesLemmas.{is_same_message-is, is_same_message-itself, same-from_any}
+use Rattle.messages.proofs.MessagesLemmas.{is_same_message-is, is_same_message-itself, same-from_any}
 use Rattle.inbox.proofs.TimestepLemmas.Whole.{Has-filter_map}
 use Rattle.inbox.proofs.Lists.Growing.{get_or-each_by_place, emit_step-continues, emit_steps-continue, seal_all-continues}
 

@@ -13,10 +13,10 @@ use Rattle.blz_value.proofs.Membership.{Has-append_left, Has-map, Has-filter, Ha
 use Rattle.blz_value.proofs.SetLaws.{Has-set_of}
 use Rattle.blz_value.proofs.RowSets.{length-set_of-append_left}
 use Rattle.topo_types.specs.Messages.{Message, row, seal, is_same_row}
-use Rattle.inbox.specs.Messages.{Pair, Batch, Entry, key_sealed, sealed_in}
+use Rattle.messages.specs.Messages.{Pair, Batch, Entry, key_sealed, sealed_in}
 use Rattle.inbox.specs.Instances.{Instance, carrying_feeds, entries_of, key_of_entry, is_of_key}
 use Rattle.inbox.specs.Timesteps.{is_seal_within, from_feed, count_heard_from, is_whole_from, is_some_feed, is_whole, is_due, sealed_keys, newly_whole}
-use Rattle.inbox.proofs.MessagesLemmas.{is_same_row-is}
+use Rattle.messages.proofs.MessagesLemmas.{is_same_row-is}
 
 -- ---- lists of those that pass
 

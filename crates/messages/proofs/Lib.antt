@@ -1,0 +1,4 @@
+pub mod MessagesLemmas
+pub mod LogLemmas
+pub mod CountersLemmas
+pub mod FeedsLemmas

@@ -123,15 +123,6 @@ fn components_with_mode(
     Ok(others)
 }
 
-/// The names in a list of their own.
-pub(crate) fn copy_names(alloc: Global, names: &AttrNames) -> Result<AttrNames, AllocError>
-    ensures { IfOk result (λ copy. copy ≡ names.now) }
-{
-    let mut copy = AttrNames::new(alloc);
-    let _fit = add_columns(&mut copy, names.names())?;
-    Ok(copy)
-}
-
 /// The parts of a topology with another mode of one component.
 pub(crate) fn kept_with_mode(
     alloc: Global,

@@ -1,7 +1,8 @@
 -- The regions that are found are those of the view.
-use Rattle.std.proofs.Common.{◌≡◌, ◌≤◌, ℕ, zero, suc, Bool, Option, None, Some, List, [], ◌∷◌, map, length, get_or, arith, ap, sym, ◌∙◌, bit_or}
-use Rattle.std.specs.List.{enumerate_from, position_or_len}
+use Rattle.std.proofs.Common.{◌≡◌, ◌≤◌, ℕ, zero, suc, Bool, Option, None, Some, List, [], ◌∷◌, map, length, get_or, refl, arith, ap, sym, ◌∙◌, bit_or}
+use Rattle.std.specs.List.{enumerate_from, position_or_len, range_with_len}
 use Rattle.std.proofs.lemmas.List.FromFn.{length-map-range_with_len}
+use Rattle.path_annotate.proofs.ByNumber.NumbersLemmas.{map-places}
 use Rattle.topo_types.specs.Code.Feeders.{feeders, all_feeders, feeder_arrows, feeding_arrow, ups_by, all_regions, sets_by, region_by, next_by, regions_by, is_cyclic_by}
 use Rattle.topo_types.specs.Code.Found.{HasEnds}
 use Rattle.topo_types.specs.Graph.{arrows, is_in, up, region, is_cyclic_set}
@@ -10,7 +11,11 @@ use Rattle.topo_types.specs.Sets.{below}
 use Rattle.topo_types.specs.View.{View, component_numbers}
 use Rattle.topo_types.proofs.Regions.FeedingRegions.{ups, sets, region-same, regions-same, cyclic-same}
 use Rattle.topo_types.proofs.Regions.Spreading.{from_below}
-use Rattle.topo_types.proofs.Lists.Tables.{placed, numbered, map_on, map_twice, table_places}
+use Rattle.topo_types.proofs.Lists.Tables.{placed, numbered, map_on, map_twice}
+
+-- a list by its places
+table_places : {X Y : Type 0} (f : X → Y) (d : X) (xs : List X) → map (λ k. f (get_or xs k d)) (range_with_len 0 (length xs)) ≡ map f xs
+table_places f d xs = map-places f d xs (length xs) refl
 
 abbrev continued : (feeding sets : List ℕ) → (count left done : ℕ) → Option ℕ → List ℕ
 continued feeding ss count left done None = []

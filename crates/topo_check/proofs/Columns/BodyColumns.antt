@@ -5,7 +5,8 @@ use Rattle.std.proofs.lemmas.Bool.{cases_Bool}
 use Rattle.std.proofs.lemmas.Bool.Decides.{nat_tests}
 use Rattle.bloom_ast.specs.Program.{key_columns}
 use Rattle.bloom_ast.specs.Query.{Name}
-use Rattle.topo_types.specs.Code.Chosen.{with_keys}
+use Rattle.topo_types.proofs.Lists.Tables.{chosen_columns}
+use Rattle.topo_check.specs.Code.Chosen.{with_keys}
 
 other_number : (a b : ℕ) → b < a → nat_eq a b ≡ false
 other_number a b lt = grind (arith, nat_tests)
@@ -31,24 +32,6 @@ kept_from {X} at (suc n) (x ∷ xs) =
 -- the columns but for one
 pub without : {X : Type 0} (n : ℕ) (xs : List X) → map (λ (p : ℕ × X). p.1) (filter (λ p. not (nat_eq p.0 n)) (enumerate_from 0 xs)) ≡ remove xs n
 without n xs = let z : 0 + n ≡ n = omega arith in subst (λ (m : ℕ). map (λ (p : ℕ × _). p.1) (filter (λ p. not (nat_eq p.0 m)) (enumerate_from 0 xs)) ≡ remove xs n) z (kept_from 0 n xs)
-
-shifted : {X : Type 0} (test : ℕ → Bool) (d : X) (x : X) (xs all : List X) (at n : ℕ) → ((k : ℕ) → get_or all (at + k) d ≡ get_or xs k d)
-    → n ≡ length xs → map (λ (p : ℕ × X). p.1) (filter (λ p. test p.0) (enumerate_from at xs)) ≡ map (λ k. get_or all k d) (filter test (range_with_len at n))
-shifted test d x [] all at zero same e = refl
-shifted test d x [] all at (suc n) same e = absurd (omega (arith, e))
-shifted test d x (y ∷ xs) all at zero same e = absurd (omega (arith, e))
-shifted test d x (y ∷ xs) all at (suc n) same e =
-    let more = shifted test d x xs all (at + 1) n (λ k. let one : at + 1 + k ≡ at + suc k = omega arith in rw one (same (suc k))) (omega (arith, e)) in
-    let here : get_or all at d ≡ y = let z : at + 0 ≡ at = omega arith in subst (λ (m : ℕ). get_or all m d ≡ y) z (same 0) in
-    elim (cases_Bool (test at)) [
-      | inl t ↦ rw (t, here) (λ i. y ∷ more i)
-      | inr f ↦ rw f more
-    ]
-
--- the columns whose numbers pass, in their order
-pub chosen_columns : {X : Type 0} (test : ℕ → Bool) (d : X) (xs : List X)
-    → map (λ (p : ℕ × X). p.1) (filter (λ p. test p.0) (enumerate_from 0 xs)) ≡ map (λ k. get_or xs k d) (filter test (range_with_len 0 (length xs)))
-chosen_columns test d xs = shifted test d d xs xs 0 (length xs) (λ k. let z : 0 + k ≡ k = omega arith in rw z refl) refl
 
 -- the key columns
 pub key_names : (columns : List Name) (keys : List ℕ) → with_keys keys columns ≡ key_columns columns keys

@@ -8,7 +8,6 @@ ghost use Rattle.topo_types.specs.Code.Chosen as chosen;
 ghost use Rattle.topo_types.specs.Sites as spec;
 
 use crate::topology::{Body, Side, Stock};
-use crate::view::copies::{Copied, copy_all};
 use bloom_ast::{Checked, Collection, Kind, Program};
 use blz_value::{Items, Str};
 use std::alloc::{AllocError, Global};
@@ -271,25 +270,5 @@ pub(crate) fn program_outputs(alloc: Global, program: &Program) -> Result<Items<
         Program::Number { columns } => {
             one_side(alloc, "out", number_output(alloc, columns.as_slice())?)
         }
-    }
-}
-
-/// An equal program of its own.
-pub(crate) fn copy_program(alloc: Global, program: &Program) -> Result<Program, AllocError>
-    ensures { IfOk result (λ copy. copy ≡ program.now) }
-{
-    match program {
-        Program::Module(checked) => Ok(Program::Module(checked.copy(alloc)?)),
-        Program::Split { columns, split } => Ok(Program::Split {
-            columns: copy_all(alloc, columns.as_slice())?,
-            split: *split,
-        }),
-        Program::Latest { columns, keys } => Ok(Program::Latest {
-            columns: copy_all(alloc, columns.as_slice())?,
-            keys: Items::from_vec(Vec::from_slice(alloc, keys.as_slice())?),
-        }),
-        Program::Number { columns } => Ok(Program::Number {
-            columns: copy_all(alloc, columns.as_slice())?,
-        }),
     }
 }

@@ -2,7 +2,7 @@
 use Rattle.std.specs.Prelude.{ℕ, ◌≡◌, ◌≤◌, ◌<◌, Some, map, length}
 use Rattle.blz_value.specs.Members.{Has}
 use Rattle.fd_closure.specs.declared.attrs.Fd.{Fd}
-use Rattle.topo_types.specs.declared.graph.found.Found.{Found}
+use Rattle.topo_types.specs.declared.graph_facts.GraphFacts.{GraphFacts}
 use Rattle.topo_types.specs.Carried.{carries}
 use Rattle.topo_types.specs.Dependencies.{upholders, is_usable}
 use Rattle.topo_types.specs.Regions.{regions, region_of, is_cyclic}
@@ -21,7 +21,7 @@ abbrev pub usable_at : View → Fd → ℕ
 usable_at v fd = set_where (λ c. is_usable v c fd) (component_numbers v)
 
 -- the regions, whether each is cyclic, and the number of that of each component; the streams that uphold each dependency, and the components at which it is usable; the key that each stream carries
-abbrev pub found_of : View → Found
+abbrev pub found_of : View → GraphFacts
 found_of v = record {
   regions = regions v;
   cyclic = map (is_cyclic v) (below (length (regions v)));

@@ -1,5 +1,5 @@
 -- Regions by feeders are the regions.
-use Rattle.std.proofs.Common.{◌≡◌, ◌<◌, ◌⊎◌, inl, inr, ℕ, not, ◌&&◌, nat_eq, Bool, true, false, is_some, Option, None, Some, List, [], ◌∷◌, map, length, refl, arith, rules, ap, sym, subst, ◌∙◌, bit_or}
+use Rattle.std.proofs.Common.{◌≡◌, ◌<◌, ◌⊎◌, inl, inr, ℕ, not, ◌&&◌, nat_eq, Bool, true, false, is_some, Option, None, Some, List, [], ◌∷◌, map, length, refl, arith, ap, sym, subst, ◌∙◌, bit_or}
 use Rattle.std.specs.Option.{option_map_or}
 use Rattle.std.proofs.lemmas.Bool.{cases_Bool, true≢false}
 use Rattle.std.proofs.lemmas.Bool.Decides.{nat_tests}
@@ -19,7 +19,7 @@ use Rattle.topo_types.specs.Code.Found.{HasEnds}
 use Rattle.topo_types.specs.Graph.{Edge, arrow, arrows, is_in}
 use Rattle.topo_types.specs.Regions.{edges, edges_of, counting_ends}
 use Rattle.topo_types.specs.View.{View, End, origin_of, ends_of, is_order, goes_into, stream_numbers, component_numbers}
-use Rattle.topo_types.proofs.Regions.Spreading.{from_below, in_below, both_true, and_true}
+use Rattle.topo_types.proofs.Regions.Spreading.{from_below, in_below, same_number, both_true, and_true}
 
 pub not_true : (b : Bool) → not b ≡ true → b ≡ false
 not_true true e = absurd (true≢false (sym e))
@@ -27,9 +27,6 @@ not_true false e = refl
 
 pub false_not : (b : Bool) → b ≡ false → not b ≡ true
 false_not b e = ap not e
-
-pub same_number : (a b : ℕ) → nat_eq a b ≡ true → a ≡ b
-same_number a b e = search rules
 
 pub own_number : (a : ℕ) → nat_eq a a ≡ true
 own_number a = grind (arith, nat_tests)

@@ -1,37 +1,11 @@
 //! Equal parts of a topology of their own.
-ghost use Rattle.std.specs.Prelude.{◌≡◌, IfOk};
-
-use crate::topology::{
+use crate::copied::{Copied, copy_all};
+use blz_value::Str;
+use std::alloc::{AllocError, Global};
+use topo_types::{
     Body, ColumnType, ComponentEntry, Declared, FdEntry, Side, SourceEntry, Spot, Stock,
     StreamEntry, Topology,
 };
-use blz_value::{Items, Str};
-use std::alloc::{AllocError, Global};
-
-/// What can be copied.
-pub(crate) trait Copied: Drop + Sized {
-    /// An equal one of its own.
-    fn copied(&self, alloc: Global) -> Result<Self, AllocError>
-        ensures { IfOk result (λ copy. copy ≡ self.now) };
-}
-
-/// Equal items of their own, in a list that can be changed.
-pub(crate) fn copies_of<T: Copied>(alloc: Global, items: &[T]) -> Result<Vec<T>, AllocError>
-    ensures { IfOk result (λ copies. copies.items ≡ items.now) }
-{
-    let mut copies = Vec::new(alloc);
-    for item in items {
-        copies.push(item.copied(alloc)?)?;
-    }
-    Ok(copies)
-}
-
-/// Equal items of their own.
-pub(crate) fn copy_all<T: Copied>(alloc: Global, items: &[T]) -> Result<Items<T>, AllocError>
-    ensures { IfOk result (λ copies. copies ≡ items.now) }
-{
-    Ok(Items::from_vec(copies_of(alloc, items)?))
-}
 
 impl Copied for Str {
     fn copied(&self, _alloc: Global) -> Result<Str, AllocError> {
@@ -154,14 +128,5 @@ impl Copied for Topology {
             streams: copy_all(alloc, self.streams.as_slice())?,
             fds: copy_all(alloc, self.fds.as_slice())?,
         })
-    }
-}
-
-impl Topology {
-    /// An equal one of its own.
-    pub fn copy(&self, alloc: Global) -> Result<Topology, AllocError>
-        ensures { IfOk result (λ copy. copy ≡ self.now) }
-    {
-        self.copied(alloc)
     }
 }

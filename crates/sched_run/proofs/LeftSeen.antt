@@ -16,7 +16,7 @@ use Rattle.topo_types.specs.Feeds.{Feed, no_feed, are_paired, feeds, feeds_at, f
 use Rattle.topo_types.specs.Messages.{Message, rows_in}
 use Rattle.topo_types.specs.Sets.{below}
 use Rattle.topo_types.specs.Valid.{IsValid, IsWhole, Validated}
-use Rattle.topo_types.specs.Code.Bounded.{IsBounded}
+use Rattle.topo_types.specs.Bounded.{IsBounded}
 use Rattle.topo_types.specs.View.{View, End, Stream, no_stream, component_at, goes_to, origin_of, port_numbers, replicas_of, senders_of, stream_numbers, stream_replicas, streams_to, is_order, is_order_mode}
 use Rattle.topo_types.specs.ViewOf.{modules_in}
 use Rattle.topo_types.proofs.Regions.Spreading.{same_truth}

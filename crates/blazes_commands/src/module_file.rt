@@ -12,7 +12,8 @@ ghost use Rattle.topo_types.specs.Valid.{needs_module};
 
 use crate::file::read_file;
 use crate::stop::{Stop, refused};
-use bloom_ast::{CheckFault, Checked, Module, check};
+use bloom_ast::{CheckFault, Checked, Module};
+use bloom_check::check;
 use bloom_parse::{ParseFault, parse};
 use blz_outside::Files;
 use blz_value::Str;

@@ -1,4 +1,5 @@
 -- What is found of a view is what its definitions say.
 pub mod Unusable
 pub mod OneLevel
+pub mod Once
 pub mod FoundAt

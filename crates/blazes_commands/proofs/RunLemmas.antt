@@ -29,8 +29,8 @@ use Rattle.sched_run.specs.Reading.{IsOrdered}
 use Rattle.sched_run.specs.Tables.{last_tables}
 use Rattle.sched_run.specs.declared.applying.EventRefusal.{EventRefusal}
 use Rattle.sched_run.specs.declared.books.Books.{Books}
-use Rattle.sched_lists.specs.declared.fault.EventFault.{EventFault}
-use Rattle.sched_lists.specs.declared.fault.EventFault.TheVariants as event_faults
+use Rattle.emitted.specs.declared.fault.EventFault.{EventFault}
+use Rattle.emitted.specs.declared.fault.EventFault.TheVariants as event_faults
 use Rattle.topo_types.specs.Data.{Data}
 use Rattle.topo_types.specs.Valid.{IsValid, Validated}
 use Rattle.topo_types.specs.View.{View, component_at, program_of, stream_at, stream_of, is_order_mode}

@@ -18,8 +18,8 @@ use Rattle.inbox.specs.Wiring.{wiring_of}
 use Rattle.sched_run.specs.Applying.{Line, after_lines}
 use Rattle.sched_run.specs.Bench.{fault_of_opening}
 use Rattle.sched_run.specs.declared.applying.EventRefusal.{EventRefusal}
-use Rattle.sched_lists.specs.declared.fault.EventFault.{EventFault}
-use Rattle.sched_lists.specs.declared.fault.EventFault.TheVariants as event_faults
+use Rattle.emitted.specs.declared.fault.EventFault.{EventFault}
+use Rattle.emitted.specs.declared.fault.EventFault.TheVariants as event_faults
 use Rattle.sched_run.specs.Made.{made_of}
 use Rattle.sched_run.specs.declared.fault.MakeFault.{MakeFault}
 use Rattle.sched_run.specs.declared.fault.MakeFault.TheVariants as make_faults

@@ -17,10 +17,10 @@ use Rattle.inbox.specs.OrderReplicas.{most_taken}
 use Rattle.inbox.specs.Wiring.{wiring_of}
 use Rattle.coord_synth.specs.Laws.{AreCoordinated}
 use Rattle.coord_synth.specs.Plan as plan
-use Rattle.report_print.specs.DeriveText.{derive_text}
+use Rattle.report_derivation.specs.DeriveText.{derive_text}
 use Rattle.report_print.specs.LabelText.{label_text}
-use Rattle.report_print.specs.RunText.{run_text}
-use Rattle.report_print.specs.SoakText.{soak_text}
+use Rattle.report_runs.specs.RunText.{run_text}
+use Rattle.report_runs.specs.SoakText.{soak_text}
 use Rattle.sched_run.specs.Applying.{Line}
 use Rattle.sched_run.specs.Made.{LeavesNothing, execution_after}
 use Rattle.sched_run.specs.Making.{events_of}

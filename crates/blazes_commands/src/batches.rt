@@ -63,7 +63,7 @@ fn tweets(alloc: Global, batches: u32) -> Result<Vec<Record>, AllocError>
 }
 
 // Whether a topology has one source, of three columns.
-#[tactic(auto, using(report_print::proofs::Streams::source_within))]
+#[tactic(auto, using(report_derivation::proofs::Streams::source_within))]
 fn takes_tweets(valid: &Valid) -> bool
     ensures { result ≡ spec.takes_tweets valid.now.view }
 {

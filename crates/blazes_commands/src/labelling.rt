@@ -2,7 +2,7 @@
 ghost use Rattle.std.specs.Prelude.{◌≡◌, IfOk};
 ghost use Rattle.confluence.specs.Sound.{Sound, RestartSound};
 ghost use Rattle.label_walk.specs.Labels.{AreLabels};
-ghost use Rattle.report_print.specs.DeriveText.{derive_text as derivation};
+ghost use Rattle.report_derivation.specs.DeriveText.{derive_text as derivation};
 ghost use Rattle.report_print.specs.LabelText.{label_text as listing};
 ghost use Rattle.blazes_commands.specs.Bench.{BenchStates};
 ghost use Rattle.blazes_commands.specs.Code.Ran.{RepliesTo, answer_of};
@@ -16,7 +16,8 @@ use crate::valid_topology::valid_topology;
 use blz_outside::Files;
 use confluence::{region_law, restart_law};
 use label_walk::{Labels, labels};
-use report_print::{derive_text, label_text};
+use report_derivation::derive_text;
+use report_print::label_text;
 use std::alloc::{AllocError, Global};
 use topo_types::Valid;
 

@@ -21,7 +21,7 @@ use crate::stop::{Stop, stop_at};
 use blazes_words::SoakWords;
 use blz_boxes::Component;
 use data_read::Data;
-use report_print::soak_text;
+use report_runs::soak_text;
 use sched_run::{MakeFault, Net, make};
 use sched_text::Schedule;
 use std::alloc::{AllocError, Global};

@@ -10,7 +10,8 @@ ghost use Rattle.command_files.specs.Ends.{files_states, source};
 ghost use Rattle.std.specs.List.{filter_map};
 ghost use Rattle.topo_types.specs.Valid.{needs_module};
 
-use bloom_ast::{CheckFault, Checked, Module, check};
+use bloom_ast::{CheckFault, Checked, Module};
+use bloom_check::check;
 use bloom_parse::{ParseFault, parse};
 use blz_outside::Files;
 use blz_value::Str;

@@ -22,8 +22,8 @@ use Rattle.topo_types.specs.Messages.{is_same_row}
 use Rattle.topo_types.proofs.Regions.Spreading.{same_truth}
 use Rattle.inbox.specs.Growth.{Continues}
 use Rattle.inbox.specs.Ids.{IsGiven}
-use Rattle.inbox.specs.declared.message.Message.{Message as IdMessage}
-use Rattle.inbox.specs.declared.message.Message.TheVariants.{Row, Seal}
+use Rattle.messages.specs.declared.message.Message.{Message as IdMessage}
+use Rattle.messages.specs.declared.message.Message.TheVariants.{Row, Seal}
 use Rattle.inbox.proofs.Lists.Growing.{continues_itself}
 use Rattle.sched_lists.specs.Limits.{message_limit}
 use Rattle.sched_lists.specs.Lists.{total}

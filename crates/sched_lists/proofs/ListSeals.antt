@@ -13,8 +13,8 @@ use Rattle.inbox.specs.Emission.{has_seal, count_in, with_seal}
 use Rattle.inbox.specs.Growth.{Continues}
 use Rattle.inbox.specs.Ids.{message_with_id}
 use Rattle.inbox.specs.Log.{row_with_id}
-use Rattle.inbox.specs.declared.message.Message.{Message as IdMessage}
-use Rattle.inbox.specs.declared.message.Message.TheVariants.{Row, Seal}
+use Rattle.messages.specs.declared.message.Message.{Message as IdMessage}
+use Rattle.messages.specs.declared.message.Message.TheVariants.{Row, Seal}
 use Rattle.inbox.proofs.Lists.Growing.{continues_itself, with_seal-continues}
 use Rattle.inbox.proofs.Lists.Rows.{rows_in-append, rows-with_seal}
 use Rattle.sched_lists.specs.Limits.{message_limit}

@@ -15,9 +15,9 @@ use Rattle.inbox.specs.Growth.{Continues}
 use Rattle.inbox.specs.Ids.{message_with_id, IsGiven}
 use Rattle.inbox.specs.Log.{row_with_id}
 use Rattle.inbox.specs.Messages.{is_same_message}
-use Rattle.inbox.specs.declared.message.Message.{Message as IdMessage}
-use Rattle.inbox.specs.declared.message.Message.TheVariants.{Row, Seal}
-use Rattle.inbox.proofs.MessagesLemmas.{is_same_row-is, is_same_row-itself}
+use Rattle.messages.specs.declared.message.Message.{Message as IdMessage}
+use Rattle.messages.specs.declared.message.Message.TheVariants.{Row, Seal}
+use Rattle.messages.proofs.MessagesLemmas.{is_same_row-is, is_same_row-itself}
 use Rattle.inbox.proofs.Lists.Growing.{continues_itself, continues_with, with_row-continues}
 use Rattle.inbox.proofs.Lists.Rows.{rows_in-append, rows-with_row}
 use Rattle.sched_lists.specs.Limits.{message_limit}

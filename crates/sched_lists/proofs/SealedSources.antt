@@ -10,7 +10,7 @@ use Rattle.topo_types.specs.Messages.{Message, seal, is_same_row, rows_in}
 use Rattle.inbox.specs.Emission.{count_in}
 use Rattle.inbox.specs.Growth.{Continues}
 use Rattle.inbox.specs.Ids.{message_with_id}
-use Rattle.inbox.specs.declared.message.Message.TheVariants.{Seal}
+use Rattle.messages.specs.declared.message.Message.TheVariants.{Seal}
 use Rattle.inbox.proofs.Lists.Growing.{continues_itself, continues_on}
 use Rattle.inbox.proofs.Lists.Rows.{rows_in-append}
 use Rattle.sched_lists.specs.Limits.{message_limit}

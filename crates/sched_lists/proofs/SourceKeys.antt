@@ -11,7 +11,7 @@ use Rattle.blz_value.specs.Record.{Row, record_cmp}
 use Rattle.blz_value.specs.Sets.{set_of}
 use Rattle.blz_value.proofs.RowSets.{set_of-push}
 use Rattle.topo_types.specs.Messages.{is_same_row}
-use Rattle.inbox.proofs.MessagesLemmas.{is_same_row-is}
+use Rattle.messages.proofs.MessagesLemmas.{is_same_row-is}
 use Rattle.sched_lists.specs.Code.Counts.{count_of}
 
 -- ---- key values

@@ -13,8 +13,8 @@ use Rattle.inbox.specs.Emission.{count_in}
 use Rattle.inbox.specs.Growth.{Continues}
 use Rattle.inbox.specs.Ids.{message_with_id, IsGiven}
 use Rattle.inbox.specs.Log.{row_with_id}
-use Rattle.inbox.specs.declared.message.Message.{Message as IdMessage}
-use Rattle.inbox.specs.declared.message.Message.TheVariants.{Row, Seal}
+use Rattle.messages.specs.declared.message.Message.{Message as IdMessage}
+use Rattle.messages.specs.declared.message.Message.TheVariants.{Row, Seal}
 use Rattle.sched_lists.specs.Limits.{message_limit}
 use Rattle.sched_lists.specs.Lists.{read_list, list_at, total}
 use Rattle.sched_lists.specs.Code.Counts.{count_of, HasRoom, IsTallyOf, IsTallied, AreTallied}

@@ -5,7 +5,7 @@ use Rattle.blz_value.specs.Members.{Has}
 use Rattle.blz_value.specs.Record.{Row}
 use Rattle.topo_types.specs.Messages.{Message, rows_in}
 use Rattle.inbox.specs.Ids.{message_with_id, IsGiven}
-use Rattle.inbox.specs.declared.message.Message.{Message as IdMessage}
+use Rattle.messages.specs.declared.message.Message.{Message as IdMessage}
 use Rattle.inbox.specs.Growth.{Continues}
 
 -- a pool with its records, and the lists

@@ -2,7 +2,7 @@
 ghost use Rattle.std.specs.Prelude.{◌≡◌, ◌≤◌, ◌++◌, ◌∷◌, [], length, slice_get, false, OnOk, OnErr, option_copied};
 ghost use Rattle.std.specs.List.{list_any};
 ghost use Rattle.sched_lists.specs.Code.Ids.{is_row_with, is_seal_of};
-ghost use Rattle.inbox.specs.declared.message.Message.TheVariants.{Row, Seal};
+ghost use Rattle.messages.specs.declared.message.Message.TheVariants.{Row, Seal};
 
 use blz_pool::Id;
 use blz_value::Record;
@@ -24,7 +24,7 @@ pub(crate) struct Emitted {
 impl Model for Emitted {
     ghost use Rattle.std.specs.Prelude.{◌≡◌, List};
     ghost use Rattle.blz_value.specs.Sets.{set_of};
-    ghost use Rattle.inbox.specs.declared.message.Message.{Message};
+    ghost use Rattle.messages.specs.declared.message.Message.{Message};
     ghost use Rattle.sched_lists.specs.Code.Ids.{ids_in, all_sealed};
 
     ghost Value = { List Message };

@@ -6,7 +6,7 @@ ghost use Rattle.blz_value.specs.Members.{Has};
 ghost use Rattle.blz_value.specs.Record.{Row};
 ghost use Rattle.inbox.specs.Emission.{count_in, with_row, with_rows, with_seal, with_seals};
 ghost use Rattle.inbox.specs.Ids.{IsGiven};
-ghost use Rattle.inbox.specs.declared.message.Message.TheVariants.{Seal};
+ghost use Rattle.messages.specs.declared.message.Message.TheVariants.{Seal};
 ghost use Rattle.sched_lists.specs.Limits.{message_limit};
 ghost use Rattle.sched_lists.specs.Lists.{OneListBecomes, AllAreGiven, IsExact, read_lists, list_at, total};
 ghost use Rattle.sched_lists.specs.Code.Counts.{count_of, seals_of, HasRoom, IsTallyOf, IsTallied};

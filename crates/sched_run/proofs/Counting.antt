@@ -23,9 +23,9 @@ use Rattle.topo_types.specs.Sets.{below}
 use Rattle.topo_types.proofs.Regions.Spreading.{same_truth}
 use Rattle.inbox.specs.Ids.{message_with_id}
 use Rattle.inbox.specs.Log.{EntryId, IsLog, is_same_entry_id}
-use Rattle.inbox.specs.Code.Known.{entry_id_cmp}
-use Rattle.inbox.specs.declared.message.Message.{Message as IdMessage}
-use Rattle.inbox.specs.declared.message.Message.TheVariants.{Row, Seal}
+use Rattle.messages.specs.Known.{entry_id_cmp}
+use Rattle.messages.specs.declared.message.Message.{Message as IdMessage}
+use Rattle.messages.specs.declared.message.Message.TheVariants.{Row, Seal}
 use Rattle.sched_lists.specs.Lists.{read_list}
 use Rattle.sched_lists.proofs.PlacesLemmas.{below_more}
 

@@ -30,8 +30,8 @@ use Rattle.inbox.specs.Ids.{IsGiven, message_with_id}
 use Rattle.inbox.specs.Instances.{Instance}
 use Rattle.inbox.specs.OrderReplicas.{IsOrderOutput, most_taken}
 use Rattle.inbox.specs.Wiring.{wiring_of, carried_places}
-use Rattle.inbox.specs.declared.message.Message.{Message as IdMessage}
-use Rattle.inbox.specs.declared.message.Message.TheVariants.{Row, Seal}
+use Rattle.messages.specs.declared.message.Message.{Message as IdMessage}
+use Rattle.messages.specs.declared.message.Message.TheVariants.{Row, Seal}
 use Rattle.inbox.proofs.Lists.SequencerLaw.{sequencer_law}
 use Rattle.inbox.proofs.WiringLemmas.{instance-wired, instance-ports, stream-wired, length-below}
 use Rattle.sched_lists.specs.Limits.{message_limit}

@@ -8,7 +8,7 @@ use Rattle.topo_types.specs.View.{View}
 use Rattle.inbox.specs.Wiring.{wiring_of, instance_at}
 use Rattle.inbox.specs.Executions.{is_hearing, pairs_of}
 use Rattle.inbox.specs.Events.{Part, Event, deliver, batch, Step, event, Refusal, no_instance, no_message}
-use Rattle.inbox.specs.declared.message.Message.{Message as IdMessage}
+use Rattle.messages.specs.declared.message.Message.{Message as IdMessage}
 use Rattle.sched_run.specs.Answers.{answer_to, fault_of}
 use Rattle.sched_lists.specs.Limits.{limit_of_event}
 use Rattle.sched_run.specs.Net.{Stands, execution_in, EventLeaves}

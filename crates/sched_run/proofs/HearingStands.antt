@@ -29,7 +29,7 @@ use Rattle.inbox.specs.Executions.{Execution, with_lives, after_event, pairs_of}
 use Rattle.inbox.specs.Events.{Part, Event, Step, event}
 use Rattle.inbox.specs.Pools.{IsLater}
 use Rattle.inbox.specs.Standing.{Seat, SeatStandsFor}
-use Rattle.inbox.specs.declared.message.Message.{Message as IdMessage}
+use Rattle.messages.specs.declared.message.Message.{Message as IdMessage}
 use Rattle.inbox.proofs.Executions.Standing.{seat_hears}
 use Rattle.inbox.proofs.WiringLemmas.{instance-wired}
 use Rattle.sched_run.specs.Answers.{Answers, answer_to, answer_at, fault_at}

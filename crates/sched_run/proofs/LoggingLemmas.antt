@@ -20,11 +20,11 @@ use Rattle.inbox.specs.Log.{EntryId, AreGiven, is_same_entry_id, entry_with_id, 
 use Rattle.inbox.specs.Messages.{Pair, is_same_entry, with_new}
 use Rattle.inbox.specs.Standing.{Seats}
 use Rattle.inbox.specs.Wiring.{nobody, instances_at, instance_at, is_sequencer, wiring_of}
-use Rattle.inbox.specs.declared.message.Message.{Message as IdMessage}
-use Rattle.inbox.specs.declared.message.Message.TheVariants.{Row, Seal}
+use Rattle.messages.specs.declared.message.Message.{Message as IdMessage}
+use Rattle.messages.specs.declared.message.Message.TheVariants.{Row, Seal}
 use Rattle.inbox.proofs.Executions.Standing.{stands_ordering}
-use Rattle.inbox.proofs.LogLemmas.{is_same_entry_id-is, is_same_entry_id-itself, one_id, with_new-with_ids}
-use Rattle.inbox.proofs.MessagesLemmas.{Has-from_with_new}
+use Rattle.messages.proofs.LogLemmas.{is_same_entry_id-is, is_same_entry_id-itself, one_id, with_new-with_ids}
+use Rattle.messages.proofs.MessagesLemmas.{Has-from_with_new}
 use Rattle.inbox.proofs.WiringLemmas.{instance-wired, length-below}
 use Rattle.sched_run.specs.Answers.{answer_to}
 use Rattle.sched_lists.specs.Lists.{IsExact, read_lists, list_at}

@@ -23,9 +23,9 @@ use Rattle.inbox.specs.Log.{EntryId, AreGiven, is_same_entry_id, entry_with_id, 
 use Rattle.inbox.specs.Messages.{Batch, Entry, Pair, all_pairs, is_same_entry, is_same_pair}
 use Rattle.inbox.specs.Wiring.{feeds_for, instance_for, wiring_of}
 use Rattle.inbox.specs.declared.inbox.Inbox.{Inbox}
-use Rattle.inbox.specs.declared.message.Message.{Message as IdMessage}
-use Rattle.inbox.specs.declared.message.Message.TheVariants.{Row, Seal}
-use Rattle.inbox.proofs.LogLemmas.{any-with_ids, one_id}
+use Rattle.messages.specs.declared.message.Message.{Message as IdMessage}
+use Rattle.messages.specs.declared.message.Message.TheVariants.{Row, Seal}
+use Rattle.messages.proofs.LogLemmas.{any-with_ids, one_id}
 use Rattle.sched_turns.specs.Windows.{Looked, IsWindow, MayShow, OthersAreOpen}
 use Rattle.sched_turns.specs.declared.windows.Stale.{Stale}
 use Rattle.sched_lists.specs.Code.Ids.{id_in}

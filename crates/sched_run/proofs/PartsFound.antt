@@ -22,7 +22,7 @@ use Rattle.inbox.specs.Wiring.{Wiring, wiring_of, instance_at, instance_for, fee
 use Rattle.inbox.specs.Growth.{feed_numbered}
 use Rattle.inbox.specs.Executions.{Execution, feed_of, message_of, pair_with, pair_of, pairs_of, result_and_then}
 use Rattle.inbox.specs.Events.{Part, Step, Refusal, no_instance, no_message}
-use Rattle.inbox.specs.declared.message.Message.{Message as IdMessage}
+use Rattle.messages.specs.declared.message.Message.{Message as IdMessage}
 use Rattle.inbox.proofs.Executions.Results.{Ok_same, and_then_Ok}
 use Rattle.inbox.proofs.Executions.Sent.{IsFeedOf, feed_of-is}
 use Rattle.inbox.proofs.WiringLemmas.{IsFeedInto, instance-feeds, instance-wired}

@@ -5,8 +5,8 @@ use Rattle.blz_value.specs.Record.{Row as Record}
 use Rattle.blz_value.specs.Operators.{cells}
 use Rattle.topo_types.specs.Messages.{is_same_row}
 use Rattle.inbox.specs.Log.{row_with_id}
-use Rattle.inbox.specs.declared.message.Message.{Message as IdMessage}
-use Rattle.inbox.specs.declared.message.Message.TheVariants.{Row, Seal}
+use Rattle.messages.specs.declared.message.Message.{Message as IdMessage}
+use Rattle.messages.specs.declared.message.Message.TheVariants.{Row, Seal}
 use Rattle.sched_lists.specs.declared.fault.EventFault.{EventFault}
 use Rattle.sched_lists.specs.declared.fault.EventFault.TheVariants.{NoInstance, NoMessage, NothingToTake, TooManyRows, TooManyMessages, NoMemory}
 

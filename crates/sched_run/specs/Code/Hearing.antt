@@ -17,7 +17,7 @@ use Rattle.inbox.specs.Wiring.{Wiring}
 use Rattle.inbox.specs.Executions.{Execution, after_event, after_hearing}
 use Rattle.inbox.specs.Events.{Part, Event, event, Step}
 use Rattle.inbox.specs.declared.inbox.Inbox.{Inbox}
-use Rattle.inbox.specs.declared.message.Message.{Message as IdMessage}
+use Rattle.messages.specs.declared.message.Message.{Message as IdMessage}
 use Rattle.sched_lists.specs.Limits.{limit_of_event, limit_of_hearing}
 use Rattle.sched_run.specs.Net.{Stands, EventAnswers}
 use Rattle.sched_run.specs.declared.books.Books.{Books}

@@ -16,7 +16,7 @@ use Rattle.inbox.specs.Wiring.{wiring_of, instance_at}
 use Rattle.inbox.specs.Growth.{feed_numbered}
 use Rattle.inbox.specs.Executions.{pair_of, pairs_of}
 use Rattle.inbox.specs.Events.{Part, Step, Refusal, no_instance, no_message}
-use Rattle.inbox.specs.declared.message.Message.{Message as IdMessage}
+use Rattle.messages.specs.declared.message.Message.{Message as IdMessage}
 use Rattle.sched_run.specs.Net.{BooksStand, execution_in, list_on}
 use Rattle.sched_run.specs.declared.books.Books.{Books}
 use Rattle.sched_lists.specs.declared.fault.EventFault.{EventFault}

@@ -1,5 +1,5 @@
 use Rattle.std.proofs.Common.{◌≡◌, ◌<◌, ◌∙◌, ◌++◌, ◌∷◌, [], set, ap, sym, subst, false, true}
-use Rattle.inbox.specs.declared.message.Message.TheVariants.{Seal}
+use Rattle.messages.specs.declared.message.Message.TheVariants.{Seal}
 use Rattle.sched_lists.specs.Lists.{Listed, list_at, total}
 use Rattle.sched_lists.specs.declared.fault.EventFault.TheVariants.{TooManyMessages}
 use Rattle.sched_lists.proofs.FaultLemmas.{came_from}

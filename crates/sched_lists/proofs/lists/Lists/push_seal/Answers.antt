@@ -1,6 +1,6 @@
 use Rattle.std.proofs.Common.{◌<◌, ◌∙◌, ap, length, subst, sym, arith}
 use Rattle.std.proofs.lemmas.List.{length-set}
-use Rattle.inbox.specs.declared.message.Message.TheVariants.{Seal}
+use Rattle.messages.specs.declared.message.Message.TheVariants.{Seal}
 use Rattle.sched_lists.specs.Lists.{Listed, total}
 use Rattle.sched_lists.proofs.Ids.{pushed_keeps}
 use Rattle.sched_lists.proofs.Tallies.{tallied_sealed}

@@ -1,6 +1,6 @@
 use Rattle.std.proofs.Common.{◌<◌, ◌∙◌, length, subst, sym, arith}
 use Rattle.std.proofs.lemmas.List.{length-set}
-use Rattle.inbox.specs.declared.message.Message.TheVariants.{Row}
+use Rattle.messages.specs.declared.message.Message.TheVariants.{Row}
 use Rattle.sched_lists.specs.Lists.{Listed}
 use Rattle.sched_lists.proofs.Ids.{pushed_keeps}
 use Rattle.sched_lists.proofs.Tallies.{room_at, taken_many, tallied_lost, tallied_more}

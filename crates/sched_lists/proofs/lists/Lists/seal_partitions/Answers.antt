@@ -1,5 +1,5 @@
 use Rattle.std.proofs.Common.{◌≡◌, ◌∙◌, ◌++◌, ◌∷◌, [], set, ap, subst}
-use Rattle.inbox.specs.declared.message.Message.TheVariants.{Seal}
+use Rattle.messages.specs.declared.message.Message.TheVariants.{Seal}
 use Rattle.sched_lists.specs.Lists.{Listed, list_at}
 use Rattle.sched_lists.proofs.SealedSources.{IsSealedBy, sealed_next, count_stays}
 use Rattle.sched_lists.proofs.lists.Lists.seal_partitions.Goals as goal

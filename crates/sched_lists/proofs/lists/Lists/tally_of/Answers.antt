@@ -1,6 +1,6 @@
 use Rattle.std.proofs.Common.{◌≡◌, ◌<◌, ◌+◌, ◌∙◌, ap, subst, arith, length, List, ℕ, refl}
 use Rattle.std.specs.Prelude.{if◌then◌else◌}
-use Rattle.inbox.specs.declared.message.Message.{Message as IdMessage}
+use Rattle.messages.specs.declared.message.Message.{Message as IdMessage}
 use Rattle.sched_lists.specs.Limits.{message_limit}
 use Rattle.sched_lists.specs.Lists.{Listed, list_at}
 use Rattle.sched_lists.specs.Code.Counts.{count_of}

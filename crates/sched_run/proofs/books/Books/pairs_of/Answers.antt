@@ -3,7 +3,7 @@ use Rattle.std.specs.Prelude.{Result, Ok, Err}
 use Rattle.inbox.specs.Events.{Part}
 use Rattle.inbox.specs.Ids.{IsGiven, message_with_id}
 use Rattle.inbox.specs.Wiring.{instance_for, feeds_for}
-use Rattle.inbox.specs.declared.message.Message.{Message}
+use Rattle.messages.specs.declared.message.Message.{Message}
 use Rattle.sched_run.specs.Code.Parts.{PairAnswers, PairsAnswer, StandsAt}
 use Rattle.sched_lists.specs.Lists.{read_lists}
 use Rattle.sched_lists.specs.declared.fault.EventFault.{EventFault}

@@ -42,7 +42,7 @@ use Rattle.sched_run.specs.Reading.{AreEmitted, IsOrdered}
 use Rattle.sched_run.specs.declared.books.Books.{Books}
 use Rattle.sched_run.specs.Code.Seen.{list_seen}
 use Rattle.sched_run.proofs.Found.{list_there, no_stream_there, number_of_place}
-use Rattle.sched_lists.proofs.ListsLemmas.{given-list, length-read_lists, read-at}
+use Rattle.emitted.proofs.ListsLemmas.{given-list, length-read_lists, read-at}
 use Rattle.sched_run.proofs.Showing.{emitted_shown}
 
 -- ---- rows of messages by ids

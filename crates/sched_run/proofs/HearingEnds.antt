@@ -13,11 +13,11 @@ use Rattle.sched_run.specs.Answers.{answer_to, fault_of}
 use Rattle.sched_lists.specs.Limits.{limit_of_event}
 use Rattle.sched_run.specs.Net.{Stands, execution_in, EventLeaves}
 use Rattle.sched_run.specs.Code.Hearing.{IsHearingOf, HearingAnswers, HearingLeaves, EventLeavesOpen, EndsAt}
-use Rattle.sched_lists.specs.Code.Ids.{IsLegal}
+use Rattle.emitted.specs.Faults.{IsLegal}
 use Rattle.sched_run.specs.Code.Parts.{PairsAnswer}
 use Rattle.sched_run.specs.declared.books.Books.{Books}
-use Rattle.sched_lists.specs.declared.fault.EventFault.{EventFault}
-use Rattle.sched_lists.specs.declared.fault.EventFault.TheVariants.{NoInstance, NoMessage, NothingToTake, TooManyRows, TooManyMessages, NoMemory}
+use Rattle.emitted.specs.declared.fault.EventFault.{EventFault}
+use Rattle.emitted.specs.declared.fault.EventFault.TheVariants.{NoInstance, NoMessage, NothingToTake, TooManyRows, TooManyMessages, NoMemory}
 use Rattle.sched_run.proofs.HearingTests.{after_none, after_refused}
 
 -- ---- events that are hearings

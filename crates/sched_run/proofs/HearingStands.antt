@@ -49,7 +49,7 @@ use Rattle.sched_run.proofs.ArrivingLemmas.{hearing_arrives}
 use Rattle.sched_run.proofs.HearingTests.{hears_is, mode-wired, hearing_holds, after_heard}
 use Rattle.sched_run.proofs.HeardBatch.{ear_can, ear_sets, seat_after}
 use Rattle.sched_run.proofs.Lifting.{Lifts, hearing_lifts}
-use Rattle.sched_lists.proofs.ListsLemmas.{length-read_lists}
+use Rattle.emitted.proofs.ListsLemmas.{length-read_lists}
 use Rattle.sched_run.proofs.OwnOutlets.{outlets_there, outlets_are}
 use Rattle.sched_run.proofs.PartsFound.{seat_within}
 use Rattle.sched_lists.proofs.PlacesLemmas.{place-before}

@@ -35,8 +35,8 @@ use Rattle.sched_run.specs.Code.Hearing.{EventLeavesOpen}
 use Rattle.sched_run.specs.Code.Parts.{PairAnswers}
 use Rattle.sched_run.specs.Code.Taking.{has_log, log_with, LogGets}
 use Rattle.sched_run.specs.declared.books.Books.{Books}
-use Rattle.sched_lists.specs.declared.fault.EventFault.{EventFault}
-use Rattle.sched_lists.specs.declared.fault.EventFault.TheVariants.{NoInstance, NoMessage, NothingToTake, TooManyRows, TooManyMessages, NoMemory}
+use Rattle.emitted.specs.declared.fault.EventFault.{EventFault}
+use Rattle.emitted.specs.declared.fault.EventFault.TheVariants.{NoInstance, NoMessage, NothingToTake, TooManyRows, TooManyMessages, NoMemory}
 
 -- ---- who has a log
 

@@ -28,7 +28,7 @@ use Rattle.messages.specs.declared.message.Message.TheVariants.{Row, Seal}
 use Rattle.messages.proofs.LogLemmas.{any-with_ids, one_id}
 use Rattle.sched_turns.specs.Windows.{Looked, IsWindow, MayShow, OthersAreOpen}
 use Rattle.sched_turns.specs.declared.windows.Stale.{Stale}
-use Rattle.sched_lists.specs.Code.Ids.{id_in}
+use Rattle.emitted.specs.Ids.{id_in}
 use Rattle.sched_lists.specs.Lists.{read_list, read_lists, list_at}
 use Rattle.sched_run.specs.Made.{is_undelivered, is_unordered, is_open_in}
 use Rattle.sched_run.specs.Net.{BooksStand, ShowsEar, ShowsInbox, execution_in, list_on}

@@ -31,10 +31,10 @@ use Rattle.sched_run.specs.Net.{Runs, BooksStand, BooksRun, ShowsSeat, execution
 use Rattle.sched_lists.specs.Places.{instance_place, list_place}
 use Rattle.sched_run.specs.Code.Parts.{IsReadAs, PairAnswers, PairsAnswer, StandsAt, HaveIndexes}
 use Rattle.sched_run.specs.declared.books.Books.{Books}
-use Rattle.sched_lists.specs.declared.fault.EventFault.{EventFault}
-use Rattle.sched_lists.specs.declared.fault.EventFault.TheVariants.{NoInstance, NoMessage, NothingToTake, TooManyRows, TooManyMessages, NoMemory}
+use Rattle.emitted.specs.declared.fault.EventFault.{EventFault}
+use Rattle.emitted.specs.declared.fault.EventFault.TheVariants.{NoInstance, NoMessage, NothingToTake, TooManyRows, TooManyMessages, NoMemory}
 use Rattle.sched_run.specs.declared.seated.Seated.{Seated}
-use Rattle.sched_lists.proofs.ListsLemmas.{read-at, length-read_lists}
+use Rattle.emitted.proofs.ListsLemmas.{read-at, length-read_lists}
 use Rattle.sched_lists.proofs.PlacesLemmas.{place-before}
 use Rattle.sched_run.proofs.Showing.{emitted_shown}
 

@@ -11,7 +11,7 @@ use Rattle.inbox.specs.Wiring.{wiring_of, feeds_for}
 use Rattle.messages.specs.declared.message.Message.{Message as IdMessage}
 use Rattle.sched_turns.specs.Windows.{Looked, IsWindow, MayShow, OthersAreOpen}
 use Rattle.sched_turns.specs.declared.windows.Stale.{Stale}
-use Rattle.sched_lists.specs.Code.Ids.{id_in}
+use Rattle.emitted.specs.Ids.{id_in}
 use Rattle.sched_run.specs.Made.{is_open_in, lane_list, can_take}
 use Rattle.sched_run.specs.Net.{BooksStand, execution_in}
 use Rattle.sched_run.specs.Reading.{IsRead}

@@ -19,8 +19,8 @@ use Rattle.inbox.specs.Events.{Part, Step, Refusal, no_instance, no_message}
 use Rattle.messages.specs.declared.message.Message.{Message as IdMessage}
 use Rattle.sched_run.specs.Net.{BooksStand, execution_in, list_on}
 use Rattle.sched_run.specs.declared.books.Books.{Books}
-use Rattle.sched_lists.specs.declared.fault.EventFault.{EventFault}
-use Rattle.sched_lists.specs.declared.fault.EventFault.TheVariants.{NoInstance, NoMessage, NothingToTake, TooManyRows, TooManyMessages, NoMemory}
+use Rattle.emitted.specs.declared.fault.EventFault.{EventFault}
+use Rattle.emitted.specs.declared.fault.EventFault.TheVariants.{NoInstance, NoMessage, NothingToTake, TooManyRows, TooManyMessages, NoMemory}
 
 -- feeds go by port, then by stream, then by sender
 abbrev pub feed_cmp : Feed → Feed → Ordering

@@ -6,9 +6,9 @@ use Rattle.inbox.specs.Wiring.{instance_for, feeds_for}
 use Rattle.messages.specs.declared.message.Message.{Message}
 use Rattle.sched_run.specs.Code.Parts.{PairAnswers, PairsAnswer, StandsAt}
 use Rattle.sched_lists.specs.Lists.{read_lists}
-use Rattle.sched_lists.specs.declared.fault.EventFault.{EventFault}
+use Rattle.emitted.specs.declared.fault.EventFault.{EventFault}
 use Rattle.sched_run.specs.declared.parts.Pairs.{Pairs}
-use Rattle.sched_lists.proofs.FaultLemmas.{handed_on}
+use Rattle.emitted.proofs.FaultLemmas.{handed_on}
 use Rattle.sched_run.proofs.PartsFound.{refused_at, pushed_so_far, all_pushed, all_so_far}
 use Rattle.sched_run.proofs.books.Books.pairs_of.Goals as goal
 

@@ -12,7 +12,8 @@ use std::alloc::Global;
 use std::process::Abort;
 use std::test::Fail;
 use topo_read::read;
-use topo_types::{Body, ComponentEntry, Topology, Valid, validate};
+use topo_check::validate;
+use topo_types::{Body, ComponentEntry, Topology, Valid};
 
 // The text of the file of this name.
 fn text_of<'a>(files: &[(&'a str, &'a str)], name: &str) -> &'a str {

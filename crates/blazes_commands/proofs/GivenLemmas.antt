@@ -9,9 +9,9 @@ use Rattle.report_print.specs.declared.refusal.MakeKind.TheVariants as make_kind
 use Rattle.report_print.specs.declared.refusal.Refusal.{Refusal}
 use Rattle.report_print.specs.declared.refusal.Refusal.TheVariants as refusal
 use Rattle.report_print.specs.Refusals.{refusal_line}
-use Rattle.sched_run.specs.Made.{AnswersSo}
-use Rattle.sched_run.specs.declared.fault.MakeFault.{MakeFault}
-use Rattle.sched_run.specs.declared.fault.MakeFault.TheVariants as make_faults
+use Rattle.sched_make.specs.Made.{AnswersSo}
+use Rattle.sched_make.specs.declared.fault.MakeFault.{MakeFault}
+use Rattle.sched_make.specs.declared.fault.MakeFault.TheVariants as make_faults
 use Rattle.blazes_commands.specs.declared.making.TheConstants.{FIRST_TOO_MANY}
 use Rattle.topo_read.specs.Document.{document_of}
 use Rattle.topo_read.specs.Fields.{Path}

@@ -23,7 +23,7 @@ use Rattle.sched_lists.specs.Outlets.{ShowsOutlets, outlets_for}
 use Rattle.sched_lists.specs.Places.{instance_place}
 use Rattle.sched_lists.specs.Code.Running.{EmitsAt, MeetsAt, IsCourseOf, outputs_of_outlets}
 use Rattle.sched_hear.specs.declared.books.Books.{Books}
-use Rattle.sched_lists.proofs.ListsLemmas.{length-read_lists}
+use Rattle.emitted.proofs.ListsLemmas.{length-read_lists}
 use Rattle.sched_hear.proofs.OwnOutlets.{outlets_are, outlets_there}
 use Rattle.sched_lists.proofs.PlacesLemmas.{place-before}
 use Rattle.sched_hear.proofs.ShellsLemmas.{loaded_at, many_loaded}

@@ -11,7 +11,7 @@ use Rattle.sched_hear.specs.Net.{BooksRun}
 use Rattle.sched_lists.specs.Places.{places_before, instance_place, list_place}
 use Rattle.sched_hear.specs.declared.books.Books.{Books}
 use Rattle.sched_hear.specs.Seen.{list_seen, seat_seen}
-use Rattle.sched_lists.proofs.ListsLemmas.{given-list, length-read_lists}
+use Rattle.emitted.proofs.ListsLemmas.{given-list, length-read_lists}
 use Rattle.sched_lists.proofs.PlacesLemmas.{before-more, place-before}
 
 -- ---- tests of numbers

@@ -20,7 +20,7 @@ use Rattle.inbox.specs.Inbox.{feeds_in}
 use Rattle.inbox.specs.Pools.{IsLater}
 use Rattle.inbox.specs.Standing.{Seat}
 use Rattle.inbox.specs.declared.inbox.Inbox.{Inbox}
-use Rattle.inbox.specs.declared.message.Message.{Message as IdMessage}
+use Rattle.messages.specs.declared.message.Message.{Message as IdMessage}
 use Rattle.inbox.proofs.Keeping.Later.{stands_later, keeps_later}
 use Rattle.sched_lists.specs.Lists.{Listed, read_lists}
 use Rattle.sched_hear.specs.Net.{KnowsHeard, ShowsEar, ShowsSeat, list_on}

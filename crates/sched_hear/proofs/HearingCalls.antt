@@ -16,7 +16,7 @@ use Rattle.inbox.specs.Growth.{Continues}
 use Rattle.inbox.specs.Ids.{batch_with_ids}
 use Rattle.inbox.specs.Timesteps.{SetOff}
 use Rattle.inbox.specs.Wiring.{wiring_of, instance_at, instance_for, feeds_for}
-use Rattle.inbox.specs.declared.message.Message.{Message as IdMessage}
+use Rattle.messages.specs.declared.message.Message.{Message as IdMessage}
 use Rattle.sched_hear.specs.Answers.{fault_at}
 use Rattle.sched_lists.specs.Limits.{Limit}
 use Rattle.sched_lists.specs.Lists.{Listed, IsExact, read_lists}

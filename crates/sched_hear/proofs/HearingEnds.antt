@@ -8,16 +8,16 @@ use Rattle.topo_types.specs.View.{View}
 use Rattle.inbox.specs.Wiring.{wiring_of, instance_at}
 use Rattle.inbox.specs.Executions.{is_hearing, pairs_of}
 use Rattle.inbox.specs.Events.{Part, Event, deliver, batch, Step, event, Refusal, no_instance, no_message}
-use Rattle.inbox.specs.declared.message.Message.{Message as IdMessage}
+use Rattle.messages.specs.declared.message.Message.{Message as IdMessage}
 use Rattle.sched_hear.specs.Answers.{answer_to, fault_of}
 use Rattle.sched_lists.specs.Limits.{limit_of_event}
 use Rattle.sched_hear.specs.Net.{Stands, execution_in, EventLeaves}
 use Rattle.sched_hear.specs.Code.Hearing.{IsHearingOf, HearingAnswers, HearingLeaves, EventLeavesOpen, EndsAt}
-use Rattle.sched_lists.specs.Code.Ids.{IsLegal}
+use Rattle.emitted.specs.Faults.{IsLegal}
 use Rattle.sched_hear.specs.Code.Parts.{PairsAnswer}
 use Rattle.sched_hear.specs.declared.books.Books.{Books}
-use Rattle.sched_lists.specs.declared.fault.EventFault.{EventFault}
-use Rattle.sched_lists.specs.declared.fault.EventFault.TheVariants.{NoInstance, NoMessage, NothingToTake, TooManyRows, TooManyMessages, NoMemory}
+use Rattle.emitted.specs.declared.fault.EventFault.{EventFault}
+use Rattle.emitted.specs.declared.fault.EventFault.TheVariants.{NoInstance, NoMessage, NothingToTake, TooManyRows, TooManyMessages, NoMemory}
 use Rattle.sched_hear.proofs.HearingTests.{after_none, after_refused}
 
 -- ---- events that are hearings

@@ -29,7 +29,7 @@ use Rattle.inbox.specs.Executions.{Execution, with_lives, after_event, pairs_of}
 use Rattle.inbox.specs.Events.{Part, Event, Step, event}
 use Rattle.inbox.specs.Pools.{IsLater}
 use Rattle.inbox.specs.Standing.{Seat, SeatStandsFor}
-use Rattle.inbox.specs.declared.message.Message.{Message as IdMessage}
+use Rattle.messages.specs.declared.message.Message.{Message as IdMessage}
 use Rattle.inbox.proofs.Executions.Standing.{seat_hears}
 use Rattle.inbox.proofs.WiringLemmas.{instance-wired}
 use Rattle.sched_hear.specs.Answers.{Answers, answer_to, answer_at, fault_at}
@@ -49,7 +49,7 @@ use Rattle.sched_hear.proofs.ArrivingLemmas.{hearing_arrives}
 use Rattle.sched_hear.proofs.HearingTests.{hears_is, mode-wired, hearing_holds, after_heard}
 use Rattle.sched_hear.proofs.HeardBatch.{ear_can, ear_sets, seat_after}
 use Rattle.sched_hear.proofs.Lifting.{Lifts, hearing_lifts}
-use Rattle.sched_lists.proofs.ListsLemmas.{length-read_lists}
+use Rattle.emitted.proofs.ListsLemmas.{length-read_lists}
 use Rattle.sched_hear.proofs.OwnOutlets.{outlets_there, outlets_are}
 use Rattle.sched_hear.proofs.PartsFound.{seat_within}
 use Rattle.sched_lists.proofs.PlacesLemmas.{place-before}

@@ -20,11 +20,11 @@ use Rattle.inbox.specs.Log.{EntryId, AreGiven, is_same_entry_id, entry_with_id, 
 use Rattle.inbox.specs.Messages.{Pair, is_same_entry, with_new}
 use Rattle.inbox.specs.Standing.{Seats}
 use Rattle.inbox.specs.Wiring.{nobody, instances_at, instance_at, is_sequencer, wiring_of}
-use Rattle.inbox.specs.declared.message.Message.{Message as IdMessage}
-use Rattle.inbox.specs.declared.message.Message.TheVariants.{Row, Seal}
+use Rattle.messages.specs.declared.message.Message.{Message as IdMessage}
+use Rattle.messages.specs.declared.message.Message.TheVariants.{Row, Seal}
 use Rattle.inbox.proofs.Executions.Standing.{stands_ordering}
-use Rattle.inbox.proofs.LogLemmas.{is_same_entry_id-is, is_same_entry_id-itself, one_id, with_new-with_ids}
-use Rattle.inbox.proofs.MessagesLemmas.{Has-from_with_new}
+use Rattle.messages.proofs.LogLemmas.{is_same_entry_id-is, is_same_entry_id-itself, one_id, with_new-with_ids}
+use Rattle.messages.proofs.MessagesLemmas.{Has-from_with_new}
 use Rattle.inbox.proofs.WiringLemmas.{instance-wired, length-below}
 use Rattle.sched_hear.specs.Answers.{answer_to}
 use Rattle.sched_lists.specs.Lists.{IsExact, read_lists, list_at}
@@ -35,8 +35,8 @@ use Rattle.sched_hear.specs.Code.Hearing.{EventLeavesOpen}
 use Rattle.sched_hear.specs.Code.Parts.{PairAnswers}
 use Rattle.sched_hear.specs.Code.Taking.{has_log, log_with, LogGets}
 use Rattle.sched_hear.specs.declared.books.Books.{Books}
-use Rattle.sched_lists.specs.declared.fault.EventFault.{EventFault}
-use Rattle.sched_lists.specs.declared.fault.EventFault.TheVariants.{NoInstance, NoMessage, NothingToTake, TooManyRows, TooManyMessages, NoMemory}
+use Rattle.emitted.specs.declared.fault.EventFault.{EventFault}
+use Rattle.emitted.specs.declared.fault.EventFault.TheVariants.{NoInstance, NoMessage, NothingToTake, TooManyRows, TooManyMessages, NoMemory}
 
 -- ---- who has a log
 

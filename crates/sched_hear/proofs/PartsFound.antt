@@ -22,7 +22,7 @@ use Rattle.inbox.specs.Wiring.{Wiring, wiring_of, instance_at, instance_for, fee
 use Rattle.inbox.specs.Growth.{feed_numbered}
 use Rattle.inbox.specs.Executions.{Execution, feed_of, message_of, pair_with, pair_of, pairs_of, result_and_then}
 use Rattle.inbox.specs.Events.{Part, Step, Refusal, no_instance, no_message}
-use Rattle.inbox.specs.declared.message.Message.{Message as IdMessage}
+use Rattle.messages.specs.declared.message.Message.{Message as IdMessage}
 use Rattle.inbox.proofs.Executions.Results.{Ok_same, and_then_Ok}
 use Rattle.inbox.proofs.Executions.Sent.{IsFeedOf, feed_of-is}
 use Rattle.inbox.proofs.WiringLemmas.{IsFeedInto, instance-feeds, instance-wired}
@@ -31,10 +31,10 @@ use Rattle.sched_hear.specs.Net.{Runs, BooksStand, BooksRun, ShowsSeat, executio
 use Rattle.sched_lists.specs.Places.{instance_place, list_place}
 use Rattle.sched_hear.specs.Code.Parts.{IsReadAs, PairAnswers, PairsAnswer, StandsAt, HaveIndexes}
 use Rattle.sched_hear.specs.declared.books.Books.{Books}
-use Rattle.sched_lists.specs.declared.fault.EventFault.{EventFault}
-use Rattle.sched_lists.specs.declared.fault.EventFault.TheVariants.{NoInstance, NoMessage, NothingToTake, TooManyRows, TooManyMessages, NoMemory}
+use Rattle.emitted.specs.declared.fault.EventFault.{EventFault}
+use Rattle.emitted.specs.declared.fault.EventFault.TheVariants.{NoInstance, NoMessage, NothingToTake, TooManyRows, TooManyMessages, NoMemory}
 use Rattle.sched_hear.specs.declared.seated.Seated.{Seated}
-use Rattle.sched_lists.proofs.ListsLemmas.{read-at, length-read_lists}
+use Rattle.emitted.proofs.ListsLemmas.{read-at, length-read_lists}
 use Rattle.sched_lists.proofs.PlacesLemmas.{place-before}
 use Rattle.sched_hear.proofs.Showing.{emitted_shown}
 

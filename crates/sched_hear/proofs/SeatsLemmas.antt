@@ -29,7 +29,7 @@ use Rattle.inbox.proofs.Executions.Lengthening.{same_numbers, history_grows}
 use Rattle.inbox.proofs.Executions.Sent.{history_holds}
 use Rattle.inbox.proofs.Keeping.Later.{stands_later, keeps_later, given_later, reads_later}
 use Rattle.inbox.proofs.Lists.Repeats.{no_repeats-emitted_list}
-use Rattle.inbox.proofs.MessagesLemmas.{is_same_row-itself}
+use Rattle.messages.proofs.MessagesLemmas.{is_same_row-itself}
 use Rattle.inbox.proofs.WiringLemmas.{instance-wired, instance-feeds}
 use Rattle.sched_lists.specs.Lists.{Listed, read_lists, list_at}
 use Rattle.sched_hear.specs.Net.{KnowsHeard, ShowsEar, ShowsSeat, ShowSeats, ShowLogs, list_on}

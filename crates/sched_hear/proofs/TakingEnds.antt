@@ -25,11 +25,11 @@ use Rattle.sched_lists.specs.Outlets.{OthersStay, outlets_for}
 use Rattle.sched_lists.specs.Places.{instance_place}
 use Rattle.sched_hear.specs.Code.Hearing.{EventLeavesOpen}
 use Rattle.sched_lists.specs.Code.Running.{EmitsAt, MeetsAt}
-use Rattle.sched_lists.specs.Code.Ids.{IsLegal}
+use Rattle.emitted.specs.Faults.{IsLegal}
 use Rattle.sched_hear.specs.Code.Taking.{takes_itself, taken_in, IsNext, entry_sets_off, EarChanges, took_one}
 use Rattle.sched_hear.specs.declared.books.Books.{Books}
-use Rattle.sched_lists.specs.declared.fault.EventFault.{EventFault}
-use Rattle.sched_lists.specs.declared.fault.EventFault.TheVariants.{NoInstance, NoMessage, NothingToTake, TooManyRows, TooManyMessages, NoMemory}
+use Rattle.emitted.specs.declared.fault.EventFault.{EventFault}
+use Rattle.emitted.specs.declared.fault.EventFault.TheVariants.{NoInstance, NoMessage, NothingToTake, TooManyRows, TooManyMessages, NoMemory}
 use Rattle.sched_lists.specs.declared.outlets.Outlet.{Outlet}
 use Rattle.sched_hear.specs.declared.seated.Seated.{Seated}
 use Rattle.sched_hear.proofs.CourseLemmas.{runs_here, shell_inside, outlets_inside}

@@ -19,8 +19,8 @@ use Rattle.topo_types.specs.Feeds.{Feed}
 use Rattle.inbox.specs.Executions.{Execution, after_event}
 use Rattle.inbox.specs.Events.{Step, Event, event}
 use Rattle.sched_hear.specs.Answers.{Answers}
-use Rattle.sched_lists.specs.declared.fault.EventFault.{EventFault}
-use Rattle.sched_lists.specs.declared.fault.EventFault.TheVariants.{NoInstance, NoMessage, NothingToTake, TooManyRows, TooManyMessages, NoMemory}
+use Rattle.emitted.specs.declared.fault.EventFault.{EventFault}
+use Rattle.emitted.specs.declared.fault.EventFault.TheVariants.{NoInstance, NoMessage, NothingToTake, TooManyRows, TooManyMessages, NoMemory}
 use Rattle.sched_bench.specs.Bench.{instance_components}
 use Rattle.sched_lists.specs.Limits.{limit_of_event}
 use Rattle.sched_lists.specs.Lists.{Listed, IsExact, read_lists, list_at}

@@ -13,11 +13,11 @@ ghost use Rattle.sched_lists.specs.Lists.{IsExact, read_lists};
 ghost use Rattle.sched_hear.specs.Net.{Runs, BooksRun, EventAnswers, EventLeaves, BooksAnswer, BooksLeave};
 ghost use Rattle.sched_hear.specs.Numbered.{numbered_part};
 ghost use Rattle.sched_lists.specs.Outlets.{OthersStay};
-ghost use Rattle.sched_lists.specs.Code.Ids.{IsLegal};
+ghost use Rattle.emitted.specs.Faults.{IsLegal};
 ghost use Rattle.sched_hear.specs.Code.Hearing.{EventLeavesOpen, BooksLeaveOpen};
 ghost use Rattle.sched_lists.specs.Code.Running.{EmitsAt, MeetsAt};
 ghost use Rattle.sched_hear.specs.Code.Taking.{takes_itself, took_one, IsNext, HasTakenFew, entry_sets_off, EarChanges, has_log, LogGets};
-ghost use Rattle.sched_lists.specs.declared.fault.EventFault.TheVariants.{TooManyRows, TooManyMessages};
+ghost use Rattle.emitted.specs.declared.fault.EventFault.TheVariants.{TooManyRows, TooManyMessages};
 
 use crate::books::Books;
 use crate::numbered::part_of;

@@ -8,7 +8,7 @@ ghost use Rattle.inbox.specs.Wiring.{instance_for, feeds_for};
 ghost use Rattle.sched_lists.specs.Lists.{read_lists, list_at};
 ghost use Rattle.sched_hear.specs.Net.{BooksRun};
 ghost use Rattle.sched_lists.specs.Places.{list_place};
-ghost use Rattle.sched_lists.specs.Code.Ids.{IsLimit};
+ghost use Rattle.emitted.specs.Faults.{IsLimit};
 ghost use Rattle.sched_hear.specs.Code.Parts.{FeedsRise, PairAnswers, PairsAnswer, StandsAt, HaveIndexes};
 
 use crate::books::Books;

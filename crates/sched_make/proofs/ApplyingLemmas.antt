@@ -21,8 +21,8 @@ use Rattle.sched_hear.specs.Net.{Stands, Runs, EventAnswers, EventLeaves, execut
 use Rattle.sched_hear.specs.Numbered.{numbered}
 use Rattle.sched_make.specs.declared.applying.EventRefusal.{EventRefusal}
 use Rattle.sched_hear.specs.declared.books.Books.{Books}
-use Rattle.sched_lists.specs.declared.fault.EventFault.{EventFault}
-use Rattle.sched_lists.specs.declared.fault.EventFault.TheVariants.{NoMemory}
+use Rattle.emitted.specs.declared.fault.EventFault.{EventFault}
+use Rattle.emitted.specs.declared.fault.EventFault.TheVariants.{NoMemory}
 
 -- ---- one answer
 

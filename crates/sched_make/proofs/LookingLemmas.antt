@@ -23,12 +23,12 @@ use Rattle.inbox.specs.Log.{EntryId, AreGiven, is_same_entry_id, entry_with_id, 
 use Rattle.inbox.specs.Messages.{Batch, Entry, Pair, all_pairs, is_same_entry, is_same_pair}
 use Rattle.inbox.specs.Wiring.{feeds_for, instance_for, wiring_of}
 use Rattle.inbox.specs.declared.inbox.Inbox.{Inbox}
-use Rattle.inbox.specs.declared.message.Message.{Message as IdMessage}
-use Rattle.inbox.specs.declared.message.Message.TheVariants.{Row, Seal}
-use Rattle.inbox.proofs.LogLemmas.{any-with_ids, one_id}
+use Rattle.messages.specs.declared.message.Message.{Message as IdMessage}
+use Rattle.messages.specs.declared.message.Message.TheVariants.{Row, Seal}
+use Rattle.messages.proofs.LogLemmas.{any-with_ids, one_id}
 use Rattle.sched_turns.specs.Windows.{Looked, IsWindow, MayShow, OthersAreOpen}
 use Rattle.sched_turns.specs.declared.windows.Stale.{Stale}
-use Rattle.sched_lists.specs.Code.Ids.{id_in}
+use Rattle.emitted.specs.Ids.{id_in}
 use Rattle.sched_lists.specs.Lists.{read_list, read_lists, list_at}
 use Rattle.sched_make.specs.Made.{is_undelivered, is_unordered, is_open_in}
 use Rattle.sched_hear.specs.Net.{BooksStand, ShowsEar, ShowsInbox, execution_in, list_on}

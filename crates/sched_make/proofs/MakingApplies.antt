@@ -15,7 +15,7 @@ use Rattle.sched_hear.specs.Net.{EventAnswers, EventLeaves}
 use Rattle.sched_hear.specs.Numbered.{numbered}
 use Rattle.sched_make.specs.Code.Making.{EndsNet, fault_with, GoesOn, HasRun, FailsIn, AppliedSo, AppliesEvents}
 use Rattle.sched_hear.specs.declared.books.Books.{Books}
-use Rattle.sched_lists.specs.declared.fault.EventFault.{EventFault}
+use Rattle.emitted.specs.declared.fault.EventFault.{EventFault}
 use Rattle.sched_make.specs.declared.fault.MakeFault.{MakeFault}
 use Rattle.sched_make.specs.declared.fault.MakeFault.TheVariants.{TooManyEvents, NoMemory}
 use Rattle.sched_make.specs.declared.limits.TheConstants.{MAX_EVENTS}

@@ -23,8 +23,8 @@ use Rattle.sched_hear.specs.Net.{Stands, EventAnswers, EventLeaves, execution_in
 use Rattle.sched_hear.specs.Numbered.{numbered}
 use Rattle.sched_make.specs.Code.Making.{EndsNet, fault_with, MeetNone, HasRun, MeetsLimit, FailsAt, FailsIn}
 use Rattle.sched_hear.specs.declared.books.Books.{Books}
-use Rattle.sched_lists.specs.declared.fault.EventFault.{EventFault}
-use Rattle.sched_lists.specs.declared.fault.EventFault.TheVariants.{NoInstance, NoMessage, NothingToTake, TooManyRows, TooManyMessages, NoMemory}
+use Rattle.emitted.specs.declared.fault.EventFault.{EventFault}
+use Rattle.emitted.specs.declared.fault.EventFault.TheVariants.{NoInstance, NoMessage, NothingToTake, TooManyRows, TooManyMessages, NoMemory}
 use Rattle.sched_make.specs.declared.fault.MakeFault.{MakeFault}
 use Rattle.sched_make.specs.declared.fault.MakeFault.TheVariants as make_fault
 use Rattle.sched_make.specs.declared.limits.TheConstants.{MAX_EVENTS}

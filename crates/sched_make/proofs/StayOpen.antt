@@ -25,7 +25,7 @@ use Rattle.inbox.proofs.Executions.Lengthening.{history_grows, with_logged-lives
 use Rattle.inbox.proofs.Executions.Results.{Ok_same, and_then_Ok, if_Ok}
 use Rattle.inbox.proofs.Executions.Sent.{IsPairOf, feed_of-is, pair_of-is}
 use Rattle.inbox.proofs.Lists.Repeats.{no_repeats-emitted_list}
-use Rattle.inbox.proofs.MessagesLemmas.{is_same_pair-is}
+use Rattle.messages.proofs.MessagesLemmas.{is_same_pair-is}
 use Rattle.sched_turns.specs.Windows.{IsWindow, Looked, OthersAreOpen, may_be_stale}
 use Rattle.sched_turns.specs.declared.windows.Stale.{Stale}
 use Rattle.sched_turns.specs.declared.windows.Stale.TheVariants.{Nothing, Place, Everything}

@@ -15,8 +15,8 @@ use Rattle.topo_types.specs.Messages.{row_in, rows_in}
 use Rattle.topo_types.specs.Sets.{below}
 use Rattle.inbox.specs.Ids.{message_with_id}
 use Rattle.inbox.specs.Log.{EntryId, IsLog}
-use Rattle.inbox.specs.declared.message.Message.{Message as IdMessage}
-use Rattle.inbox.specs.declared.message.Message.TheVariants.{Row, Seal}
+use Rattle.messages.specs.declared.message.Message.{Message as IdMessage}
+use Rattle.messages.specs.declared.message.Message.TheVariants.{Row, Seal}
 use Rattle.sched_lists.specs.Lists.{read_list}
 use Rattle.sched_lists.proofs.PlacesLemmas.{below_more}
 

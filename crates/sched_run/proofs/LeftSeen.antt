@@ -16,7 +16,7 @@ use Rattle.topo_types.specs.Feeds.{Feed, no_feed, are_paired, feeds, feeds_at, f
 use Rattle.topo_types.specs.Messages.{Message, rows_in}
 use Rattle.topo_types.specs.Sets.{below}
 use Rattle.topo_types.specs.Valid.{IsValid, IsWhole, Validated}
-use Rattle.topo_types.specs.Code.Bounded.{IsBounded}
+use Rattle.topo_types.specs.Bounded.{IsBounded}
 use Rattle.topo_types.specs.View.{View, End, Stream, no_stream, component_at, goes_to, origin_of, port_numbers, replicas_of, senders_of, stream_numbers, stream_replicas, streams_to, is_order, is_order_mode}
 use Rattle.topo_types.specs.ViewOf.{modules_in}
 use Rattle.topo_types.proofs.Regions.Spreading.{same_truth}
@@ -31,11 +31,11 @@ use Rattle.inbox.specs.Log.{EntryId, AreGiven, IsLog, is_same_entry_id, entry_wi
 use Rattle.inbox.specs.Messages.{Batch, Entry, Pair, all_pairs, is_same_entry, is_same_pair}
 use Rattle.inbox.specs.Wiring.{feeds_for, instances_at, instance_at, instance_for, is_sequencer, is_there, wiring_of}
 use Rattle.inbox.specs.declared.inbox.Inbox.{Inbox}
-use Rattle.inbox.specs.declared.message.Message.{Message as IdMessage}
-use Rattle.inbox.specs.declared.message.Message.TheVariants.{Row}
+use Rattle.messages.specs.declared.message.Message.{Message as IdMessage}
+use Rattle.messages.specs.declared.message.Message.TheVariants.{Row}
 use Rattle.inbox.proofs.Executions.Sent.{history_holds}
-use Rattle.inbox.proofs.LogLemmas.{is_same_entry_id-is, is_same_entry_id-itself, any-with_ids, one_id}
-use Rattle.inbox.proofs.MessagesLemmas.{is_same_pair-is, is_same_pair-itself, any-from_same, same-from_any}
+use Rattle.messages.proofs.LogLemmas.{is_same_entry_id-is, is_same_entry_id-itself, any-with_ids, one_id}
+use Rattle.messages.proofs.MessagesLemmas.{is_same_pair-is, is_same_pair-itself, any-from_same, same-from_any}
 use Rattle.inbox.proofs.Ranges.{all_below, not_all_below}
 use Rattle.inbox.proofs.WiringLemmas.{instance-feeds, instance-wired, instances-wired, length-below}
 use Rattle.sched_lists.specs.Lists.{read_lists, list_at}

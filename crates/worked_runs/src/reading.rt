@@ -5,7 +5,8 @@ ghost use Rattle.topo_types.specs.Allowed.{IsAllowed};
 ghost use Rattle.topo_types.specs.Valid.{needs_module};
 
 use crate::topologies::Worked;
-use bloom_ast::{Checked, check};
+use bloom_ast::Checked;
+use bloom_check::check;
 use bloom_parse::parse;
 use std::alloc::Global;
 use std::process::Abort;

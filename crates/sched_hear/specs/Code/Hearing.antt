@@ -17,12 +17,12 @@ use Rattle.inbox.specs.Wiring.{Wiring}
 use Rattle.inbox.specs.Executions.{Execution, after_event, after_hearing}
 use Rattle.inbox.specs.Events.{Part, Event, event, Step}
 use Rattle.inbox.specs.declared.inbox.Inbox.{Inbox}
-use Rattle.inbox.specs.declared.message.Message.{Message as IdMessage}
+use Rattle.messages.specs.declared.message.Message.{Message as IdMessage}
 use Rattle.sched_lists.specs.Limits.{limit_of_event, limit_of_hearing}
 use Rattle.sched_hear.specs.Net.{Stands, EventAnswers}
 use Rattle.sched_hear.specs.declared.books.Books.{Books}
-use Rattle.sched_lists.specs.declared.fault.EventFault.{EventFault}
-use Rattle.sched_lists.specs.declared.fault.EventFault.TheVariants.{NoInstance, NoMessage, NothingToTake, TooManyRows, TooManyMessages, NoMemory}
+use Rattle.emitted.specs.declared.fault.EventFault.{EventFault}
+use Rattle.emitted.specs.declared.fault.EventFault.TheVariants.{NoInstance, NoMessage, NothingToTake, TooManyRows, TooManyMessages, NoMemory}
 use Rattle.sched_hear.specs.declared.seated.Ear.{Ear}
 use Rattle.sched_hear.specs.declared.seated.Ear.TheVariants.{Hears, Takes}
 use Rattle.sched_hear.specs.declared.seated.Seated.{Seated}

@@ -16,11 +16,11 @@ use Rattle.inbox.specs.Wiring.{wiring_of, instance_at}
 use Rattle.inbox.specs.Growth.{feed_numbered}
 use Rattle.inbox.specs.Executions.{pair_of, pairs_of}
 use Rattle.inbox.specs.Events.{Part, Step, Refusal, no_instance, no_message}
-use Rattle.inbox.specs.declared.message.Message.{Message as IdMessage}
+use Rattle.messages.specs.declared.message.Message.{Message as IdMessage}
 use Rattle.sched_hear.specs.Net.{BooksStand, execution_in, list_on}
 use Rattle.sched_hear.specs.declared.books.Books.{Books}
-use Rattle.sched_lists.specs.declared.fault.EventFault.{EventFault}
-use Rattle.sched_lists.specs.declared.fault.EventFault.TheVariants.{NoInstance, NoMessage, NothingToTake, TooManyRows, TooManyMessages, NoMemory}
+use Rattle.emitted.specs.declared.fault.EventFault.{EventFault}
+use Rattle.emitted.specs.declared.fault.EventFault.TheVariants.{NoInstance, NoMessage, NothingToTake, TooManyRows, TooManyMessages, NoMemory}
 
 -- feeds go by port, then by stream, then by sender
 abbrev pub feed_cmp : Feed → Feed → Ordering

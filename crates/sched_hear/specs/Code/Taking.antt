@@ -8,8 +8,8 @@ use Rattle.inbox.specs.Log.{EntryId, is_same_entry_id, entry_with_id}
 use Rattle.inbox.specs.Messages.{Batch, with_new}
 use Rattle.inbox.specs.Timesteps.{SetOff, timestep_of}
 use Rattle.inbox.specs.declared.inbox.Inbox.{Inbox}
-use Rattle.inbox.specs.declared.message.Message.{Message as IdMessage}
-use Rattle.inbox.specs.declared.message.Message.TheVariants.{Row, Seal}
+use Rattle.messages.specs.declared.message.Message.{Message as IdMessage}
+use Rattle.messages.specs.declared.message.Message.TheVariants.{Row, Seal}
 use Rattle.sched_lists.specs.Lists.{list_at}
 use Rattle.sched_hear.specs.declared.books.Books.{Books}
 use Rattle.sched_hear.specs.declared.seated.Ear.{Ear}

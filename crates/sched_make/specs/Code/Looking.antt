@@ -8,10 +8,10 @@ use Rattle.topo_types.specs.View.{View, component_at, replicas_of, stream_replic
 use Rattle.inbox.specs.Events.{Step}
 use Rattle.inbox.specs.Log.{EntryId, is_same_entry_id}
 use Rattle.inbox.specs.Wiring.{wiring_of, feeds_for}
-use Rattle.inbox.specs.declared.message.Message.{Message as IdMessage}
+use Rattle.messages.specs.declared.message.Message.{Message as IdMessage}
 use Rattle.sched_turns.specs.Windows.{Looked, IsWindow, MayShow, OthersAreOpen}
 use Rattle.sched_turns.specs.declared.windows.Stale.{Stale}
-use Rattle.sched_lists.specs.Code.Ids.{id_in}
+use Rattle.emitted.specs.Ids.{id_in}
 use Rattle.sched_make.specs.Made.{is_open_in, lane_list, can_take}
 use Rattle.sched_hear.specs.Net.{BooksStand, execution_in}
 use Rattle.sched_run.specs.Reading.{IsRead}

@@ -17,8 +17,8 @@ use Rattle.sched_make.specs.Making.{events_of, CountFromOne}
 use Rattle.sched_hear.specs.Net.{Stands, execution_in}
 use Rattle.sched_make.specs.Code.Works.{AreWorksOf, AreShown}
 use Rattle.sched_hear.specs.declared.books.Books.{Books}
-use Rattle.sched_lists.specs.declared.fault.EventFault.{EventFault}
-use Rattle.sched_lists.specs.declared.fault.EventFault.TheVariants as event_fault
+use Rattle.emitted.specs.declared.fault.EventFault.{EventFault}
+use Rattle.emitted.specs.declared.fault.EventFault.TheVariants as event_fault
 use Rattle.sched_make.specs.declared.fault.MakeFault.{MakeFault}
 use Rattle.sched_make.specs.declared.fault.MakeFault.TheVariants.{TooManyEvents, TooManyRows, TooManyMessages, NoMemory}
 use Rattle.sched_make.specs.declared.limits.TheConstants.{MAX_EVENTS}

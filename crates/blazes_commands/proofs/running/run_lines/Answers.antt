@@ -5,7 +5,7 @@ use Rattle.sched_hear.specs.Net.{Stands}
 use Rattle.blazes_commands.specs.Bench.{bench_states}
 use Rattle.blazes_commands.specs.Checks as check
 use Rattle.blazes_commands.specs.Commands.{Work}
-use Rattle.blazes_commands.specs.Script.{Script, ◌>>=◌}
+use Rattle.command_files.specs.Script.{Script, ◌>>=◌}
 use Rattle.blazes_commands.proofs.CommandLemmas.{kept_anyway}
 use Rattle.blazes_commands.proofs.OpeningLemmas.{opening_stops}
 use Rattle.blazes_commands.proofs.RunLemmas.{bench_replies, bench_keeps, runs_after}

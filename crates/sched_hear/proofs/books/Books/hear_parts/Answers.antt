@@ -2,9 +2,9 @@ use Rattle.std.proofs.Common.{Err, ap, map, refl, ◌∙◌, arith}
 use Rattle.std.specs.Prelude.{Result}
 use Rattle.sched_lists.specs.Limits.{too_many_rows, too_many_messages}
 use Rattle.sched_hear.specs.Code.Hearing.{HearingAnswers}
-use Rattle.sched_lists.specs.declared.fault.EventFault.{EventFault}
+use Rattle.emitted.specs.declared.fault.EventFault.{EventFault}
 use Rattle.sched_hear.specs.declared.parts.Pairs.{Pairs}
-use Rattle.sched_lists.proofs.FaultLemmas.{handed_on}
+use Rattle.emitted.proofs.FaultLemmas.{handed_on}
 use Rattle.sched_hear.proofs.HearingCalls.{call_place, call_program, call_arrives, call_outlets, limit_answers, done_answers, done_leaves}
 use Rattle.sched_hear.proofs.HearingEnds.{answers_refused, answers_limits}
 use Rattle.sched_hear.proofs.HearingStands.{seat_still}

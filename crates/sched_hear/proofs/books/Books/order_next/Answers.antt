@@ -4,7 +4,7 @@ use Rattle.sched_hear.specs.Net.{EventAnswers}
 use Rattle.sched_hear.specs.Numbered.{numbered_part}
 use Rattle.sched_hear.specs.Code.Hearing.{EventLeavesOpen}
 use Rattle.sched_hear.specs.Code.Taking.{LogGets}
-use Rattle.sched_lists.proofs.FaultLemmas.{handed_on}
+use Rattle.emitted.proofs.FaultLemmas.{handed_on}
 use Rattle.sched_hear.proofs.LoggingLemmas.{answers_unlogged, logging_refused, answers_logged, leaves_logged}
 use Rattle.sched_hear.proofs.books.Books.order_next.Goals as goal
 

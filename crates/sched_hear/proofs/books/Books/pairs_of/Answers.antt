@@ -3,12 +3,12 @@ use Rattle.std.specs.Prelude.{Result, Ok, Err}
 use Rattle.inbox.specs.Events.{Part}
 use Rattle.inbox.specs.Ids.{IsGiven, message_with_id}
 use Rattle.inbox.specs.Wiring.{instance_for, feeds_for}
-use Rattle.inbox.specs.declared.message.Message.{Message}
+use Rattle.messages.specs.declared.message.Message.{Message}
 use Rattle.sched_hear.specs.Code.Parts.{PairAnswers, PairsAnswer, StandsAt}
 use Rattle.sched_lists.specs.Lists.{read_lists}
-use Rattle.sched_lists.specs.declared.fault.EventFault.{EventFault}
+use Rattle.emitted.specs.declared.fault.EventFault.{EventFault}
 use Rattle.sched_hear.specs.declared.parts.Pairs.{Pairs}
-use Rattle.sched_lists.proofs.FaultLemmas.{handed_on}
+use Rattle.emitted.proofs.FaultLemmas.{handed_on}
 use Rattle.sched_hear.proofs.PartsFound.{refused_at, pushed_so_far, all_pushed, all_so_far}
 use Rattle.sched_hear.proofs.books.Books.pairs_of.Goals as goal
 

@@ -2,7 +2,7 @@ use Rattle.std.proofs.Common.{◌∙◌, sym, ap, map, refl, arith, Err}
 use Rattle.std.proofs.lemmas.List.{length-map}
 use Rattle.inbox.specs.Events.{take_one}
 use Rattle.sched_hear.specs.Net.{EventAnswers}
-use Rattle.sched_lists.proofs.FaultLemmas.{handed_on}
+use Rattle.emitted.proofs.FaultLemmas.{handed_on}
 use Rattle.sched_hear.proofs.TakingEnds.{answers_absent, answers_nothing, seat_inside, shell_there, shell_runs, entry_given, outlets_within, arrives_here, answers_fault, answers_done, leaves_done}
 use Rattle.sched_hear.proofs.books.Books.take_next.Goals as goal
 

@@ -5,6 +5,7 @@ use crate::reading::valid_of;
 use crate::topologies::{PLANNED_WORD_COUNT, Worked};
 use blz_boxes::{Component, PlainShell, SplitShell};
 use data_read::Data;
+use sched_make::apply;
 use sched_run::Net;
 use sched_text::Event;
 use std::alloc::Global;
@@ -24,7 +25,7 @@ fn placed_after(
     requires { IsData valid.now.view given }
 {
     let mut net = Net::open(alloc, valid, given, bench)?;
-    match net.apply(lines) {
+    match apply(&mut net, lines) {
         Ok(()) => Ok(Some(net.placed())),
         Err(_) => Ok(None),
     }

@@ -63,7 +63,7 @@ impl Question {
 
     // Holds a file with more behind what it has.
     fn hold_more(&mut self, alloc: Global, name: &str, more: &[u8]) -> Result<()> {
-        let mut text = Vec::from_slice(alloc, self.held(name).unwrap_or(b""))?;
+        let mut text = Vec::from_slice(alloc, self.held(name).unwrap_or("".as_bytes()))?;
         text.extend_from_slice(more)?;
         self.hold(alloc, name, text.as_slice())
     }

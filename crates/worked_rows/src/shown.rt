@@ -4,10 +4,11 @@ ghost use Rattle.topo_types.specs.Data.{IsData};
 
 use crate::benches::usual_bench;
 use anyhow::{Result, bail, ensure};
-use blazes_commands::valid_topology;
 use blz_outside::{End, Files, MemFiles};
+use command_checks::valid_topology;
 use coord_synth::{order_plan, seal_plan};
 use data_read::Data;
+use sched_make::apply;
 use sched_run::Net;
 use sched_text::{Event, Schedule, ScheduleFault, print, read_line};
 use std::alloc::Global;
@@ -90,7 +91,7 @@ fn event_shown(alloc: Global, line: &[u8]) -> Result<Vec<u8>> {
         }
         Ok(None) => Ok(Vec::new(alloc)),
         Err(ScheduleFault::Text { line }) => Ok(format!(in alloc; "line {line}\n")?.into_bytes()),
-        Err(fault) => Err(fault.into()),
+        Err(ScheduleFault::NoMemory) => bail!("out of memory"),
     }
 }
 
@@ -122,7 +123,7 @@ fn placed_after(alloc: Global, valid: &Valid, given: Data, lines: &[(u32, Event)
 {
     let mut bench = usual_bench(alloc)?;
     let mut net = Net::open(alloc, valid, given, &mut bench)?;
-    match net.apply(lines) {
+    match apply(&mut net, lines) {
         Ok(()) => Ok(net.placed()),
         Err(refusal) => bail!("the event in line {} can't happen", refusal.line),
     }

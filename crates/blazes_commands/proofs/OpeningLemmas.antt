@@ -4,10 +4,10 @@ use Rattle.std.specs.Result.{IsErrAnd}
 use Rattle.blz_boxes.specs.declared.kind.ProgramKind.{ProgramKind}
 use Rattle.report_print.specs.declared.refusal.Refusal.{Refusal}
 use Rattle.report_print.specs.declared.refusal.Refusal.TheVariants as refusal
-use Rattle.sched_run.specs.Bench.{fault_of_opening, OpensAs}
-use Rattle.sched_run.specs.declared.fault.OpenFault.{OpenFault}
-use Rattle.sched_run.specs.declared.fault.OpenFault.TheVariants as open_faults
-use Rattle.sched_run.proofs.BenchKinds.{opening_by_kinds}
+use Rattle.sched_bench.specs.Bench.{fault_of_opening, OpensAs}
+use Rattle.sched_bench.specs.declared.fault.OpenFault.{OpenFault}
+use Rattle.sched_bench.specs.declared.fault.OpenFault.TheVariants as open_faults
+use Rattle.sched_bench.proofs.BenchKinds.{opening_by_kinds}
 use Rattle.topo_types.specs.View.{View, component_at}
 use Rattle.blazes_commands.specs.Bench.{BenchStates}
 use Rattle.blazes_commands.specs.Checks as check

@@ -1,8 +1,8 @@
 //! The opening of a net with shells of the bench.
 ghost use Rattle.std.specs.Prelude.{◌≡◌, ◌++◌, [], IfOk, OnErr, map};
 ghost use Rattle.std.specs.List.Sorted.{IsPermutation};
-ghost use Rattle.sched_run.specs.Bench.{fault_of_opening};
-ghost use Rattle.sched_run.specs.Net.{Stands};
+ghost use Rattle.sched_bench.specs.Bench.{fault_of_opening};
+ghost use Rattle.sched_hear.specs.Net.{Stands};
 ghost use Rattle.topo_types.specs.Data.{IsData};
 ghost use Rattle.topo_types.specs.View.{component_at};
 ghost use Rattle.blazes_commands.specs.Checks as check;

@@ -1,7 +1,7 @@
 //! The command that runs a schedule.
 ghost use Rattle.std.specs.Prelude.{◌≡◌, IfOk, OnOk, Some, map};
 ghost use Rattle.report_print.specs.declared.refusal.Refusal.TheVariants as refusal;
-ghost use Rattle.sched_run.specs.Net.{BooksRun};
+ghost use Rattle.sched_hear.specs.Net.{BooksRun};
 ghost use Rattle.topo_types.specs.Data.{IsData};
 ghost use Rattle.blazes_commands.specs.Bench.{bench_states};
 ghost use Rattle.blazes_commands.specs.Checks as check;
@@ -22,7 +22,8 @@ use command_files::{Reply, Status, Stop, schedule_file, stop_at};
 use data_read::Data;
 use report_print::{EventKind, Refusal};
 use report_runs::run_text;
-use sched_run::{EventFault, EventRefusal, Net};
+use sched_make::{EventRefusal, apply};
+use sched_run::{EventFault, Net};
 use sched_text::Event;
 use std::alloc::{AllocError, Global};
 use topo_types::Valid;
@@ -110,7 +111,7 @@ fn run_lines(
         result }
 {
     let mut net = opened(alloc, valid, given, bench)?;
-    let applied = net.apply(lines);
+    let applied = apply(&mut net, lines);
     let outcome = outcome_of(alloc, valid, &net, applied);
     net.close(bench)?;
     outcome

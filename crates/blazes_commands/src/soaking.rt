@@ -1,6 +1,6 @@
 //! The command that makes and runs a schedule of the built-in word count, and sums up what came of it.
 ghost use Rattle.std.specs.Prelude.{◌≡◌, IfOk, OnOk, map};
-ghost use Rattle.sched_run.specs.Net.{BooksRun};
+ghost use Rattle.sched_hear.specs.Net.{BooksRun};
 ghost use Rattle.topo_types.specs.Data.{IsData};
 ghost use Rattle.coord_synth.specs.Laws.{AreCoordinated};
 ghost use Rattle.blazes_commands.specs.Bench.{bench_states};
@@ -20,7 +20,8 @@ use command_files::{Reply, Stop, done, stop_at};
 use command_labels::{planned_count, sound_labels};
 use data_read::Data;
 use report_runs::soak_text;
-use sched_run::{MakeFault, Net, make};
+use sched_make::{MakeFault, make};
+use sched_run::Net;
 use sched_text::Schedule;
 use std::alloc::{AllocError, Global};
 use topo_types::Valid;

@@ -7,7 +7,7 @@ use Rattle.topo_types.specs.View.{View}
 use Rattle.inbox.specs.Executions.{Execution}
 use Rattle.label_walk.proofs.Loops.{flat_below_more, map_below_more}
 use Rattle.sched_run.specs.Reading.{IsRead}
-use Rattle.sched_run.specs.declared.books.Books.{Books}
+use Rattle.sched_hear.specs.declared.books.Books.{Books}
 use Rattle.report_print.specs.Words.{Text}
 
 -- what is read of the books of one view is so of another that is the same

@@ -9,7 +9,7 @@ ghost use Rattle.topo_types.specs.View.{component_numbers, stream_numbers, strea
 ghost use Rattle.inbox.specs.Completeness.{held_count_at, left_count};
 ghost use Rattle.inbox.specs.Executions.{contents};
 ghost use Rattle.inbox.specs.Wiring.{wiring_of};
-ghost use Rattle.sched_run.specs.Net.{BooksRun};
+ghost use Rattle.sched_hear.specs.Net.{BooksRun};
 ghost use Rattle.sched_run.specs.Reading.{IsRead, is_complete};
 ghost use Rattle.report_runs.specs.RunText as spec;
 ghost use Rattle.report_print.specs.Words.{inner_line};

@@ -6,7 +6,7 @@ ghost use Rattle.topo_types.specs.View.{stream_at, stream_numbers, stream_replic
 ghost use Rattle.label_walk.specs.Paths.{label_at};
 ghost use Rattle.inbox.specs.Wiring.{wiring_of};
 ghost use Rattle.sched_lists.specs.Limits.{all_messages};
-ghost use Rattle.sched_run.specs.Net.{BooksRun};
+ghost use Rattle.sched_hear.specs.Net.{BooksRun};
 ghost use Rattle.sched_run.specs.Reading.{IsRead};
 ghost use Rattle.report_runs.specs.SoakText as spec;
 ghost use Rattle.report_print.specs.Words.{label_word};

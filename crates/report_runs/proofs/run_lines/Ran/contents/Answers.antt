@@ -3,7 +3,7 @@ use Rattle.std.specs.Prelude.{IfOk}
 use Rattle.topo_types.specs.View.{stream_replicas}
 use Rattle.inbox.specs.Executions.{contents}
 use Rattle.inbox.specs.Wiring.{wiring_of}
-use Rattle.sched_run.specs.Net.{BooksRun}
+use Rattle.sched_hear.specs.Net.{BooksRun}
 use Rattle.sched_run.specs.Reading.{IsRead}
 use Rattle.report_runs.proofs.run_lines.Ran.contents.Goals as goal
 

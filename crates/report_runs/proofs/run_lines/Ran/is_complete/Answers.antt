@@ -1,5 +1,5 @@
 use Rattle.std.proofs.Common.{sym, subst}
-use Rattle.sched_run.specs.Net.{BooksRun}
+use Rattle.sched_hear.specs.Net.{BooksRun}
 use Rattle.sched_run.specs.Reading.{IsRead, is_complete}
 use Rattle.report_runs.proofs.run_lines.Ran.is_complete.Goals as goal
 

@@ -1,7 +1,7 @@
 use Rattle.std.proofs.Common.{sym, subst}
 use Rattle.inbox.specs.Completeness.{left_count}
 use Rattle.inbox.specs.Wiring.{wiring_of}
-use Rattle.sched_run.specs.Net.{BooksRun}
+use Rattle.sched_hear.specs.Net.{BooksRun}
 use Rattle.sched_run.specs.Reading.{IsRead}
 use Rattle.report_runs.proofs.run_lines.Ran.left.Goals as goal
 

@@ -1,7 +1,7 @@
 use Rattle.std.proofs.Common.{◌++◌, ◌∙◌, false, ap, sym}
 use Rattle.inbox.specs.Completeness.{left_count}
 use Rattle.inbox.specs.Wiring.{wiring_of}
-use Rattle.sched_run.specs.Net.{execution_in}
+use Rattle.sched_hear.specs.Net.{execution_in}
 use Rattle.report_runs.specs.RunText.{end_lines}
 use Rattle.report_runs.proofs.run_lines.Ran.push_end.Goals as goal
 

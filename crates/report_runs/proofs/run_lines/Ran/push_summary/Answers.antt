@@ -1,7 +1,7 @@
 use Rattle.std.proofs.Common.{◌++◌, ◌∙◌, ap, map}
 use Rattle.topo_types.specs.Sets.{below}
 use Rattle.topo_types.specs.View.{stream_replicas}
-use Rattle.sched_run.specs.Net.{execution_in}
+use Rattle.sched_hear.specs.Net.{execution_in}
 use Rattle.report_print.specs.Lines.{word_text}
 use Rattle.report_runs.specs.SoakText.{count_word}
 use Rattle.report_print.specs.Words.{line}

@@ -12,13 +12,12 @@ use Rattle.command_files.specs.Ran.{Gives, IsStopAt}
 use Rattle.command_files.specs.declared.stop.Stop.{Stop}
 use Rattle.command_files.proofs.RefusedLemmas.{memory_gives, refused_gives}
 use Rattle.blazes_commands.specs.Checks as check
-use Rattle.blazes_commands.specs.declared.making.TheConstants.{FIRST_TOO_MANY}
 
 -- a schedule that can't be made
 pub made_gives : (w : Wiring) (given : Data) (answer : Result (List Event) MakeFault) (fault : MakeFault) (stop : Stop) → AnswersSo w given answer (Err fault) → IsStopAt (check.make_refusal fault) stop
     → Gives (λ (events : List Event). events) (Err stop) (check.made answer)
 made_gives w given answer make_faults.TooManyEvents stop is said =
-    refused_gives (λ (events : List Event). events) (check.made answer) (refusal.Make FIRST_TOO_MANY make_kinds.TooManyEvents) stop (ap check.made is) said
+    refused_gives (λ (events : List Event). events) (check.made answer) (refusal.Make check.first_too_many make_kinds.TooManyEvents) stop (ap check.made is) said
 made_gives w given answer (make_faults.TooManyRows event) stop is said =
     refused_gives (λ (events : List Event). events) (check.made answer) (refusal.Make event make_kinds.TooManyRows) stop (ap check.made is) said
 made_gives w given answer (make_faults.TooManyMessages event) stop is said =

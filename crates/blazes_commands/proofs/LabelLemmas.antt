@@ -29,7 +29,7 @@ part_replies a b bench s work Said (Ok reply) says told = followed a b bench s w
 part_replies a b bench s work Said (Err stop) says stopped = stop_then (files_states a b) stop s (λ x. gives (work x)) stopped
 
 -- what goes on with two parts goes on with the second
-in_turn : {A B C : Type 0} (s : Script A) (next : A → Script B) (last : B → Script C) → (s >>= next) >>= last ≡ (s >>= λ x. next x >>= last)
+in_turn : {A B C : Type 0} (s : Script A) (next : A → Script B) (last : B → Script C) → ((s >>= next) >>= last) ≡ (s >>= λ x. next x >>= last)
 in_turn (gives x) next last = refl
 in_turn (refuses line) next last = refl
 in_turn (reads name after) next last = λ i. reads name (λ bytes. in_turn (after bytes) next last i)

@@ -22,7 +22,6 @@ use Rattle.report_print.specs.declared.refusal.EventKind.TheVariants as event_ki
 use Rattle.report_print.specs.declared.refusal.MakeKind.TheVariants as make_kinds
 use Rattle.command_files.specs.Checks.{line_of}
 use Rattle.command_files.specs.Script.{Bytes, Script}
-use Rattle.blazes_commands.specs.declared.making.TheConstants.{FIRST_TOO_MANY}
 pub use Rattle.command_files.specs.Checks.{checked, schedule_file}
 pub use Rattle.command_checks.specs.Checks.{with_modules, valid_topology, data_file}
 pub use Rattle.command_labels.specs.Shards.{sharding}
@@ -64,9 +63,13 @@ execution v given lines = checked (executed (after_lines v given lines first_exe
 
 -- ---- a schedule that is made
 
+-- the number of the first event past the limit
+abbrev pub first_too_many : ℕ
+first_too_many = 1000001
+
 -- the refusal of the first event that can't be made
 abbrev pub make_refusal : MakeFault → Option Refusal
-make_refusal make_faults.TooManyEvents = Some (refusal.Make FIRST_TOO_MANY make_kinds.TooManyEvents)
+make_refusal make_faults.TooManyEvents = Some (refusal.Make first_too_many make_kinds.TooManyEvents)
 make_refusal (make_faults.TooManyRows event) = Some (refusal.Make event make_kinds.TooManyRows)
 make_refusal (make_faults.TooManyMessages event) = Some (refusal.Make event make_kinds.TooManyMessages)
 make_refusal make_faults.NoMemory = None

@@ -1,5 +1,5 @@
 -- The checks of a topology, its modules and its data, each a script of its own that knows no other.
-use Rattle.std.specs.Prelude.{List, [], ◌∷◌, Option, Some, None, Result, Ok, Err}
+use Rattle.std.specs.Prelude.{ℕ, List, [], ◌∷◌, Option, Some, None, Result, Ok, Err}
 use Rattle.std.specs.List.{filter_map}
 use Rattle.toml.specs.Data.{Members}
 use Rattle.bloom_ast.specs.declared.fault.ModuleFault.{ModuleFault}
@@ -26,9 +26,6 @@ use Rattle.report_print.specs.declared.refusal.Refusal.TheVariants as refusal
 use Rattle.report_print.specs.Refusals.{refusal_line}
 use Rattle.command_files.specs.Checks.{checked, file, line_of}
 use Rattle.command_files.specs.Script.{Bytes, Script, ◌>>=◌}
-use Rattle.command_checks.specs.declared.given_data.TheConstants.{DATA_LIMIT}
-use Rattle.command_checks.specs.declared.module_file.TheConstants.{MODULE_LIMIT}
-use Rattle.command_checks.specs.declared.topology_file.TheConstants.{TOPOLOGY_LIMIT}
 
 -- each in turn
 abbrev pub each : {A B : Type 0} → (A → Script B) → List A → Script (List B)
@@ -50,10 +47,14 @@ abbrev pub topology_in : Option Members → Result Topology Bytes
 topology_in None = Err (refusal_line refusal.NotToml)
 topology_in (Some document) = formed (topology_of document)
 
+-- the most bytes of a topology file: 256 KiB
+abbrev pub topology_limit : ℕ
+topology_limit = 262144
+
 -- a topology file: read, length, TOML, form
 abbrev pub topology_file : Bytes → Script Topology
 topology_file name = do
-  bytes ← file TOPOLOGY_LIMIT name
+  bytes ← file topology_limit name
   checked (topology_in (document_of bytes))
 
 -- ---- its modules
@@ -68,10 +69,14 @@ abbrev pub module_read : Bytes → Result Form TextFault → Result Accepted Byt
 module_read name (Ok m) = faultless name m (first_fault m)
 module_read name (Err fault) = Err (refusal_line (refusal.ModuleText name fault.line fault.column))
 
+-- the most bytes of a module file: 64 KiB
+abbrev pub module_limit : ℕ
+module_limit = 65536
+
 -- a module file: read, length, text, check
 abbrev pub module_file : Bytes → Script Accepted
 module_file name = do
-  bytes ← file MODULE_LIMIT name
+  bytes ← file module_limit name
   checked (module_read name (reading_of bytes))
 
 -- the files of a topology's modules, in written order
@@ -120,8 +125,12 @@ abbrev pub data_in : View → Result Data DataFault → Result Data Bytes
 data_in v (Ok given) = Ok given
 data_in v (Err fault) = Err (line_of (data_refusal v fault))
 
+-- the most bytes of a data file: 16 MiB
+abbrev pub data_limit : ℕ
+data_limit = 16777216
+
 -- a data file: read, length, JSON, rows, dependencies
 abbrev pub data_file : Validated → Bytes → Script Data
 data_file seen name = do
-  bytes ← file DATA_LIMIT name
+  bytes ← file data_limit name
   checked (data_in seen.view (data_of seen bytes))

@@ -16,7 +16,8 @@ use blz_outside::Files;
 use command_files::{Stop, refused};
 use report_print::Refusal;
 use std::alloc::Global;
-use topo_types::{Topology, Valid, ValidFault, validate};
+use topo_check::validate;
+use topo_types::{Topology, Valid, ValidFault};
 
 /// A valid topology, and the modules that it names, in written order.
 #[derive(Drop)]

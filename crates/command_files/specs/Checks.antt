@@ -6,7 +6,6 @@ use Rattle.report_print.specs.declared.refusal.Refusal.{Refusal}
 use Rattle.report_print.specs.declared.refusal.Refusal.TheVariants as refusal
 use Rattle.report_print.specs.Refusals.{refusal_line}
 use Rattle.command_files.specs.Script.{Bytes, Script, ◌>>=◌}
-use Rattle.command_files.specs.declared.schedules.TheConstants.{SCHEDULE_LIMIT}
 
 -- what a check gives, or its line
 abbrev pub checked : {A : Type 0} → Result A Bytes → Script A
@@ -31,8 +30,12 @@ abbrev pub schedule_in : (bad : Option ℕ) → List (ℕ × Event) → Result (
 schedule_in None lines = Ok lines
 schedule_in (Some line) lines = Err (refusal_line (refusal.ScheduleText line))
 
+-- the most bytes of a schedule file: 64 MiB
+abbrev pub schedule_limit : ℕ
+schedule_limit = 67108864
+
 -- a schedule file: read, length, text
 abbrev pub schedule_file : Bytes → Script (List (ℕ × Event))
 schedule_file name = do
-  bytes ← file SCHEDULE_LIMIT name
+  bytes ← file schedule_limit name
   checked (schedule_in (bad_line event_reading bytes) (entries_of event_reading bytes))

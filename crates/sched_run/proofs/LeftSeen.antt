@@ -39,19 +39,19 @@ use Rattle.messages.proofs.MessagesLemmas.{is_same_pair-is, is_same_pair-itself,
 use Rattle.inbox.proofs.Ranges.{all_below, not_all_below}
 use Rattle.inbox.proofs.WiringLemmas.{instance-feeds, instance-wired, instances-wired, length-below}
 use Rattle.sched_lists.specs.Lists.{read_lists, list_at}
-use Rattle.sched_run.specs.Net.{BooksStand, KnowsHeard, ShowsEar, ShowsInbox, execution_in, list_on}
+use Rattle.sched_hear.specs.Net.{BooksStand, KnowsHeard, ShowsEar, ShowsInbox, execution_in, list_on}
 use Rattle.sched_lists.specs.Places.{instance_place}
 use Rattle.sched_run.specs.Reading.{holds_none_at, holds_none, is_complete}
-use Rattle.sched_run.specs.declared.books.Books.{Books}
-use Rattle.sched_run.specs.declared.seated.Ear.TheVariants.{Hears, Takes}
-use Rattle.sched_run.specs.declared.seated.Seated.{Seated}
-use Rattle.sched_run.specs.Code.Seen.{list_seen}
+use Rattle.sched_hear.specs.declared.books.Books.{Books}
+use Rattle.sched_hear.specs.declared.seated.Ear.TheVariants.{Hears, Takes}
+use Rattle.sched_hear.specs.declared.seated.Seated.{Seated}
+use Rattle.sched_hear.specs.Seen.{list_seen}
 use Rattle.sched_run.specs.Code.Remaining.{unknown_on, unknown_at, unknown_in, is_unlogged, unlogged_on, unlogged_in}
 use Rattle.sched_run.proofs.Counting.{numbers_counted, rows_counted, length-joined, few_entries}
 use Rattle.sched_run.proofs.EmittedSeen.{seen_emitted, seen_length}
 use Rattle.sched_run.proofs.HeldSeen.{component_of_replica, not_there}
 use Rattle.sched_lists.proofs.PlacesLemmas.{Has-below, range_has}
-use Rattle.sched_run.proofs.Showing.{is_there-true, emitted_shown, sums_same, sums_numbered}
+use Rattle.sched_hear.proofs.Showing.{is_there-true, emitted_shown, sums_same, sums_numbered}
 
 -- ---- limits of a topology
 

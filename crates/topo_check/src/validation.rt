@@ -5,9 +5,9 @@ ghost use Rattle.blz_value.specs.Members.{Has};
 ghost use Rattle.bloom_ast.specs.Checks.{IsChecked};
 ghost use Rattle.bloom_ast.specs.Form.{Accepted};
 ghost use Rattle.topo_types.specs.Allowed.{IsAllowed};
-ghost use Rattle.topo_types.specs.Code.Built.{sites_seen, IsBuilt};
-ghost use Rattle.topo_types.specs.Code.OfView.{HasKnownNotes};
-ghost use Rattle.topo_types.specs.Code.Validating as code;
+ghost use Rattle.topo_check.specs.Code.Built.{sites_seen, IsBuilt};
+ghost use Rattle.topo_check.specs.Code.OfView.{HasKnownNotes};
+ghost use Rattle.topo_check.specs.Code.Validating as code;
 ghost use Rattle.topo_types.specs.Kept.{view_kept};
 ghost use Rattle.topo_types.specs.Regions.{is_in_cycle};
 ghost use Rattle.topo_types.specs.Sites as sites_spec;
@@ -16,19 +16,16 @@ ghost use Rattle.topo_types.specs.Validation.{Validates};
 ghost use Rattle.topo_types.specs.Validity.{AreFew};
 ghost use Rattle.topo_types.specs.View.{component_numbers};
 
-use crate::fault::{TopoFault, TopoKind, ValidFault};
-use crate::graph::finding::{found_with, regions_of};
-use crate::kept::Kept;
-use crate::topology::Topology;
-use crate::valid::Valid;
 use crate::validity::of_view::{first_mismatched, first_sealed, first_understated};
 use crate::validity::{Parts, at_places, names_fault, size_fault};
 use crate::view::building::parts_of;
-use crate::view::copies::Copied;
 use crate::view::sites::{Site, sites_of};
 use bloom_ast::Checked;
 use fd_closure::AttrNames;
 use std::alloc::{AllocError, Global};
+use topo_copy::Copied;
+use topo_graph::{found_with, regions_of};
+use topo_types::{Kept, TopoFault, TopoKind, Topology, Valid, ValidFault};
 
 // The names of the attributes, or the first fault of size or of names.
 fn names_of(alloc: Global, topology: &Topology, sites: &[Site<'_>]) -> Result<AttrNames, ValidFault>

@@ -1,8 +1,8 @@
 //! The first fault of a topology: the first kind that holds, at its first place.
 ghost use Rattle.std.specs.Prelude.{◌≡◌, ◌≤◌, ◌<◌, [], length, All, IfOk, IfNone, IfSome};
 ghost use Rattle.blz_value.specs.FirstPlace.{first_place};
-ghost use Rattle.topo_types.specs.Code.Built.{site_seen, sites_seen};
-ghost use Rattle.topo_types.specs.Code.Named.{sized, named};
+ghost use Rattle.topo_check.specs.Code.Built.{site_seen, sites_seen};
+ghost use Rattle.topo_check.specs.Code.Named.{sized, named};
 ghost use Rattle.topo_types.specs.Sites.{attributes_in};
 ghost use Rattle.topo_types.specs.Validity as spec;
 ghost use Rattle.topo_types.specs.Validity.{AreFew, IsOfNames};
@@ -15,8 +15,6 @@ pub(crate) mod too_many;
 pub(crate) mod twice;
 pub(crate) mod unknown;
 
-use crate::fault::{TopoFault, TopoKind, TopoPlace};
-use crate::topology::{FdEntry, SourceEntry, StreamEntry, Topology};
 use crate::validity::columns::{is_clashing_component, is_unlike_source, is_unlike_stream};
 use crate::validity::too_many::{
     first_large_component, first_large_fd, first_large_source, first_large_stream,
@@ -28,6 +26,7 @@ use crate::validity::unknown::{
 use crate::view::sites::Site;
 use fd_closure::AttrNames;
 use std::alloc::{AllocError, Global};
+use topo_types::{FdEntry, SourceEntry, StreamEntry, TopoFault, TopoKind, TopoPlace, Topology};
 
 /// What the kinds before ReplicaMismatch look at: a topology, its components with their bodies, and
 /// the names of its attributes.

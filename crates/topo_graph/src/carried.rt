@@ -2,12 +2,13 @@
 ghost use Rattle.std.specs.Prelude.{◌≡◌, map, IfOk};
 ghost use Rattle.std.specs.List.{enumerate_from};
 ghost use Rattle.topo_types.specs.Carried as carried;
-ghost use Rattle.topo_types.specs.Code.Paths as spec;
+ghost use Rattle.topo_graph.specs.Code.Paths as spec;
 
-use crate::graph::paths::Path;
-use crate::graph::sets::{arrow, bit_if, closed, is_in, is_within, union_of};
+use crate::paths::Path;
+use crate::sets::{arrow, bit_if, closed, is_within, union_of};
 use fd_closure::{Attrs, Fd};
 use std::alloc::{AllocError, Global};
+use topo_types::is_in;
 
 fn is_key(key: u64, other: Option<Attrs>) -> bool
     ensures { result ≡ carried.is_key key other }

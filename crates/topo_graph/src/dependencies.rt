@@ -3,13 +3,14 @@ ghost use Rattle.std.specs.Prelude.{◌≡◌, map, IfOk};
 ghost use Rattle.std.specs.List.{enumerate_from};
 ghost use Rattle.bloom_ast.specs.Reads as reads;
 ghost use Rattle.fd_closure.specs.Closure.{within};
-ghost use Rattle.topo_types.specs.Code.Lines as spec;
+ghost use Rattle.topo_graph.specs.Code.Lines as spec;
 ghost use Rattle.topo_types.specs.Data.{has_both};
 
-use crate::graph::lines::Line;
-use crate::graph::sets::{arrow, bit_if, closed, is_in, is_within, union_of};
+use crate::lines::Line;
+use crate::sets::{arrow, bit_if, closed, is_within, union_of};
 use fd_closure::Fd;
 use std::alloc::{AllocError, Global};
+use topo_types::is_in;
 
 // Whether a set has all columns of the dependency.
 fn has_both_sides(fd: Fd, columns: u64) -> bool

@@ -1,8 +1,8 @@
 //! Finds regions, dependencies and carried seals of a view, each once.
 ghost use Rattle.std.specs.Prelude.{◌≡◌, ◌<◌, ◌≤◌, map, length, position, IfOk, IfSome};
 ghost use Rattle.std.specs.List.{position_or_len};
-ghost use Rattle.topo_types.specs.Code.Feeders as feeders;
-ghost use Rattle.topo_types.specs.Code.Found as spec;
+ghost use Rattle.topo_graph.specs.Code.Feeders as feeders;
+ghost use Rattle.topo_types.specs.Found as spec;
 ghost use Rattle.topo_types.specs.Dependencies.{upholders};
 ghost use Rattle.topo_types.specs.Graph as graph;
 ghost use Rattle.topo_types.specs.Kept.{view_kept};
@@ -10,28 +10,26 @@ ghost use Rattle.topo_types.specs.Regions as regions_spec;
 ghost use Rattle.topo_types.specs.Sets.{below};
 ghost use Rattle.topo_types.specs.View.{component_numbers, stream_numbers};
 
-use crate::graph::carried::all_carried;
-use crate::graph::dependencies::{all_upholders, all_usable};
-use crate::graph::found::Found;
-use crate::graph::lines::{all_into, lines_of};
-use crate::graph::paths::paths_of;
-use crate::graph::regions::{all_feeders, is_cyclic, regions_in, sets_of};
-use crate::graph::sets::is_in;
-use crate::kept::Kept;
+use crate::carried::all_carried;
+use crate::dependencies::{all_upholders, all_usable};
+use crate::lines::{all_into, lines_of};
+use crate::paths::paths_of;
+use crate::regions::{all_feeders, is_cyclic, regions_in, sets_of};
 use blz_value::Items;
 use std::alloc::{AllocError, Global};
+use topo_types::{GraphFacts, Kept, is_in};
 
 /// Regions, and which components are in a cyclic one.
 #[derive(Drop)]
-pub(crate) struct Regions {
+pub struct FoundRegions {
     /// The members of each region.
-    pub(crate) regions: Vec<u64>,
+    pub regions: Vec<u64>,
     /// Whether each region is cyclic.
-    pub(crate) cyclic: Vec<bool>,
+    pub cyclic: Vec<bool>,
     /// The number of the region of each component.
-    pub(crate) numbers: Vec<u32>,
+    pub numbers: Vec<u32>,
     /// Whether each component is in a cyclic region.
-    pub(crate) cycles: Vec<bool>,
+    pub cycles: Vec<bool>,
 }
 
 // Whether each of some regions is cyclic.
@@ -56,7 +54,7 @@ fn place_of(regions: &[u64], component: usize) -> Option<usize>
 }
 
 // The number of the region of a component.
-#[tactic(auto, using(crate::proofs::Lists::Positions::from_place))]
+#[tactic(auto, using(crate::proofs::Positions::from_place))]
 fn number_of(regions: &[u64], component: usize) -> u32
     requires { length regions.now ≤ 64 }
     ensures { result ≡ position_or_len (graph.is_in component) regions.now }
@@ -64,7 +62,7 @@ fn number_of(regions: &[u64], component: usize) -> u32
     place_of(regions, component).unwrap_or(regions.len()) as u32
 }
 
-#[tactic(auto, using(crate::proofs::Lists::Tables::below_more))]
+#[tactic(auto, using(topo_types::proofs::Lists::Tables::below_more))]
 fn numbers_of(alloc: Global, regions: &[u64], count: usize) -> Result<Vec<u32>, AllocError>
     requires { length regions.now ≤ 64 }
     ensures { IfOk result (λ numbers. numbers.items ≡ map (λ c. position_or_len (graph.is_in c) regions.now) (below count)) }
@@ -77,8 +75,8 @@ fn numbers_of(alloc: Global, regions: &[u64], count: usize) -> Result<Vec<u32>, 
 }
 
 /// The regions of a view.
-#[tactic(auto, using(crate::proofs::Regions::RegionsFound::few_found, crate::proofs::Regions::RegionsFound::regions_found, crate::proofs::Regions::RegionsFound::cyclic_found, crate::proofs::Regions::RegionsFound::cycles_found, crate::proofs::Regions::RegionsFound::numbers_found))]
-pub(crate) fn regions_of(alloc: Global, kept: &Kept) -> Result<Regions, AllocError>
+#[tactic(auto, using(crate::proofs::RegionsFound::few_found, crate::proofs::RegionsFound::regions_found, crate::proofs::RegionsFound::cyclic_found, crate::proofs::RegionsFound::cycles_found, crate::proofs::RegionsFound::numbers_found))]
+pub fn regions_of(alloc: Global, kept: &Kept) -> Result<FoundRegions, AllocError>
     requires { spec.HasEnds (view_kept kept.now) }
     ensures regions { IfOk result (λ r. r.regions.items ≡ regions_spec.regions (view_kept kept.now)) }
     ensures cyclic { IfOk result (λ r. r.cyclic.items ≡ map (regions_spec.is_cyclic (view_kept kept.now)) (below (length (regions_spec.regions (view_kept kept.now))))) }
@@ -92,7 +90,7 @@ pub(crate) fn regions_of(alloc: Global, kept: &Kept) -> Result<Regions, AllocErr
     let cyclic = are_cyclic(alloc, &feeding, count, &regions)?;
     let cycles = are_cyclic(alloc, &feeding, count, &sets)?;
     let numbers = numbers_of(alloc, &regions, count)?;
-    Ok(Regions {
+    Ok(FoundRegions {
         regions,
         cyclic,
         numbers,
@@ -101,8 +99,12 @@ pub(crate) fn regions_of(alloc: Global, kept: &Kept) -> Result<Regions, AllocErr
 }
 
 /// What is found of a view, of which these are the regions.
-#[tactic(auto, using(crate::proofs::Found::AllFound::upheld_found, crate::proofs::Found::AllFound::usable_found, crate::proofs::Found::AllFound::carried_found))]
-pub(crate) fn found_with(alloc: Global, kept: &Kept, regions: Regions) -> Result<Found, AllocError>
+#[tactic(auto, using(crate::proofs::AllFound::upheld_found, crate::proofs::AllFound::usable_found, crate::proofs::AllFound::carried_found))]
+pub fn found_with(
+    alloc: Global,
+    kept: &Kept,
+    regions: FoundRegions,
+) -> Result<GraphFacts, AllocError>
     requires ends { spec.HasEnds (view_kept kept.now) }
     requires regions { regions.regions.items ≡ regions_spec.regions (view_kept kept.now) }
     requires cyclic { regions.cyclic.items ≡ map (regions_spec.is_cyclic (view_kept kept.now)) (below (length (regions_spec.regions (view_kept kept.now)))) }
@@ -117,7 +119,7 @@ pub(crate) fn found_with(alloc: Global, kept: &Kept, regions: Regions) -> Result
     let usable = all_usable(alloc, &lines, &into, fds)?;
     let paths = paths_of(alloc, kept, &usable)?;
     let carried = all_carried(alloc, &paths)?;
-    Ok(Found {
+    Ok(GraphFacts {
         regions: Items::from_vec(regions.regions),
         cyclic: Items::from_vec(regions.cyclic),
         numbers: Items::from_vec(regions.numbers),

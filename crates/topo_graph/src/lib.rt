@@ -1,11 +1,14 @@
-//! What is found of a view: regions, dependencies that streams uphold, and carried seals.
+//! What is found of a view once: regions, the dependencies that streams uphold, and carried seals.
+#![tactic(auto)]
 
-pub(crate) mod carried;
-pub(crate) mod dependencies;
-pub(crate) mod finding;
-pub(crate) mod found;
-pub(crate) mod lines;
-pub(crate) mod lookups;
-pub(crate) mod paths;
-pub(crate) mod regions;
-pub(crate) mod sets;
+mod carried;
+mod dependencies;
+mod finding;
+mod lines;
+mod lookups;
+mod paths;
+mod regions;
+mod sets;
+
+pub use finding::{FoundRegions, found_with, regions_of};
+pub use lookups::{is_order, mode_of, origin_of};

@@ -6,13 +6,12 @@ ghost use Rattle.std.specs.Option.{option_map_or};
 ghost use Rattle.topo_types.specs.Kept.{view_kept, output_kept};
 ghost use Rattle.topo_types.specs.View as view;
 
-use crate::graph::sets::{bit_of, union_of};
-use crate::kept::{Kept, KeptOutput};
-use crate::mode::Mode;
+use crate::sets::{bit_of, union_of};
 use blz_value::Items;
 use fd_closure::Attrs;
 use path_annotate::Note;
 use std::alloc::{AllocError, Global};
+use topo_types::{Kept, KeptOutput, Mode};
 
 // The set of a root.
 fn root_set(root: Option<u8>) -> u64
@@ -86,7 +85,7 @@ pub(crate) fn component_count(kept: &Kept) -> usize
 }
 
 /// The output from which a stream comes, and none for a source.
-pub(crate) fn origin_of(kept: &Kept, stream: usize) -> Option<(u32, u32)>
+pub fn origin_of(kept: &Kept, stream: usize) -> Option<(u32, u32)>
     ensures { result ≡ view.origin_of (view_kept kept.now) stream }
 {
     match kept.streams.as_slice().get(stream) {
@@ -112,7 +111,7 @@ pub(crate) fn goes_into(kept: &Kept, component: usize, stream: usize) -> bool
 }
 
 /// How a component coordinates.
-pub(crate) fn mode_of(kept: &Kept, component: usize) -> Mode
+pub fn mode_of(kept: &Kept, component: usize) -> Mode
     ensures { result ≡ view.mode_of (view_kept kept.now) component }
 {
     match kept.components.as_slice().get(component) {
@@ -122,7 +121,7 @@ pub(crate) fn mode_of(kept: &Kept, component: usize) -> Mode
 }
 
 /// Whether a component is Order.
-pub(crate) fn is_order(kept: &Kept, component: usize) -> bool
+pub fn is_order(kept: &Kept, component: usize) -> bool
     ensures { result ≡ view.is_order (view_kept kept.now) component }
 {
     matches!(&mode_of(kept, component), Mode::Order)

@@ -3,21 +3,20 @@ ghost use Rattle.std.specs.Prelude.{◌≡◌, true, IfOk};
 ghost use Rattle.std.specs.List.{flat_map, list_all};
 ghost use Rattle.std.specs.Option.{option_map_or};
 ghost use Rattle.topo_types.specs.Carried as carried;
-ghost use Rattle.topo_types.specs.Code.Paths as spec;
+ghost use Rattle.topo_graph.specs.Code.Paths as spec;
 ghost use Rattle.topo_types.specs.Kept.{view_kept};
 ghost use Rattle.topo_types.specs.Sets.{set_of_numbers};
 ghost use Rattle.topo_types.specs.View as view;
 
-use crate::graph::lookups::{
+use crate::lookups::{
     gate_at, goes_to, has_body, key_of, mode_of, note_at, origin_of, own_attrs, port_count,
     stream_count,
 };
-use crate::graph::sets::{bit_of, closed, is_in, union_of};
-use crate::kept::Kept;
-use crate::mode::Mode;
+use crate::sets::{bit_of, closed, union_of};
 use fd_closure::{Attrs, Fd};
 use path_annotate::Note;
 use std::alloc::{AllocError, Global};
+use topo_types::{Kept, Mode, is_in};
 
 /// A stream, as carried seals look at it.
 #[derive(Drop)]
@@ -213,7 +212,7 @@ fn path_of(alloc: Global, kept: &Kept, usable: &[u64], stream: usize) -> Result<
 }
 
 /// Each stream, as carried seals look at it.
-#[tactic(auto, using(crate::proofs::Lists::Tables::below_more))]
+#[tactic(auto, using(topo_types::proofs::Lists::Tables::below_more))]
 pub(crate) fn paths_of(alloc: Global, kept: &Kept, usable: &[u64]) -> Result<Vec<Path>, AllocError>
     ensures { IfOk result (λ paths. paths.items ≡ spec.paths_by (view_kept kept.now) usable.now) }
 {

@@ -3,18 +3,18 @@
 ghost use Rattle.std.specs.Prelude.{◌≡◌, ◌&&◌, map, length, slice_index_or, IfOk};
 ghost use Rattle.std.specs.List.{enumerate_from, list_any};
 ghost use Rattle.topo_types.specs.Graph.{up, is_in};
-ghost use Rattle.topo_types.specs.Code.Feeders as spec;
+ghost use Rattle.topo_graph.specs.Code.Feeders as spec;
 ghost use Rattle.topo_types.specs.Kept.{view_kept};
 ghost use Rattle.topo_types.specs.Sets.{below};
 ghost use Rattle.topo_types.specs.View.{stream_numbers};
 ghost use Rattle.bloom_ast.specs.Reads.{bit_if};
 ghost use Rattle.fd_closure.specs.Bits.{members};
 
-use crate::graph::lookups::{component_count, goes_into, is_order, origin_of, stream_count};
-use crate::graph::sets::{arrow, bit_if, bit_of, closed, is_in, is_within, set_at, union_of};
-use crate::kept::Kept;
+use crate::lookups::{component_count, goes_into, is_order, origin_of, stream_count};
+use crate::sets::{arrow, bit_if, bit_of, closed, is_within, set_at, union_of};
 use fd_closure::Fd;
 use std::alloc::{AllocError, Global};
+use topo_types::{Kept, is_in};
 
 // ---- who feeds whom
 
@@ -57,7 +57,7 @@ fn feeders(alloc: Global, kept: &Kept, component: usize) -> Result<u64, AllocErr
 }
 
 /// The components that feed each component.
-#[tactic(auto, using(crate::proofs::Lists::Tables::below_more))]
+#[tactic(auto, using(topo_types::proofs::Lists::Tables::below_more))]
 pub(crate) fn all_feeders(alloc: Global, kept: &Kept) -> Result<Vec<u64>, AllocError>
     ensures { IfOk result (λ sets. sets.items ≡ spec.all_feeders (view_kept kept.now)) }
 {

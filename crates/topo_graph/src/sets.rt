@@ -3,7 +3,6 @@ ghost use Rattle.std.specs.Prelude.{◌≡◌, ◌<◌, map, slice_index_or};
 ghost use Rattle.bloom_ast.specs.Reads as reads;
 ghost use Rattle.fd_closure.specs.Bits as bits;
 ghost use Rattle.fd_closure.specs.Closure as closures;
-ghost use Rattle.topo_types.specs.Graph as graph;
 
 use fd_closure::{Attrs, Fd, closure};
 
@@ -19,13 +18,6 @@ pub(crate) fn bit_if(here: bool, number: usize) -> u64
     ensures { result ≡ reads.bit_if here number }
 {
     if here { bit_of(number) } else { 0 }
-}
-
-/// Whether the number is in the set.
-pub(crate) fn is_in(number: usize, set: u64) -> bool
-    ensures { result ≡ graph.is_in number set }
-{
-    Attrs::of(number).meets(Attrs::from_bits(set))
 }
 
 /// Whether each number of a set is one of the other.

@@ -1,21 +1,15 @@
 //! Another mode of one component, as it is written and by numbers.
 ghost use Rattle.std.specs.Prelude.{◌≡◌, ◌<◌, ◌≤◌, ◌^◌, length, map, slice_index_or, slice_set, IfOk};
-ghost use Rattle.topo_types.specs.Code.Chosen.{with_members, IsKeyAmong};
+ghost use Rattle.topo_modes.specs.Code.Chosen.{with_members, IsKeyAmong};
 ghost use Rattle.topo_types.specs.Kept.{view_kept, component_kept};
 ghost use Rattle.topo_types.specs.Modes as spec;
 ghost use Rattle.topo_types.specs.Sites.{no_entry};
 ghost use Rattle.topo_types.specs.View.{component_with_mode, with_mode, no_component};
 
-use crate::graph::sets::is_in;
-use crate::kept::{Kept, KeptComponent};
-use crate::mode::Mode;
-use crate::topology::{ComponentEntry, ModeName, Topology};
-use crate::validity::too_many::add_columns;
-use crate::view::copies::{copies_of, copy_all};
-use crate::view::keeping::copy_values;
 use blz_value::{Items, Str};
-use fd_closure::AttrNames;
 use std::alloc::{AllocError, Global};
+use topo_copy::{copies_of, copy_all, copy_names, copy_values};
+use topo_types::{ComponentEntry, Kept, KeptComponent, Mode, ModeName, Topology, is_in};
 
 // ---- as it is written
 

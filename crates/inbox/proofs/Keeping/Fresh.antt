@@ -1,13 +1,12 @@
 -- An inbox that heard nothing, or forgot all of it, stands for no batches.
-use Rattle.std.proofs.Common.{◌≡◌, ◌≢◌, refl, ap, sym, subst, set, ◌∙◌, ℕ, zero, suc, ◌+◌, ◌<◌, ◌≤◌, ◌||◌, Bool, true, false, not, cond, List, [], ◌∷◌, ◌++◌, length, map, filter, arith, inl, inr, get_or}
-use Rattle.std.specs.List.{flat_map, list_any, range_with_len, slice_get}
-use Rattle.std.proofs.lemmas.List.{map-append}
+use Rattle.std.proofs.Common.{◌≡◌, refl, ap, sym, subst, ◌∙◌, ℕ, zero, suc, ◌+◌, ◌<◌, ◌||◌, Bool, true, false, not, cond, List, [], ◌∷◌, length, map, filter, arith, get_or}
+use Rattle.std.specs.List.{list_any, range_with_len, slice_get}
 use Rattle.std.specs.Option.{option_map_or}
 use Rattle.blz_value.specs.Members.{Has}
 use Rattle.blz_value.specs.Record.{Row}
 use Rattle.blz_value.proofs.Membership.{Has-get_or}
-use Rattle.topo_types.specs.Feeds.{Feed as TopoFeed, feeds, feeds_at, feeds_from, paired_senders, log_feeds, no_feed}
-use Rattle.topo_types.specs.View.{View, streams_to, is_order, is_order_mode, mode_of, mode_key, port_numbers}
+use Rattle.topo_types.specs.Feeds.{Feed as TopoFeed, feeds, log_feeds, no_feed}
+use Rattle.topo_types.specs.View.{View, is_order, is_order_mode, mode_of, mode_key, port_numbers}
 use Rattle.messages.specs.Messages.{Pair, Batch, Entry, all_pairs}
 use Rattle.inbox.specs.Instances.{Instance, PortKey, port_of_feed, is_carrying}
 use Rattle.inbox.specs.Timesteps.{is_some_feed, is_due}

@@ -1,23 +1,19 @@
 -- An emitted list has the rows that its output had in the timesteps of its lives, and no others.
-use Rattle.std.proofs.Common.{◌≡◌, refl, ap, sym, subst, ◌∙◌, ℕ, ◌<◌, Bool, true, false, List, [], ◌∷◌, ◌++◌, length, map, get_or, append_assoc, append-nil, inl, inr, Option, None, Some, zero, suc}
-use Rattle.std.specs.Prelude.{if◌then◌else◌}
-use Rattle.std.specs.List.{fold, list_any, flat_map}
+use Rattle.std.proofs.Common.{◌≡◌, refl, ap, sym, subst, ◌∙◌, ℕ, ◌<◌, List, [], ◌∷◌, ◌++◌, length, map, get_or, append_assoc, append-nil, Option, Some, zero, suc}
+use Rattle.std.specs.List.{fold, flat_map}
 use Rattle.std.proofs.lemmas.List.{length-map}
-use Rattle.std.proofs.lemmas.List.Elements.{filter_map-append}
-use Rattle.blz_value.specs.Members.{Has, HaveEqualMembers}
+use Rattle.blz_value.specs.Members.{HaveEqualMembers}
 use Rattle.blz_value.specs.Record.{Row}
-use Rattle.blz_value.proofs.Membership.{Has-append_left, Has-append_right, Has-append_cases}
 use Rattle.bloom_ast.specs.declared.program.Program.{Program}
 use Rattle.bloom_ast.specs.ProgramStep.{tables_after_step, outputs_of_step, empty_tables}
 use Rattle.bloom_ast.specs.Step.{Sets, set_at}
-use Rattle.topo_types.specs.Messages.{Message, row, seal, row_in, rows_in}
-use Rattle.messages.specs.Messages.{Entry, is_same_message}
+use Rattle.topo_types.specs.Messages.{Message, rows_in}
+use Rattle.messages.specs.Messages.{Entry}
 use Rattle.inbox.specs.Instances.{Instance}
 use Rattle.inbox.specs.Timesteps.{SetOff}
-use Rattle.inbox.specs.Emission.{Kept, list_of, has_seal, count_in, with_row, with_rows, with_seal, with_seals, output_key, seal_all, emit_step, emit_of, emit, first_tables, begin_life, nothing_emitted}
+use Rattle.inbox.specs.Emission.{Kept, list_of, with_rows, with_seals, output_key, seal_all, emit_step, emit_of, emit, first_tables, begin_life, nothing_emitted}
 use Rattle.inbox.specs.Lives.{Life, Lives, all_lives, life_sets_off, life_timesteps, after_life, emitted_by}
 use Rattle.inbox.specs.Folds.{rows_from}
-use Rattle.messages.proofs.MessagesLemmas.{is_same_message-is, is_same_message-itself, same-from_any}
 pub use Rattle.messages.proofs.EmittedLemmas.{members_themselves, members_on, members_then, members_is, rows_in-append, rows-with_row, rows-with_rows, rows-with_seal, rows-with_seals}
 use Rattle.inbox.proofs.Lists.Growing.{get_or-each_by_place, emit_step-continues, emit_steps-continue, seal_all-continues}
 

@@ -11,7 +11,7 @@ use Rattle.inbox.specs.Ids.{message_with_id}
 use Rattle.inbox.specs.Log.{EntryId, is_same_entry_id, entries_with_ids}
 use Rattle.inbox.specs.Messages.{is_same_entry}
 use Rattle.messages.specs.declared.message.Message.{Message as IdMessage}
-use Rattle.sched_run.specs.Code.Seen.{list_seen}
+use Rattle.sched_hear.specs.Seen.{list_seen}
 
 -- how many of the first indexes of a list aren't known on a feed
 abbrev pub unknown_on : (known : List (ℕ × ℕ)) → (feed count : ℕ) → ℕ

@@ -8,8 +8,8 @@ use Rattle.bloom_ast.specs.Program.{IsStock, port_columns, output_columns}
 use Rattle.bloom_ast.specs.Query.{Name}
 use Rattle.path_annotate.specs.declared.note.Note.{Note}
 use Rattle.path_annotate.specs.Annotation.{notes_of, note_of, note_at}
-use Rattle.topo_types.specs.Code.Built.{site_seen, sites_seen, IsBuilt, RunsStock}
-use Rattle.topo_types.specs.declared.view.sites.Site as code
+use Rattle.topo_check.specs.Code.Built.{site_seen, sites_seen, IsBuilt, RunsStock}
+use Rattle.topo_check.specs.declared.view.sites.Site as code
 use Rattle.topo_types.specs.Sites.{Site, program_ports, program_outputs, ports_with, outputs_with}
 use Rattle.topo_types.specs.ViewOf.{derived_note}
 use Rattle.topo_types.proofs.Views.ViewRuns.{columns_of_ports, columns_of_outputs}

@@ -12,7 +12,7 @@ use Rattle.topo_types.specs.declared.fault.TopoKind.{TopoKind}
 use Rattle.topo_types.specs.declared.fault.TopoKind.TheVariants as kind
 use Rattle.topo_types.specs.declared.topology.Spot.{Spot}
 use Rattle.topo_types.specs.declared.topology.Topology.{Topology}
-use Rattle.topo_types.specs.Code.Found.{HasEnds}
+use Rattle.topo_types.specs.Found.{HasEnds}
 use Rattle.topo_types.specs.Validity.{written, bad_source, bad_component, bad_stream, bad_fd, kind_fault}
 use Rattle.topo_types.specs.Validity.TooMany.{has_wide}
 use Rattle.topo_types.specs.Validity.Twice.{names_within}
@@ -23,7 +23,7 @@ use Rattle.topo_types.specs.ViewOf.{view_of, component_view}
 use Rattle.topo_types.proofs.Faults.NoFault.{no_places, above, at_most, no_source, no_written}
 use Rattle.topo_types.proofs.Regions.Numbering.{any-none}
 use Rattle.topo_types.proofs.Views.ViewParts.{sites, attributes, seen, length_streams, each_stream, located}
-use Rattle.topo_types.proofs.Faults.EarlyKinds.{site_fine}
+use Rattle.topo_check.proofs.Faults.EarlyKinds.{site_fine}
 use Rattle.std.proofs.lemmas.List.{length-map}
 
 module _ (t : Topology) (modules : List Accepted) where

@@ -20,7 +20,7 @@ use Rattle.topo_types.specs.declared.topology.Side.{Side}
 use Rattle.topo_types.specs.declared.topology.Stock.{Stock}
 use Rattle.topo_types.specs.declared.topology.Stock.TheVariants as stock
 use Rattle.topo_types.specs.declared.topology.Topology.{Topology}
-use Rattle.topo_types.specs.Code.Built.{IsBuilt, RunsStock}
+use Rattle.topo_check.specs.Code.Built.{IsBuilt, RunsStock}
 use Rattle.topo_types.specs.Validity.{written, bad_source, bad_component, bad_stream, bad_fd, kind_fault}
 use Rattle.topo_types.specs.Validity.TooMany.{has_wide, are_many, is_replica_count}
 use Rattle.topo_types.specs.Validity.Twice.{has_component, repeat_in, repeats_in_body}

@@ -11,8 +11,8 @@ use Rattle.topo_types.specs.declared.topology.SourceEntry.{SourceEntry}
 use Rattle.topo_types.specs.declared.topology.StreamEntry.{StreamEntry}
 use Rattle.topo_types.specs.declared.topology.FdEntry.{FdEntry}
 use Rattle.topo_types.specs.declared.topology.Topology.{Topology}
-use Rattle.topo_types.specs.Code.Named.{of_names, sized}
-use Rattle.topo_types.specs.Code.Validating.{early_fault, view_fault}
+use Rattle.topo_check.specs.Code.Named.{of_names, sized}
+use Rattle.topo_check.specs.Code.Validating.{early_fault, view_fault}
 use Rattle.topo_types.specs.Sites.{Site, sites_of, attributes_in}
 use Rattle.topo_types.specs.Validity.{Written, written, at_places, kind_fault, fault_in, kinds_of_names, kinds_of_view, fault_of}
 use Rattle.topo_types.specs.Validity.OfView.{is_mismatched, seals_in_cycle, is_understated}

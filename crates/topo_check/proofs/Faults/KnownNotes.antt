@@ -7,12 +7,12 @@ use Rattle.bloom_ast.specs.Form.{Accepted}
 use Rattle.bloom_ast.proofs.Faults.Levels.{neither}
 use Rattle.topo_types.specs.declared.fault.TopoKind.TheVariants as kind
 use Rattle.topo_types.specs.declared.topology.Topology.{Topology}
-use Rattle.topo_types.specs.Code.OfView.{HasKnownNotes}
+use Rattle.topo_check.specs.Code.OfView.{HasKnownNotes}
 use Rattle.topo_types.specs.Sites.{Site, no_site, sites_of}
 use Rattle.topo_types.specs.Validity.{written, kind_fault}
 use Rattle.topo_types.specs.Validity.Twice.{names_within}
 use Rattle.topo_types.specs.Validity.Unknown.{misses_attribute, misses_note, unknown_note, unknown_in_body}
-use Rattle.topo_types.proofs.Faults.EarlyKinds.{site_fine}
+use Rattle.topo_check.proofs.Faults.EarlyKinds.{site_fine}
 use Rattle.topo_types.proofs.Regions.Numbering.{any-none}
 
 module _ (t : Topology) (modules : List Accepted) (known : kind_fault kind.Unknown (written t modules) ≡ None) where

@@ -7,9 +7,9 @@ use Rattle.std.proofs.lemmas.List.FromFn.{get_or-map-range_with_len, length-rang
 use Rattle.bloom_ast.proofs.Faults.Levels.{neither}
 use Rattle.topo_types.specs.declared.topology.Declared.{Declared}
 use Rattle.topo_types.specs.declared.topology.Side.{Side}
-use Rattle.topo_types.specs.declared.view.sites.Site as held
-use Rattle.topo_types.specs.Code.Built.{site_seen, sites_seen}
-use Rattle.topo_types.specs.Code.OfView.{HasKnownNotes}
+use Rattle.topo_check.specs.declared.view.sites.Site as held
+use Rattle.topo_check.specs.Code.Built.{site_seen, sites_seen}
+use Rattle.topo_check.specs.Code.OfView.{HasKnownNotes}
 use Rattle.topo_types.specs.Sets.{below}
 use Rattle.topo_types.specs.Sites.{Site, side, side_of, side_number}
 use Rattle.topo_types.specs.Validity.Unknown.{unknown_note}

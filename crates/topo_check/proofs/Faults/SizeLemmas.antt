@@ -7,13 +7,13 @@ use Rattle.blz_value.specs.FirstPlace.{first_place}
 use Rattle.bloom_ast.specs.Query.{Name}
 use Rattle.fd_closure.specs.Names.{added}
 use Rattle.topo_types.specs.declared.topology.SourceEntry.{SourceEntry}
-use Rattle.topo_types.specs.declared.view.sites.Site as held
+use Rattle.topo_check.specs.declared.view.sites.Site as held
 use Rattle.topo_types.specs.Attributes.{with_columns, source_columns, side_columns}
-use Rattle.topo_types.specs.Code.Built.{site_seen, sites_seen}
+use Rattle.topo_check.specs.Code.Built.{site_seen, sites_seen}
 use Rattle.topo_types.specs.Sites.{Site, attributes_in, site_columns}
 use Rattle.topo_types.specs.Validity.TooMany.{large_component, too_many_component, replica_sum}
 use Rattle.topo_types.specs.ViewOf.{count_from}
-use Rattle.topo_types.proofs.Columns.Growing.{left_with}
+use Rattle.topo_check.proofs.Columns.Growing.{left_with}
 
 module _ (sources : List SourceEntry) (sites : List held.Site) (i : ℕ) (x : held.Site) (lt : i < length sites) (is : x ≡ get_or sites i x) where
   abbrev all : List Site

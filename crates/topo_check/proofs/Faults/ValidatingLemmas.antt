@@ -9,11 +9,11 @@ use Rattle.bloom_ast.specs.Query.{Name}
 use Rattle.topo_types.specs.declared.fault.TopoKind.TheVariants as kind
 use Rattle.topo_types.specs.declared.topology.ComponentEntry.{ComponentEntry}
 use Rattle.topo_types.specs.declared.topology.Topology.{Topology}
-use Rattle.topo_types.specs.declared.view.sites.Site as held
-use Rattle.topo_types.specs.Code.Built.{sites_seen, site_seen, IsBuilt}
-use Rattle.topo_types.specs.Code.Found.{HasEnds}
-use Rattle.topo_types.specs.Code.OfView.{HasKnownNotes}
-use Rattle.topo_types.specs.Code.Validating.{early_fault, view_fault, IsNamed, Names}
+use Rattle.topo_check.specs.declared.view.sites.Site as held
+use Rattle.topo_check.specs.Code.Built.{sites_seen, site_seen, IsBuilt}
+use Rattle.topo_types.specs.Found.{HasEnds}
+use Rattle.topo_check.specs.Code.OfView.{HasKnownNotes}
+use Rattle.topo_check.specs.Code.Validating.{early_fault, view_fault, IsNamed, Names}
 use Rattle.topo_types.specs.Sites.{Site, sites_of, attributes_in}
 use Rattle.topo_types.specs.declared.fault.TopoFault.{TopoFault}
 use Rattle.topo_types.specs.declared.fault.ValidFault.{ValidFault}
@@ -21,14 +21,14 @@ use Rattle.topo_types.specs.declared.fault.ValidFault.TheVariants.{Bad, NoMemory
 use Rattle.topo_types.specs.Regions.{is_in_cycle}
 use Rattle.topo_types.specs.Valid.{Validated}
 use Rattle.topo_types.specs.Validation.{Validates}
-use Rattle.topo_types.specs.Code.Named.{of_names, sized}
+use Rattle.topo_check.specs.Code.Named.{of_names, sized}
 use Rattle.topo_types.specs.Validity.{AreFew, fault_of, kind_fault, fault_in, kinds_of_names}
 use Rattle.topo_types.specs.View.{View, component_numbers}
 use Rattle.topo_types.specs.ViewOf.{view_of, view_with, component_view}
-use Rattle.topo_types.proofs.Faults.EarlyEnds.{early_ends}
-use Rattle.topo_types.proofs.Faults.KnownNotes.{known_notes}
-use Rattle.topo_types.proofs.Faults.EarlyKinds.{all_built}
-use Rattle.topo_types.proofs.Faults.FaultParts.{early_is, late_is, no_size, no_name}
+use Rattle.topo_check.proofs.Faults.EarlyEnds.{early_ends}
+use Rattle.topo_check.proofs.Faults.KnownNotes.{known_notes}
+use Rattle.topo_check.proofs.Faults.EarlyKinds.{all_built}
+use Rattle.topo_check.proofs.Faults.FaultParts.{early_is, late_is, no_size, no_name}
 use Rattle.topo_types.proofs.Faults.NoFault.{length_sites}
 
 -- what is found of names once nothing is found of size

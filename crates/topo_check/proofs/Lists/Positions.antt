@@ -1,4 +1,4 @@
--- The first place at which a test holds; where it holds nowhere, the length.
+-- The numbers of components, and of ports and outputs, by the first place of a name.
 use Rattle.std.proofs.Common.{◌≡◌, ◌≤◌, inl, inr, nat_lt, Bool, List, [], ◌∷◌, map, length, unwrap_or, refl, arith, ◌∙◌}
 use Rattle.std.specs.Prelude.{position}
 use Rattle.std.specs.List.{position_or_len}
@@ -6,23 +6,11 @@ use Rattle.std.specs.Str.{bytes_eq}
 use Rattle.std.proofs.lemmas.Bool.{cases_Bool}
 use Rattle.std.proofs.lemmas.Bool.Decides.{nat_tests}
 use Rattle.bloom_ast.specs.Query.{Name}
+use Rattle.topo_graph.proofs.Positions.{from_place}
 use Rattle.topo_types.specs.declared.topology.Side.{Side}
-use Rattle.topo_types.specs.declared.view.sites.Site as code
-use Rattle.topo_types.specs.Code.Built.{sites_seen, site_seen}
+use Rattle.topo_check.specs.declared.view.sites.Site as code
+use Rattle.topo_check.specs.Code.Built.{sites_seen, site_seen}
 use Rattle.topo_types.specs.Sites.{side_number, site_number}
-
-place_le : {X : Type 0} (p : X → Bool) (xs : List X) → position_or_len p xs ≤ length xs
-place_le p [] = omega arith
-place_le p (x ∷ xs) = elim (cases_Bool (p x)) [
-  | inl t ↦ rw t (omega arith)
-  | inr f ↦ rw f (omega (arith, place_le p xs))
-]
-
-pub from_place : {X : Type 0} (p : X → Bool) (xs : List X) → unwrap_or (position p xs) (length xs) ≡ position_or_len p xs
-from_place p xs = elim (cases_Bool (nat_lt (position_or_len p xs) (length xs))) [
-  | inl t ↦ rw t refl
-  | inr f ↦ rw f (let le = place_le p xs in let past : length xs ≤ position_or_len p xs = grind (arith, nat_tests) in omega (arith, le, past))
-]
 
 place_map : {X Y : Type 0} (p : Y → Bool) (f : X → Y) (xs : List X) → position_or_len (λ x. p (f x)) xs ≡ position_or_len p (map f xs)
 place_map p f [] = refl

@@ -2,7 +2,7 @@
 use Rattle.std.specs.Prelude.{◌≡◌, ◌≤◌, Option, None, Some, List, map, length}
 use Rattle.bloom_ast.specs.declared.program.Program.{Program}
 use Rattle.bloom_ast.specs.Program.{IsStock}
-use Rattle.topo_types.specs.declared.view.sites.Site as declared
+use Rattle.topo_check.specs.declared.view.sites.Site as declared
 use Rattle.topo_types.specs.Sites.{Site, ports_with, outputs_with}
 use Rattle.topo_types.specs.ViewOf.{count_from}
 

@@ -2,8 +2,8 @@
 use Rattle.std.specs.Prelude.{List, []}
 use Rattle.bloom_ast.specs.Query.{Name}
 use Rattle.topo_types.specs.declared.topology.Topology.{Topology}
-use Rattle.topo_types.specs.declared.validity.Parts.{Parts}
-use Rattle.topo_types.specs.Code.Built.{sites_seen}
+use Rattle.topo_check.specs.declared.validity.Parts.{Parts}
+use Rattle.topo_check.specs.Code.Built.{sites_seen}
 use Rattle.topo_types.specs.Sites.{Site}
 use Rattle.topo_types.specs.Validity.{Written}
 use Rattle.topo_types.specs.View.{View}

@@ -8,7 +8,7 @@ use Rattle.topo_types.specs.declared.fault.TopoKind.TheVariants as kind
 use Rattle.topo_types.specs.declared.fault.ValidFault.{ValidFault}
 use Rattle.topo_types.specs.declared.fault.ValidFault.TheVariants.{Bad, NoMemory}
 use Rattle.topo_types.specs.declared.topology.Topology.{Topology}
-use Rattle.topo_types.specs.Code.Named.{of_names, sized}
+use Rattle.topo_check.specs.Code.Named.{of_names, sized}
 use Rattle.topo_types.specs.Sites.{Site, attributes_in}
 use Rattle.topo_types.specs.Validity.{AreFew, at_places, kind_fault, fault_in, kinds_of_names}
 use Rattle.topo_types.specs.Validity.OfView.{is_mismatched, seals_in_cycle, is_understated}

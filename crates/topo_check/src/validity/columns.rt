@@ -5,12 +5,12 @@ ghost use Rattle.std.specs.Option.{option_map};
 ghost use Rattle.fd_closure.specs.Names.{place_of};
 ghost use Rattle.topo_types.specs.Sites as sites_spec;
 ghost use Rattle.topo_types.specs.Validity.Columns as spec;
-ghost use Rattle.topo_types.specs.Code.Built.{site_seen, sites_seen};
+ghost use Rattle.topo_check.specs.Code.Built.{site_seen, sites_seen};
 
-use crate::topology::{Body, Side, SourceEntry, Spot, Stock, StreamEntry};
 use crate::validity::spots::{output_of, port_of};
 use crate::view::sites::Site;
 use blz_value::Str;
+use topo_types::{Body, Side, SourceEntry, Spot, Stock, StreamEntry};
 
 /// Whether the port is there and doesn't have these columns.
 pub(crate) fn differs(columns: &[Str], port: Option<&Side>) -> bool

@@ -3,8 +3,8 @@ ghost use Rattle.std.specs.List.{list_any};
 ghost use Rattle.std.specs.Prelude.{◌≡◌, ◌≤◌, ◌<◌, ◌+◌, false, is_some, length, map, option_map, IfOk, IfSome, All};
 ghost use Rattle.blz_value.specs.FirstPlace.{first_place};
 ghost use Rattle.path_annotate.specs.Annotation.{notes_of};
-ghost use Rattle.topo_types.specs.Code.Built.{site_seen, sites_seen, IsBuilt};
-ghost use Rattle.topo_types.specs.Code.OfView as code;
+ghost use Rattle.topo_check.specs.Code.Built.{site_seen, sites_seen, IsBuilt};
+ghost use Rattle.topo_check.specs.Code.OfView as code;
 ghost use Rattle.topo_types.specs.Feeds as feeds;
 ghost use Rattle.topo_types.specs.Kept.{view_kept};
 ghost use Rattle.topo_types.specs.Regions.{is_in_cycle};
@@ -12,16 +12,14 @@ ghost use Rattle.topo_types.specs.Validity.OfView as spec;
 ghost use Rattle.topo_types.specs.Validity.Unknown.{unknown_note};
 ghost use Rattle.topo_types.specs.View as view;
 
-use crate::graph::lookups::{is_order, mode_of, origin_of};
-use crate::kept::Kept;
-use crate::mode::Mode;
-use crate::topology::{Declared, StreamEntry};
 use crate::view::components::{derived_note, derived_notes};
 use crate::view::numbers::note_from;
 use crate::view::sites::{Site, side_number};
 use fd_closure::AttrNames;
 use path_annotate::{Note, Notes, covers};
 use std::alloc::{AllocError, Global};
+use topo_graph::{is_order, mode_of, origin_of};
+use topo_types::{Declared, Kept, Mode, StreamEntry};
 
 // ---- ReplicaMismatch
 

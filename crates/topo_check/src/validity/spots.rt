@@ -2,11 +2,11 @@
 ghost use Rattle.std.specs.Prelude.{◌≡◌};
 ghost use Rattle.std.specs.Option.{option_map};
 ghost use Rattle.topo_types.specs.Sites as spec;
-ghost use Rattle.topo_types.specs.Code.Built.{site_seen, sites_seen};
+ghost use Rattle.topo_check.specs.Code.Built.{site_seen, sites_seen};
 
-use crate::topology::{Side, Spot};
 use crate::view::sites::Site;
 use blz_value::Str;
+use topo_types::{Side, Spot};
 
 fn site_of<'s, 'a>(sites: &'s [Site<'a>], name: &Str) -> Option<&'s Site<'a>>
     ensures { option_map (λ s. site_seen s.now) result ≡ spec.site_of (sites_seen sites.now) name.now }

@@ -6,13 +6,13 @@ ghost use Rattle.topo_types.specs.Attributes as attributes;
 ghost use Rattle.topo_types.specs.Sites.{attributes_in};
 ghost use Rattle.topo_types.specs.ViewOf as views;
 ghost use Rattle.topo_types.specs.Validity.TooMany as spec;
-ghost use Rattle.topo_types.specs.Code.Built.{site_seen, sites_seen};
+ghost use Rattle.topo_check.specs.Code.Built.{site_seen, sites_seen};
 
-use crate::topology::{ComponentEntry, FdEntry, Side, SourceEntry, StreamEntry};
 use crate::view::sites::Site;
 use blz_value::Str;
 use fd_closure::{AttrNames, NamesFault};
 use std::alloc::AllocError;
+use topo_types::{ComponentEntry, FdEntry, Side, SourceEntry, StreamEntry};
 
 /// Most sources, and most sources and streams together.
 const MOST_STREAMS: usize = 64;

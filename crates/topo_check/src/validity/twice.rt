@@ -4,12 +4,12 @@ ghost use Rattle.std.specs.List.{list_any};
 ghost use Rattle.std.specs.Str.{bytes_eq};
 ghost use Rattle.topo_types.specs.Validity.Twice as spec;
 
-use crate::topology::{
-    Body, ComponentEntry, Declared, FdEntry, Side, SourceEntry, Spot, Stock, StreamEntry,
-};
 use blz_value::Str;
 use std::alloc::{AllocError, Global};
 use std::collections::BTreeSet;
+use topo_types::{
+    Body, ComponentEntry, Declared, FdEntry, Side, SourceEntry, Spot, Stock, StreamEntry,
+};
 
 // ---- lists in which nothing stands twice
 

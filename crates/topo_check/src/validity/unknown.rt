@@ -1,13 +1,13 @@
 //! The kind Unknown: names that name nothing.
 ghost use Rattle.std.specs.Prelude.{◌≡◌};
 ghost use Rattle.topo_types.specs.Validity.Unknown as spec;
-ghost use Rattle.topo_types.specs.Code.Built.{site_seen, sites_seen};
+ghost use Rattle.topo_check.specs.Code.Built.{site_seen, sites_seen};
 
-use crate::topology::{Body, Declared, FdEntry, SourceEntry, Spot, Stock, StreamEntry};
 use crate::validity::spots::{output_of, port_of, side_of};
 use crate::validity::twice::{has_name, names_within};
 use crate::view::sites::Site;
 use blz_value::Str;
+use topo_types::{Body, Declared, FdEntry, SourceEntry, Spot, Stock, StreamEntry};
 
 fn misses_port(sites: &[Site<'_>], spots: &[Spot]) -> bool
     ensures { result ≡ spec.misses_port (sites_seen sites.now) spots.now }

@@ -4,13 +4,14 @@ ghost use Rattle.std.specs.List.{list_any, remove};
 ghost use Rattle.bloom_ast.specs.Kinds.{same_kind, of_kind};
 ghost use Rattle.bloom_ast.specs.Program.{key_columns};
 ghost use Rattle.fd_closure.specs.Names.{place_of};
-ghost use Rattle.topo_types.specs.Code.Chosen as chosen;
+ghost use Rattle.topo_check.specs.Code.Chosen as chosen;
 ghost use Rattle.topo_types.specs.Sites as spec;
 
-use crate::topology::{Body, Side, Stock};
 use bloom_ast::{Checked, Collection, Kind, Program};
 use blz_value::{Items, Str};
 use std::alloc::{AllocError, Global};
+use topo_copy::copy_all;
+use topo_types::{Body, Side, Stock};
 
 // ---- programs
 

@@ -2,10 +2,8 @@
 ghost use Rattle.std.specs.Prelude.{◌≡◌, ◌≤◌, length, IfOk, All};
 ghost use Rattle.topo_types.specs.ViewOf.{view_with};
 ghost use Rattle.topo_types.specs.Kept.{view_kept};
-ghost use Rattle.topo_types.specs.Code.Built.{sites_seen, IsBuilt};
+ghost use Rattle.topo_check.specs.Code.Built.{sites_seen, IsBuilt};
 
-use crate::kept::Kept;
-use crate::topology::Topology;
 use crate::view::components::components_of;
 use crate::view::numbers::fds_of;
 use crate::view::sites::Site;
@@ -13,6 +11,7 @@ use crate::view::streams::{add_streams, sources_of};
 use blz_value::Items;
 use fd_closure::AttrNames;
 use std::alloc::{AllocError, Global};
+use topo_types::{Kept, Topology};
 
 /// The parts of a topology by their numbers, of these components with their bodies and these
 /// attributes.

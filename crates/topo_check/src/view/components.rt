@@ -5,11 +5,8 @@ ghost use Rattle.path_annotate.specs.Annotation.{notes_of};
 ghost use Rattle.path_annotate.specs.Roots.{no_roots as no_roots_of};
 ghost use Rattle.topo_types.specs.ViewOf as spec;
 ghost use Rattle.topo_types.specs.Kept.{component_kept, output_kept, port_kept};
-ghost use Rattle.topo_types.specs.Code.Built.{site_seen, sites_seen, IsBuilt};
+ghost use Rattle.topo_check.specs.Code.Built.{site_seen, sites_seen, IsBuilt};
 
-use crate::kept::{KeptComponent, KeptOutput, KeptPort};
-use crate::topology::{Declared, Side};
-use crate::view::bodies::copy_program;
 use crate::view::numbers::{attributes_of, mode_from, note_from, numbers_of};
 use crate::view::sites::Site;
 use bloom_ast::Program;
@@ -18,6 +15,8 @@ use fd_closure::{AttrNames, Attrs};
 use path_annotate::{Note, Notes};
 use path_trace::{annotate, gate_of, roots};
 use std::alloc::{AllocError, Global};
+use topo_copy::copy_program;
+use topo_types::{Declared, KeptComponent, KeptOutput, KeptPort, Side};
 
 // ---- ports and outputs
 

@@ -4,12 +4,11 @@ ghost use Rattle.path_annotate.specs.HeadRoots.{attribute_roots};
 ghost use Rattle.topo_types.specs.Sites.{attribute_number};
 ghost use Rattle.topo_types.specs.ViewOf as spec;
 
-use crate::mode::Mode;
-use crate::topology::{FdEntry, ModeName, NoteName};
 use blz_value::{Items, Str};
 use fd_closure::{AttrNames, Attrs, Fd};
 use path_annotate::Note;
 use std::alloc::{AllocError, Global};
+use topo_types::{FdEntry, Mode, ModeName, NoteName};
 
 // The number of an attribute; past the end where the name is none.
 fn number_of(names: &AttrNames, name: &Str) -> u8

@@ -2,14 +2,14 @@
 ghost use Rattle.std.specs.Prelude.{◌≡◌, ◌≤◌, ◌<◌, length, position, IfOk, IfSome, All};
 ghost use Rattle.std.specs.Str.{bytes_eq};
 ghost use Rattle.topo_types.specs.Sites as spec;
-ghost use Rattle.topo_types.specs.Code.Built.{site_seen, sites_seen, IsBuilt};
+ghost use Rattle.topo_check.specs.Code.Built.{site_seen, sites_seen, IsBuilt};
 
-use crate::topology::{ComponentEntry, Side, Spot};
 use crate::view::bodies::{modules_after, program_in, program_outputs, program_ports};
-use crate::view::copies::copy_all;
 use bloom_ast::{Checked, Program};
 use blz_value::{Items, Str};
 use std::alloc::{AllocError, Global};
+use topo_copy::copy_all;
+use topo_types::{ComponentEntry, Side, Spot};
 
 /// A component with what it runs, and its ports and outputs.
 #[derive(Drop)]

@@ -3,15 +3,14 @@ ghost use Rattle.std.specs.Prelude.{◌≡◌, ◌≤◌, ◌++◌, map, length,
 ghost use Rattle.topo_types.specs.Sites.{port_end as port_end_of};
 ghost use Rattle.topo_types.specs.ViewOf as spec;
 ghost use Rattle.topo_types.specs.Kept.{stream_kept};
-ghost use Rattle.topo_types.specs.Code.Built.{sites_seen, IsBuilt};
+ghost use Rattle.topo_check.specs.Code.Built.{sites_seen, IsBuilt};
 
-use crate::kept::KeptStream;
-use crate::topology::{SourceEntry, Spot, StreamEntry};
 use crate::view::numbers::{attributes_of, key_of};
 use crate::view::sites::{Site, output_end, outputs_at, port_end, side_columns};
 use blz_value::{Items, Str};
 use fd_closure::AttrNames;
 use std::alloc::{AllocError, Global};
+use topo_types::{KeptStream, SourceEntry, Spot, StreamEntry};
 
 // The ports that some spots name, by numbers.
 fn ends_of(

@@ -4,7 +4,7 @@ use Rattle.std.specs.List.{enumerate_from}
 use Rattle.fd_closure.specs.declared.attrs.Fd.{Fd}
 use Rattle.fd_closure.specs.Closure.{within, closure}
 use Rattle.bloom_ast.specs.Reads.{arrow_from, with_all, bit_if}
-use Rattle.topo_types.specs.declared.graph.lines.Line.{Line}
+use Rattle.topo_graph.specs.declared.lines.Line.{Line}
 use Rattle.topo_types.specs.Data.{has_both}
 use Rattle.topo_types.specs.Graph.{is_in}
 use Rattle.topo_types.specs.Sets.{set_of_numbers}

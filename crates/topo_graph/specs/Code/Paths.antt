@@ -6,7 +6,7 @@ use Rattle.fd_closure.specs.declared.attrs.Attrs.{Attrs}
 use Rattle.fd_closure.specs.declared.attrs.Fd.{Fd}
 use Rattle.fd_closure.specs.Closure.{within, closure}
 use Rattle.bloom_ast.specs.Reads.{arrow_from, with_all, bit_if}
-use Rattle.topo_types.specs.declared.graph.paths.Path.{Path}
+use Rattle.topo_graph.specs.declared.paths.Path.{Path}
 use Rattle.topo_types.specs.Carried.{is_key, allows_notes, streams_towards}
 use Rattle.topo_types.specs.Graph.{is_in}
 use Rattle.topo_types.specs.Sets.{set_of_numbers}

@@ -2,7 +2,7 @@ use Rattle.std.proofs.Common.{below_more, subst, ◌∙◌}
 use Rattle.std.proofs.lemmas.List.{get_or_default}
 use Rattle.bloom_ast.specs.Checks.{IsChecked}
 use Rattle.bloom_ast.specs.Form.{Accepted}
-use Rattle.topo_types.proofs.validation.known.Goals as goal
+use Rattle.topo_check.proofs.validation.known.Goals as goal
 
 pub loop-checked-preserved : goal.loop-checked-preserved
 loop-checked-preserved c =

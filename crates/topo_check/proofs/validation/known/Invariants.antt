@@ -1,7 +1,7 @@
 use Rattle.std.proofs.Common.{ℕ, ◌<◌, get_or}
 use Rattle.bloom_ast.specs.Checks.{IsChecked}
 use Rattle.bloom_ast.specs.Form.{Accepted}
-use Rattle.topo_types.proofs.validation.known.Given as goal
+use Rattle.topo_check.proofs.validation.known.Given as goal
 
 -- those so far are checked
 abbrev pub invariant-loop-checked : goal.invariant-loop-checked

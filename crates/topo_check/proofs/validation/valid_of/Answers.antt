@@ -2,16 +2,16 @@ use Rattle.std.proofs.Common.{◌≡◌, ◌∙◌, None, Some, ap, sym, subst}
 use Rattle.blz_value.proofs.Membership.{All-of_member}
 use Rattle.bloom_ast.specs.Checks.{IsChecked}
 use Rattle.bloom_ast.specs.Form.{Accepted}
-use Rattle.topo_types.specs.Code.Bounded.{IsBounded}
+use Rattle.topo_types.specs.Bounded.{IsBounded}
 use Rattle.topo_types.specs.Kept.{view_kept}
 use Rattle.topo_types.specs.declared.topology.Topology.{Topology}
 use Rattle.topo_types.specs.Valid.{AreModules, IsWhole, Validated}
 use Rattle.topo_types.specs.Validity.{fault_of}
 use Rattle.topo_types.specs.ViewOf.{view_of}
 use Rattle.topo_types.proofs.Views.ViewBounds.{view_bounded}
-use Rattle.topo_types.proofs.Faults.ValidatingLemmas as lemmas
-use Rattle.topo_types.proofs.Faults.WholeLemmas as lemmas'
-use Rattle.topo_types.proofs.validation.valid_of.Goals as goal
+use Rattle.topo_check.proofs.Faults.ValidatingLemmas as lemmas
+use Rattle.topo_check.proofs.Faults.WholeLemmas as lemmas'
+use Rattle.topo_check.proofs.validation.valid_of.Goals as goal
 
 pub parts_of-requires-clause-built : goal.parts_of-requires-clause-built
 parts_of-requires-clause-built c = lemmas.built c.args.topology.now c.args.modules.now c.args.sites.now c.requires.sites c.args.names c.requires.named

@@ -2,10 +2,10 @@ use Rattle.std.proofs.Common.{◌∙◌, Err, List, ap, length}
 use Rattle.std.proofs.lemmas.Result.{err_from_is_err_and}
 use Rattle.topo_types.specs.declared.fault.ValidFault.{ValidFault}
 use Rattle.topo_types.specs.declared.topology.ComponentEntry.{ComponentEntry}
-use Rattle.topo_types.specs.Code.Built.{sites_seen}
+use Rattle.topo_check.specs.Code.Built.{sites_seen}
 use Rattle.topo_types.specs.Sites.{sites_of}
-use Rattle.topo_types.proofs.Faults.ValidatingLemmas.{as_many, names_answer}
-use Rattle.topo_types.proofs.validation.validate.Goals as goal
+use Rattle.topo_check.proofs.Faults.ValidatingLemmas.{as_many, names_answer}
+use Rattle.topo_check.proofs.validation.validate.Goals as goal
 
 pub names_of-requires : goal.names_of-requires
 names_of-requires c =

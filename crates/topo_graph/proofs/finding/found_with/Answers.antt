@@ -1,16 +1,16 @@
 use Rattle.std.proofs.Common.{◌≡◌, map, length, ◌∙◌}
 use Rattle.std.specs.List.{enumerate_from}
 use Rattle.topo_types.specs.Carried.{carries}
-use Rattle.topo_types.specs.Code.Found.{usable_at}
-use Rattle.topo_types.specs.Code.Lines.{all_into, lines_by, upholders_by, good_set, usable_by}
-use Rattle.topo_types.specs.Code.Paths.{paths_by, carried_by}
+use Rattle.topo_types.specs.Found.{usable_at}
+use Rattle.topo_graph.specs.Code.Lines.{all_into, lines_by, upholders_by, good_set, usable_by}
+use Rattle.topo_graph.specs.Code.Paths.{paths_by, carried_by}
 use Rattle.topo_types.specs.Dependencies.{upholders}
 use Rattle.topo_types.specs.Kept.{view_kept}
 use Rattle.topo_types.specs.Regions.{regions, region_of, is_cyclic}
 use Rattle.topo_types.specs.Sets.{below}
 use Rattle.topo_types.specs.View.{component_numbers, stream_numbers}
-use Rattle.topo_types.proofs.Found.AllFound.{upheld_found, usable_found, carried_found}
-use Rattle.topo_types.proofs.graph.finding.found_with.Goals as goal
+use Rattle.topo_graph.proofs.AllFound.{upheld_found, usable_found, carried_found}
+use Rattle.topo_graph.proofs.finding.found_with.Goals as goal
 
 pub returns : goal.returns
 returns c =

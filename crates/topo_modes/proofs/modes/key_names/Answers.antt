@@ -1,7 +1,7 @@
 use Rattle.std.proofs.Common.{◌≡◌, inl, inr, subst, sym, IfOk}
 use Rattle.topo_types.specs.declared.mode.Mode.{Mode}
 use Rattle.topo_types.specs.Modes.{key_names}
-use Rattle.topo_types.proofs.view.modes.key_names.Goals as goal
+use Rattle.topo_modes.proofs.modes.key_names.Goals as goal
 
 pub returns-in-Pass : goal.returns-in-Pass
 returns-in-Pass c = elim c.in-Pass.is [

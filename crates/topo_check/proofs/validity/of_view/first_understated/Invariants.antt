@@ -1,8 +1,8 @@
 use Rattle.std.proofs.Common.{◌≡◌, drop}
 use Rattle.blz_value.specs.FirstPlace.{first_place}
-use Rattle.topo_types.specs.Code.Built.{sites_seen}
+use Rattle.topo_check.specs.Code.Built.{sites_seen}
 use Rattle.topo_types.specs.Validity.OfView.{is_understated}
-use Rattle.topo_types.proofs.validity.of_view.first_understated.Given as goal
+use Rattle.topo_check.proofs.validity.of_view.first_understated.Given as goal
 
 abbrev pub invariant-loop-number : goal.invariant-loop-number
 invariant-loop-number l =

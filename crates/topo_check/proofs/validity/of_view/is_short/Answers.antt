@@ -1,8 +1,8 @@
 use Rattle.std.proofs.Common.{◌<◌, ◌∙◌, ap, sym, subst, length}
-use Rattle.topo_types.specs.Code.Built.{site_seen}
+use Rattle.topo_check.specs.Code.Built.{site_seen}
 use Rattle.topo_types.specs.Sites.{side_number}
-use Rattle.topo_types.proofs.Faults.OfViewLemmas.{port_within, output_within}
-use Rattle.topo_types.proofs.validity.of_view.is_short.Goals as goal
+use Rattle.topo_check.proofs.Faults.OfViewLemmas.{port_within, output_within}
+use Rattle.topo_check.proofs.validity.of_view.is_short.Goals as goal
 
 pub derived_note-requires-clause-port : goal.derived_note-requires-clause-port
 derived_note-requires-clause-port c =

@@ -1,5 +1,5 @@
-use Rattle.topo_types.proofs.Columns.Growing.{full_at_name, place_of_new}
-use Rattle.topo_types.proofs.validity.too_many.add_columns.Goals as goal
+use Rattle.topo_check.proofs.Columns.Growing.{full_at_name, place_of_new}
+use Rattle.topo_check.proofs.validity.too_many.add_columns.Goals as goal
 
 pub returns-in-Err-Full-clause-fit : goal.returns-in-Err-Full-clause-fit
 returns-in-Err-Full-clause-fit c =

@@ -1,6 +1,6 @@
 use Rattle.std.proofs.Common.{rules}
-use Rattle.topo_types.proofs.Columns.Growing.{full_at_port}
-use Rattle.topo_types.proofs.validity.too_many.add_ports.Goals as goal
+use Rattle.topo_check.proofs.Columns.Growing.{full_at_port}
+use Rattle.topo_check.proofs.validity.too_many.add_ports.Goals as goal
 
 pub returns-then-not-branch-clause-fit : goal.returns-then-not-branch-clause-fit
 returns-then-not-branch-clause-fit c =

@@ -1,6 +1,6 @@
 use Rattle.std.proofs.Common.{arith, sym, ◌∙◌}
-use Rattle.topo_types.proofs.Faults.SizeLemmas.{found, passed, tested, attributes_next, replicas_next}
-use Rattle.topo_types.proofs.validity.too_many.first_large_component.Goals as goal
+use Rattle.topo_check.proofs.Faults.SizeLemmas.{found, passed, tested, attributes_next, replicas_next}
+use Rattle.topo_check.proofs.validity.too_many.first_large_component.Goals as goal
 
 pub returns-then-branch-clause-place : goal.returns-then-branch-clause-place
 returns-then-branch-clause-place c =

@@ -1,7 +1,7 @@
 use Rattle.std.proofs.Common.{◌≡◌, ◌≤◌, drop}
 use Rattle.blz_value.specs.FirstPlace.{first_place}
 use Rattle.topo_types.specs.Validity.TooMany.{too_many_fd}
-use Rattle.topo_types.proofs.validity.too_many.first_large_fd.Given as goal
+use Rattle.topo_check.proofs.validity.too_many.first_large_fd.Given as goal
 
 abbrev pub invariant-loop-number : goal.invariant-loop-number
 invariant-loop-number l =

@@ -2,7 +2,7 @@ use Rattle.std.proofs.Common.{◌≡◌, ◌≤◌, [], length, take, drop}
 use Rattle.blz_value.specs.FirstPlace.{first_place}
 use Rattle.topo_types.specs.Sites.{attributes_in}
 use Rattle.topo_types.specs.Validity.TooMany.{large_source}
-use Rattle.topo_types.proofs.validity.too_many.first_large_source.Given as goal
+use Rattle.topo_check.proofs.validity.too_many.first_large_source.Given as goal
 
 abbrev pub invariant-loop-number : goal.invariant-loop-number
 invariant-loop-number l =

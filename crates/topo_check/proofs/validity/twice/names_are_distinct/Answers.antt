@@ -2,8 +2,8 @@ use Rattle.std.proofs.Common.{◌∙◌, ap, length, nat_eq, Bor}
 use Rattle.std.specs.Str.{bytes_eq}
 use Rattle.std.proofs.lemmas.Iterator.{YieldsList-from_slice}
 use Rattle.bloom_ast.specs.Query.{Name}
-use Rattle.topo_types.proofs.Lists.Distinct.{set_len, names_total, names_tie}
-use Rattle.topo_types.proofs.validity.twice.names_are_distinct.Goals as goal
+use Rattle.topo_check.proofs.Lists.Distinct.{set_len, names_total, names_tie}
+use Rattle.topo_check.proofs.validity.twice.names_are_distinct.Goals as goal
 
 pub returns : goal.returns
 returns c =

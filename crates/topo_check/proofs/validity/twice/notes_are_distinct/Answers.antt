@@ -3,8 +3,8 @@ use Rattle.std.proofs.lemmas.Iterator.{YieldsList-from_slice, YieldsList-from_ma
 use Rattle.std.proofs.lemmas.Iterator.Consumers.{YieldsList-at}
 use Rattle.bloom_ast.specs.Query.{Name}
 use Rattle.topo_types.specs.Validity.Twice.{same_pair, note_pair}
-use Rattle.topo_types.proofs.Lists.Distinct.{set_len, pairs_total, pairs_tie, compared}
-use Rattle.topo_types.proofs.validity.twice.notes_are_distinct.Goals as goal
+use Rattle.topo_check.proofs.Lists.Distinct.{set_len, pairs_total, pairs_tie, compared}
+use Rattle.topo_check.proofs.validity.twice.notes_are_distinct.Goals as goal
 
 pub returns : goal.returns
 returns c =

@@ -4,8 +4,8 @@ use Rattle.std.proofs.lemmas.Iterator.{YieldsList-from_slice, YieldsList-from_ma
 use Rattle.std.proofs.lemmas.Iterator.Consumers.{YieldsList-at}
 use Rattle.topo_types.specs.declared.topology.Side.{Side}
 use Rattle.bloom_ast.specs.Query.{Name}
-use Rattle.topo_types.proofs.Lists.Distinct.{set_len, names_total, names_tie, compared}
-use Rattle.topo_types.proofs.validity.twice.sides_are_distinct.Goals as goal
+use Rattle.topo_check.proofs.Lists.Distinct.{set_len, names_total, names_tie, compared}
+use Rattle.topo_check.proofs.validity.twice.sides_are_distinct.Goals as goal
 
 pub returns : goal.returns
 returns c =

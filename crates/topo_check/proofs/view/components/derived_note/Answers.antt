@@ -1,7 +1,7 @@
 use Rattle.std.proofs.Common.{◌∙◌}
-use Rattle.topo_types.specs.Code.Built.{site_seen}
-use Rattle.topo_types.proofs.Faults.BuiltSites.{notes_port, notes_output, notes_note}
-use Rattle.topo_types.proofs.view.components.derived_note.Goals as goal
+use Rattle.topo_check.specs.Code.Built.{site_seen}
+use Rattle.topo_check.proofs.Faults.BuiltSites.{notes_port, notes_output, notes_note}
+use Rattle.topo_check.proofs.view.components.derived_note.Goals as goal
 
 pub at-requires-clause-port : goal.at-requires-clause-port
 at-requires-clause-port c = notes_port c.args.names.now (site_seen c.args.site.now) c.args.derived.now c.in-Some.notes c.args.port c.args.output c.requires.notes c.in-Some.is c.requires.built c.requires.port c.requires.output

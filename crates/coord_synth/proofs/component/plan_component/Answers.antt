@@ -1,5 +1,5 @@
 -- What is Order stays so.
-use Rattle.std.proofs.Common.{◌≡◌, ap, sym, subst, ◌∙◌}
+use Rattle.std.proofs.Common.{ap, sym, subst, ◌∙◌}
 use Rattle.topo_types.specs.Valid.{Validated}
 use Rattle.coord_synth.specs.Code.Written.{StaysWritten}
 use Rattle.coord_synth.proofs.KeptLemmas.{plan_order, plan_free}

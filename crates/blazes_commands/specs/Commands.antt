@@ -27,7 +27,9 @@ use Rattle.sched_run.specs.Reading.{IsOrdered}
 use Rattle.sched_text.specs.Reading.{ReadsAs, event_reading}
 use Rattle.sched_text.specs.Text.{schedule_text}
 use Rattle.blazes_commands.specs.Bench.{BenchStates, HasInstances}
+use Rattle.command_files.specs.Reply.{Answer}
 use Rattle.command_files.specs.Script.{Script, ◌>>=◌}
+use Rattle.command_labels.specs.Answers.{HasLabels, HasPlan, HasShards}
 use Rattle.blazes_words.specs.Words.{Asked}
 use Rattle.blazes_commands.specs.Checks as check
 use Rattle.command_labels.specs.BuiltIn.{planned_count}

@@ -8,7 +8,7 @@ use blz_outside::{End, Files, MemFiles};
 use command_checks::valid_topology;
 use coord_synth::{order_plan, seal_plan};
 use data_read::Data;
-use sched_make::apply;
+use sched_run::apply;
 use sched_run::Net;
 use sched_text::{Event, Schedule, ScheduleFault, print, read_line};
 use std::alloc::Global;

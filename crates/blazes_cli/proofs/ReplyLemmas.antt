@@ -4,17 +4,18 @@ use Rattle.blz_outside.specs.Counts.{Rose}
 use Rattle.blz_outside.specs.Files.{FileMap}
 use Rattle.blz_boxes.specs.declared.kind.ProgramKind.{ProgramKind}
 use Rattle.blazes_commands.specs.Bench.{BenchStates}
-use Rattle.blazes_commands.specs.Script.{Bytes, Script, Ending, IsFailed}
-use Rattle.blazes_commands.specs.Script.Ending.{gave, refused, failed}
-use Rattle.blazes_commands.specs.Ends.{FilesStates, Came, Ends, ended}
+use Rattle.command_files.specs.Script.{Bytes, Script, Ending, IsFailed}
+use Rattle.command_files.specs.Script.Ending.{gave, refused, failed}
+use Rattle.command_files.specs.Ends.{FilesStates, Came, Ends, ended}
 use Rattle.blazes_words.specs.Words.{Asked, request_of}
-use Rattle.blazes_commands.specs.Commands.{Answer, Work, script}
+use Rattle.command_files.specs.Reply.{Answer}
+use Rattle.blazes_commands.specs.Commands.{Work, script}
 use Rattle.blazes_commands.specs.Commands.Work.{labelled, derived, planned, ran, made, soaked, sharded}
 use Rattle.blazes_commands.specs.Answer.{Answers}
 use Rattle.blazes_cli.specs.Answer.{IsReply}
 use Rattle.blazes_cli.specs.Outcome.{SinkStates, WroteAll, IsSaid, IsOutcome, IsUsageOrLost, IsReadFaultOrLost}
-use Rattle.blazes_commands.specs.declared.status.Status.{Status}
-use Rattle.blazes_commands.specs.declared.status.Status.TheVariants.{Done, Refused, Usage, ReadFault, WriteFault, Incomplete, NoMemory}
+use Rattle.command_files.specs.declared.status.Status.{Status}
+use Rattle.command_files.specs.declared.status.Status.TheVariants.{Done, Refused, Usage, ReadFault, WriteFault, Incomplete, NoMemory}
 use Rattle.blazes_cli.proofs.SteadyLemmas.{steady_ends}
 
 -- the statuses that there may be at the end of a script

@@ -2,10 +2,11 @@
 use Rattle.std.specs.Prelude.{◌≡◌, Option, Some, None}
 use Rattle.blazes_commands.specs.Answer.{IsAnswered}
 use Rattle.blazes_commands.specs.Bench.{BenchStates}
-use Rattle.blazes_commands.specs.Commands.{Answer, script}
-use Rattle.blazes_commands.specs.Ends.{FilesStates}
+use Rattle.command_files.specs.Reply.{Answer}
+use Rattle.blazes_commands.specs.Commands.{script}
+use Rattle.command_files.specs.Ends.{FilesStates}
 use Rattle.blazes_words.specs.Words.{Asked}
-use Rattle.blazes_commands.specs.declared.status.Status.TheVariants.{Usage}
+use Rattle.command_files.specs.declared.status.Status.TheVariants.{Usage}
 use Rattle.blazes_cli.specs.Lines.{usage_line}
 
 -- the usage line, and no file was read

@@ -5,13 +5,14 @@ use Rattle.blz_outside.specs.Files.{FileMap}
 use Rattle.blz_outside.specs.Sink.{Grows, Falls}
 use Rattle.blz_boxes.specs.declared.kind.ProgramKind.{ProgramKind}
 use Rattle.blazes_commands.specs.Bench.{BenchStates}
-use Rattle.blazes_commands.specs.Script.{Bytes, IsFailed}
-use Rattle.blazes_commands.specs.Ends.{FilesStates, ended}
+use Rattle.command_files.specs.Script.{Bytes, IsFailed}
+use Rattle.command_files.specs.Ends.{FilesStates, ended}
 use Rattle.blazes_words.specs.Words.{request_of}
-use Rattle.blazes_commands.specs.Commands.{Answer, script}
+use Rattle.command_files.specs.Reply.{Answer}
+use Rattle.blazes_commands.specs.Commands.{script}
 use Rattle.blazes_cli.specs.Answer.{IsReply}
-use Rattle.blazes_commands.specs.declared.status.Status.{Status}
-use Rattle.blazes_commands.specs.declared.status.Status.TheVariants.{Done, Refused, Usage, ReadFault, WriteFault, Incomplete, NoMemory}
+use Rattle.command_files.specs.declared.status.Status.{Status}
+use Rattle.command_files.specs.declared.status.Status.TheVariants.{Done, Refused, Usage, ReadFault, WriteFault, Incomplete, NoMemory}
 
 -- a sink before and after the call
 pub record SinkStates : Type 0 where

@@ -4,5 +4,5 @@
 
 mod program;
 
-pub use blazes_commands::Status;
+pub use command_files::Status;
 pub use program::blazes;

@@ -4,14 +4,15 @@ use Rattle.std.specs.Result.{IsErrAnd}
 use Rattle.topo_types.specs.Data.{Data}
 use Rattle.topo_types.specs.Valid.{Validated}
 use Rattle.blazes_commands.specs.Bench.{BenchStates}
-use Rattle.blazes_commands.specs.Checks as check
-use Rattle.blazes_commands.specs.Code.Ran.{Replies, Stopped}
+use Rattle.command_checks.specs.Checks as check
+use Rattle.blazes_commands.specs.Code.Ran.{Replies}
+use Rattle.command_files.specs.Ran.{Stopped}
 use Rattle.blazes_commands.specs.Commands.{Work}
-use Rattle.blazes_commands.specs.Ends.{Source, FilesStates, files_states, Came}
-use Rattle.blazes_commands.specs.Script.{Bytes, Script, ◌>>=◌}
-use Rattle.blazes_commands.specs.Script.Ending.{gave}
-use Rattle.blazes_commands.specs.declared.reply.Reply.{Reply}
-use Rattle.blazes_commands.specs.declared.stop.Stop.{Stop}
+use Rattle.command_files.specs.Ends.{Source, FilesStates, files_states, Came}
+use Rattle.command_files.specs.Script.{Bytes, Script, ◌>>=◌}
+use Rattle.command_files.specs.Script.Ending.{gave}
+use Rattle.command_files.specs.declared.reply.Reply.{Reply}
+use Rattle.command_files.specs.declared.stop.Stop.{Stop}
 use Rattle.blazes_commands.proofs.CommandLemmas.{stop_replies, then_replies}
 
 module _ (bench : BenchStates) (topology data_name : Bytes) (next : Validated → Data → Script Work) (result : Result Reply Stop) where

@@ -1,13 +1,9 @@
 pub mod CommandLemmas
-pub mod EachLemmas
-pub mod FileLemmas
-pub mod ScriptLemmas
+pub mod LabelLemmas
 pub mod RunLemmas
 pub mod GivenLemmas
 pub mod OpeningLemmas
 pub mod CommandFiles
 pub mod MakeLemmas
-pub mod BuiltInLemmas
 pub mod TweetsLemmas
 pub mod SoakLemmas
-pub mod ShardLemmas

@@ -8,32 +8,34 @@ use Rattle.inbox.specs.Events.{Event, event}
 use Rattle.inbox.specs.Executions.{Execution, execution_of}
 use Rattle.inbox.specs.Wiring.{wiring_of}
 use Rattle.inbox.proofs.Executions.Results.{Ok_same}
-use Rattle.sched_run.specs.Applying.{Line, steps_of}
-use Rattle.sched_run.specs.Bench.{fault_of_opening}
-use Rattle.sched_run.specs.Made.{AnswersSo, LeavesNothing, execution_after, made_of}
-use Rattle.sched_run.specs.Making.{AnswersMade, CountFromOne, HasMade, LeavesMade, RunsFirst, events_in, events_of}
-use Rattle.sched_run.specs.Net.{Stands, BooksRun, execution_in}
-use Rattle.sched_run.specs.Numbered.{numbered}
-use Rattle.sched_run.specs.declared.books.Books.{Books}
-use Rattle.sched_run.specs.declared.fault.MakeFault.{MakeFault}
+use Rattle.sched_make.specs.Applying.{Line, steps_of}
+use Rattle.sched_bench.specs.Bench.{fault_of_opening}
+use Rattle.sched_make.specs.Made.{AnswersSo, LeavesNothing, execution_after, made_of}
+use Rattle.sched_make.specs.Making.{AnswersMade, CountFromOne, HasMade, LeavesMade, RunsFirst, events_in, events_of}
+use Rattle.sched_hear.specs.Net.{Stands, BooksRun, execution_in}
+use Rattle.sched_hear.specs.Numbered.{numbered}
+use Rattle.sched_hear.specs.declared.books.Books.{Books}
+use Rattle.sched_make.specs.declared.fault.MakeFault.{MakeFault}
 use Rattle.sched_text.specs.Text.{numbered_again}
 use Rattle.topo_types.specs.Data.{Data}
 use Rattle.topo_types.specs.View.{View}
 use Rattle.blazes_commands.specs.Bench.{BenchStates}
 use Rattle.blazes_commands.specs.Checks as check
 use Rattle.blazes_commands.specs.Code.Made.{IsMade, IsMadeOf, PrintsBooks}
-use Rattle.blazes_commands.specs.Code.Ran.{Replies, answer_of}
-use Rattle.blazes_commands.specs.Commands.{Answer, Work, making, making_for, Says, IsStatusOf}
+use Rattle.blazes_commands.specs.Code.Ran.{Replies}
+use Rattle.command_files.specs.Ran.{answer_of}
+use Rattle.command_files.specs.Reply.{Answer}
+use Rattle.blazes_commands.specs.Commands.{Work, making, making_for, Says, IsStatusOf}
 use Rattle.blazes_commands.specs.Commands.Work.{made}
-use Rattle.blazes_commands.specs.Ends.{Source, files_states}
-use Rattle.blazes_commands.specs.Script.{Script, ◌>>=◌}
-use Rattle.blazes_commands.specs.Script.Script.{gives}
-use Rattle.blazes_commands.specs.declared.reply.Reply.{Reply}
-use Rattle.blazes_commands.specs.declared.stop.Stop.{Stop}
+use Rattle.command_files.specs.Ends.{Source, files_states}
+use Rattle.command_files.specs.Script.{Script, ◌>>=◌}
+use Rattle.command_files.specs.Script.Script.{gives}
+use Rattle.command_files.specs.declared.reply.Reply.{Reply}
+use Rattle.command_files.specs.declared.stop.Stop.{Stop}
 use Rattle.blazes_commands.proofs.CommandLemmas.{followed}
 use Rattle.blazes_commands.proofs.GivenLemmas.{made_gives}
 use Rattle.blazes_commands.proofs.OpeningLemmas.{opened_then}
-use Rattle.blazes_commands.proofs.ScriptLemmas.{came_checked, gives_ran, memory_stops, stop_then}
+use Rattle.command_files.proofs.ScriptLemmas.{came_checked, gives_ran, memory_stops, stop_then}
 
 -- ---- the lines
 

@@ -4,22 +4,23 @@ use Rattle.std.specs.Result.{IsErrAnd}
 use Rattle.blz_boxes.specs.declared.kind.ProgramKind.{ProgramKind}
 use Rattle.report_print.specs.declared.refusal.Refusal.{Refusal}
 use Rattle.report_print.specs.declared.refusal.Refusal.TheVariants as refusal
-use Rattle.sched_run.specs.Bench.{fault_of_opening, OpensAs}
-use Rattle.sched_run.specs.declared.fault.OpenFault.{OpenFault}
-use Rattle.sched_run.specs.declared.fault.OpenFault.TheVariants as open_faults
-use Rattle.sched_run.proofs.BenchKinds.{opening_by_kinds}
+use Rattle.sched_bench.specs.Bench.{fault_of_opening, OpensAs}
+use Rattle.sched_bench.specs.declared.fault.OpenFault.{OpenFault}
+use Rattle.sched_bench.specs.declared.fault.OpenFault.TheVariants as open_faults
+use Rattle.sched_bench.proofs.BenchKinds.{opening_by_kinds}
 use Rattle.topo_types.specs.View.{View, component_at}
 use Rattle.blazes_commands.specs.Bench.{BenchStates}
 use Rattle.blazes_commands.specs.Checks as check
-use Rattle.blazes_commands.specs.Code.Ran.{IsStopAt, Replies, StopsAs}
+use Rattle.command_files.specs.Ran.{IsStopAt, StopsAs}
+use Rattle.blazes_commands.specs.Code.Ran.{Replies}
 use Rattle.blazes_commands.specs.Commands.{Work}
-use Rattle.blazes_commands.specs.Ends.{Source, files_states}
-use Rattle.blazes_commands.specs.Script.{Script, ◌>>=◌}
-use Rattle.blazes_commands.specs.declared.reply.Reply.{Reply}
-use Rattle.blazes_commands.specs.declared.stop.Stop.{Stop}
+use Rattle.command_files.specs.Ends.{Source, files_states}
+use Rattle.command_files.specs.Script.{Script, ◌>>=◌}
+use Rattle.command_files.specs.declared.reply.Reply.{Reply}
+use Rattle.command_files.specs.declared.stop.Stop.{Stop}
 use Rattle.blazes_commands.proofs.CommandLemmas.{stop_replies, then_replies}
-use Rattle.blazes_commands.proofs.GivenLemmas.{memory_gives, refused_gives}
-use Rattle.blazes_commands.proofs.ScriptLemmas.{came_checked, gives_ran}
+use Rattle.command_files.proofs.RefusedLemmas.{memory_gives, refused_gives}
+use Rattle.command_files.proofs.ScriptLemmas.{came_checked, gives_ran}
 
 -- ---- the call
 

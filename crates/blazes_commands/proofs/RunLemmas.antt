@@ -22,37 +22,38 @@ use Rattle.report_print.specs.declared.refusal.Refusal.{Refusal}
 use Rattle.report_print.specs.declared.refusal.Refusal.TheVariants as refusal
 use Rattle.report_print.specs.declared.refusal.EventKind.TheVariants as event_kinds
 use Rattle.report_print.specs.Refusals.{refusal_line}
-use Rattle.sched_run.specs.Applying.{Line, after_lines, steps_of, Reaches, Applied, AppliesLines}
-use Rattle.sched_run.specs.Bench.{instance_components, fault_of_opening}
-use Rattle.sched_run.specs.Net.{Stands, BooksRun, execution_in}
+use Rattle.sched_make.specs.Applying.{Line, after_lines, steps_of, Reaches, Applied, AppliesLines}
+use Rattle.sched_bench.specs.Bench.{instance_components, fault_of_opening}
+use Rattle.sched_hear.specs.Net.{Stands, BooksRun, execution_in}
 use Rattle.sched_run.specs.Reading.{IsOrdered}
 use Rattle.sched_run.specs.Tables.{last_tables}
-use Rattle.sched_run.specs.declared.applying.EventRefusal.{EventRefusal}
-use Rattle.sched_run.specs.declared.books.Books.{Books}
-use Rattle.sched_lists.specs.declared.fault.EventFault.{EventFault}
-use Rattle.sched_lists.specs.declared.fault.EventFault.TheVariants as event_faults
+use Rattle.sched_make.specs.declared.applying.EventRefusal.{EventRefusal}
+use Rattle.sched_hear.specs.declared.books.Books.{Books}
+use Rattle.emitted.specs.declared.fault.EventFault.{EventFault}
+use Rattle.emitted.specs.declared.fault.EventFault.TheVariants as event_faults
 use Rattle.topo_types.specs.Data.{Data}
 use Rattle.topo_types.specs.Valid.{IsValid, Validated}
 use Rattle.topo_types.specs.View.{View, component_at, program_of, stream_at, stream_of, is_order_mode}
 use Rattle.sched_run.proofs.TablesLemmas.{tables_are_last}
 use Rattle.blazes_commands.specs.Bench.{BenchStates, bench_states, HasInstances, HasSameKinds}
 use Rattle.blazes_commands.specs.Checks as check
-use Rattle.blazes_commands.specs.Code.Ran.{IsRefused, IsStopAt, Stopped, Replies, answer_of}
+use Rattle.command_files.specs.Ran.{IsRefused, IsStopAt, Stopped, answer_of}
+use Rattle.blazes_commands.specs.Code.Ran.{Replies}
 use Rattle.blazes_commands.specs.Code.Runs.{IsOutcomeOf, RepliesAtOnce}
 use Rattle.blazes_commands.specs.Commands.{Work, running, HasOrderReplicas, IsStatusOf}
 use Rattle.blazes_commands.specs.Commands.Work.{ran}
-use Rattle.blazes_commands.specs.Ends.{Source, files_states, Came}
-use Rattle.blazes_commands.specs.Script.{Bytes, Script, ◌>>=◌}
-use Rattle.blazes_commands.specs.Script.Script.{gives}
-use Rattle.blazes_commands.specs.Script.Ending.{gave}
+use Rattle.command_files.specs.Ends.{Source, files_states, Came}
+use Rattle.command_files.specs.Script.{Bytes, Script, ◌>>=◌}
+use Rattle.command_files.specs.Script.Script.{gives}
+use Rattle.command_files.specs.Script.Ending.{gave}
 use Rattle.blazes_words.specs.Words.{RunFiles}
-use Rattle.blazes_commands.specs.declared.reply.Reply.{Reply}
-use Rattle.blazes_commands.specs.declared.status.Status.TheVariants.{Done, Incomplete}
-use Rattle.blazes_commands.specs.declared.stop.Stop.{Stop}
-use Rattle.blazes_commands.specs.declared.stop.Stop.TheVariants.{Refused, Failed, NoMemory}
+use Rattle.command_files.specs.declared.reply.Reply.{Reply}
+use Rattle.command_files.specs.declared.status.Status.TheVariants.{Done, Incomplete}
+use Rattle.command_files.specs.declared.stop.Stop.{Stop}
+use Rattle.command_files.specs.declared.stop.Stop.TheVariants.{Refused, Failed, NoMemory}
 use Rattle.blazes_commands.proofs.CommandLemmas.{followed, stop_replies, then_replies}
 use Rattle.blazes_commands.proofs.OpeningLemmas.{opened_then}
-use Rattle.blazes_commands.proofs.ScriptLemmas.{came_checked, came_refused, memory_stops, stop_then}
+use Rattle.command_files.proofs.ScriptLemmas.{came_checked, came_refused, memory_stops, stop_then}
 
 -- ---- the schedule
 

@@ -1,38 +1,35 @@
 -- A soak replies as its script says: the word count is checked and planned, its data are made, and a net that made a schedule over them is summed up.
-use Rattle.std.proofs.Common.{◌≡◌, ℕ, List, [], Option, Result, Ok, Err, OnOk, refl, subst, sym}
+use Rattle.std.proofs.Common.{◌≡◌, ℕ, List, [], Option, Result, Ok, Err, OnOk, refl, subst}
 use Rattle.std.specs.Result.{IsErrAnd}
 use Rattle.bloom_ast.specs.declared.program.Program.{Program}
 use Rattle.bloom_ast.specs.Step.{Sets}
-use Rattle.coord_synth.specs.Plan.{planned}
 use Rattle.inbox.specs.Executions.{Execution}
-use Rattle.sched_run.specs.Applying.{Line, steps_of}
-use Rattle.sched_run.specs.Bench.{fault_of_opening}
-use Rattle.sched_run.specs.Making.{AnswersMade, LeavesMade}
-use Rattle.sched_run.specs.Net.{Stands, BooksRun}
-use Rattle.sched_run.specs.declared.books.Books.{Books}
-use Rattle.sched_run.specs.declared.fault.MakeFault.{MakeFault}
+use Rattle.sched_make.specs.Applying.{Line, steps_of}
+use Rattle.sched_bench.specs.Bench.{fault_of_opening}
+use Rattle.sched_make.specs.Making.{AnswersMade, LeavesMade}
+use Rattle.sched_hear.specs.Net.{Stands, BooksRun}
+use Rattle.sched_hear.specs.declared.books.Books.{Books}
+use Rattle.sched_make.specs.declared.fault.MakeFault.{MakeFault}
 use Rattle.topo_types.specs.Data.{Data}
-use Rattle.topo_types.specs.Valid.{Validated}
 use Rattle.topo_types.specs.View.{View}
 use Rattle.blazes_commands.specs.Bench.{BenchStates}
 use Rattle.blazes_commands.specs.Checks as check
-use Rattle.blazes_commands.specs.Code.Ran.{Gives, RanAtOnce, Replies}
+use Rattle.command_files.specs.Ran.{Gives, RanAtOnce}
+use Rattle.blazes_commands.specs.Code.Ran.{Replies}
 use Rattle.blazes_commands.specs.Code.Runs.{RepliesAtOnce}
 use Rattle.blazes_commands.specs.Code.Soaked.{IsSummaryOf, SumsBooks}
 use Rattle.blazes_commands.specs.Commands.{Work, making_for, soaking, script, HasSummary}
 use Rattle.blazes_commands.specs.Commands.Work.{soaked}
-use Rattle.blazes_commands.specs.Ends.{Source, files_states, Came}
-use Rattle.blazes_commands.specs.Script.{Script}
-use Rattle.blazes_commands.specs.Script.Script.{gives}
-use Rattle.blazes_commands.specs.Script.Ending.{gave}
-use Rattle.blazes_commands.specs.Soak.{planned_count, tweets_data, word_count}
+use Rattle.command_files.specs.Ends.{Source, files_states}
+use Rattle.command_files.specs.Script.{Script}
+use Rattle.command_labels.specs.BuiltIn.{planned_count}
+use Rattle.blazes_commands.specs.Soak.{tweets_data}
 use Rattle.blazes_words.specs.Words.{Asked, SoakWords}
-use Rattle.blazes_commands.specs.declared.reply.Reply.{Reply}
-use Rattle.blazes_commands.specs.declared.stop.Stop.{Stop}
-use Rattle.blazes_commands.specs.declared.stop.Stop.TheVariants.{NoMemory}
+use Rattle.command_files.specs.declared.reply.Reply.{Reply}
+use Rattle.command_files.specs.declared.stop.Stop.{Stop}
 use Rattle.blazes_commands.proofs.CommandLemmas.{stop_replies, then_replies}
 use Rattle.blazes_commands.proofs.MakeLemmas.{after_events, making_replies, runs_made}
-use Rattle.blazes_commands.proofs.ScriptLemmas.{came_at_once, came_checked, came_then, gives_ran, stop_handed, stop_then}
+use Rattle.command_files.proofs.ScriptLemmas.{came_checked, gives_ran}
 
 -- the net of a topology runs after it made a schedule
 pub runs_on : (v : View) (given : Data) (loaded : List (Option Program)) (tables next : List Sets) (old new : Books) (w : View) (result : Result (List Line) MakeFault) → w ≡ v → Stands v given [] loaded tables old → LeavesMade w loaded tables next old new result → OnOk result (BooksRun v new)
@@ -49,23 +46,6 @@ sums_reply batches v given seed loaded tables next old new bench s w result outc
       summary = subst (λ (x : Execution). HasSummary batches v given x answer) (after_events v given lines loaded next new stands leaves) (said given (steps_of v lines) stands.books);
     })
     w result outcome opens same stands answers leaves said
-
--- the plan of the built-in word count stops where this does
-abbrev on_count : Validated → Script View
-on_count seen = gives (planned seen.view)
-
-pub count_stops : {X Y : Type 0} (view : X → Validated) (out : Y → View) (result : Result Y Stop) (stop : Stop) → IsErrAnd result (λ given. given ≡ stop) → RanAtOnce view (Err stop) word_count → RanAtOnce out result planned_count
-unfolding planned_count
-count_stops view out result stop is stopped s = stop_handed out (files_states s s) planned_count result stop is (stop_then (files_states s s) stop word_count on_count (stopped s))
-
-pub count_lost : {Y : Type 0} (out : Y → View) (result : Result Y Stop) → IsErrAnd result (λ stop. stop ≡ NoMemory) → RanAtOnce out result planned_count
-count_lost out result is s = stop_handed out (files_states s s) planned_count result NoMemory is tt
-
-pub count_planned : {X Y : Type 0} (view : X → Validated) (out : Y → View) (x : X) (y : Y) → RanAtOnce view (Ok x) word_count → out y ≡ planned (view x).view → RanAtOnce out (Ok y) planned_count
-unfolding planned_count
-count_planned view out x y counts is s =
-    subst (λ (v : View). Came (files_states s s) planned_count (gave v)) (sym is)
-    (came_then s s s word_count on_count (view x) (gave (planned (view x).view)) (counts s) (came_at_once s (planned (view x).view)))
 
 module _ (bench : BenchStates) (words : SoakWords) (result : Result Reply Stop) where
   -- what follows on the plan of the word count, and on its data

@@ -1,11 +1,12 @@
 -- What a command answers to the files that it reads.
 use Rattle.std.specs.Prelude.{◌≡◌}
 use Rattle.blazes_commands.specs.Bench.{BenchStates}
-use Rattle.blazes_commands.specs.Script.{Script, Ending}
-use Rattle.blazes_commands.specs.Ends.{FilesStates, Came}
-use Rattle.blazes_commands.specs.Commands.{Answer, Work, Says}
-use Rattle.blazes_commands.specs.Lines.{cannot_read}
-use Rattle.blazes_commands.specs.declared.status.Status.TheVariants.{Refused, ReadFault}
+use Rattle.command_files.specs.Script.{Script, Ending}
+use Rattle.command_files.specs.Ends.{FilesStates, Came}
+use Rattle.command_files.specs.Reply.{Answer}
+use Rattle.blazes_commands.specs.Commands.{Work, Says}
+use Rattle.command_files.specs.Lines.{cannot_read}
+use Rattle.command_files.specs.declared.status.Status.TheVariants.{Refused, ReadFault}
 
 -- the answer where a script has ended so
 abbrev pub Answers : Ending Work → BenchStates → Answer → Type 0

@@ -6,7 +6,7 @@ use Rattle.bloom_ast.specs.Step.{Sets}
 use Rattle.blz_boxes.specs.declared.kind.ProgramKind.{ProgramKind}
 use Rattle.topo_types.specs.View.{View, program_of}
 use Rattle.inbox.specs.Executions.{Execution}
-use Rattle.sched_run.specs.Bench.{instance_components}
+use Rattle.sched_bench.specs.Bench.{instance_components}
 use Rattle.sched_run.specs.Tables.{last_tables}
 
 -- the kinds of its shells before and after, and what they have loaded and keep after it, shell by shell

@@ -1,6 +1,5 @@
 -- What functions give, beside the scripts that they run.
 pub mod Ran
-pub mod Found
 pub mod Runs
 pub mod Made
 pub mod Soaked

@@ -1,8 +1,7 @@
 -- What each command does, check by check, and what it has to write.
-use Rattle.std.specs.Prelude.{◌≡◌, ◌⊎◌, ℕ, List, take, Ok}
+use Rattle.std.specs.Prelude.{◌≡◌, ◌⊎◌, ℕ, List, take}
 use Rattle.bloom_ast.specs.declared.program.Program.{Program}
 use Rattle.blz_boxes.specs.declared.kind.ProgramKind.{ProgramKind}
-use Rattle.topo_types.specs.declared.topology.Topology.{Topology}
 use Rattle.topo_types.specs.Data.{Data}
 use Rattle.topo_types.specs.Valid.{Validated}
 use Rattle.topo_types.specs.View.{View}
@@ -16,32 +15,25 @@ use Rattle.inbox.specs.Folds.{fold_rows}
 use Rattle.inbox.specs.OrderReplicas.{most_taken}
 use Rattle.inbox.specs.Wiring.{wiring_of}
 use Rattle.coord_synth.specs.Laws.{AreCoordinated}
-use Rattle.coord_synth.specs.Plan as plan
-use Rattle.report_print.specs.DeriveText.{derive_text}
+use Rattle.report_derivation.specs.DeriveText.{derive_text}
 use Rattle.report_print.specs.LabelText.{label_text}
-use Rattle.report_print.specs.RunText.{run_text}
-use Rattle.report_print.specs.SoakText.{soak_text}
-use Rattle.sched_run.specs.Applying.{Line}
-use Rattle.sched_run.specs.Made.{LeavesNothing, execution_after}
-use Rattle.sched_run.specs.Making.{events_of}
+use Rattle.report_runs.specs.RunText.{run_text}
+use Rattle.report_runs.specs.SoakText.{soak_text}
+use Rattle.sched_make.specs.Applying.{Line}
+use Rattle.sched_make.specs.Made.{LeavesNothing, execution_after}
+use Rattle.sched_make.specs.Making.{events_of}
 use Rattle.shard_route.specs.declared.sharded.Sharded.{Sharded}
 use Rattle.sched_run.specs.Reading.{IsOrdered}
 use Rattle.sched_text.specs.Reading.{ReadsAs, event_reading}
 use Rattle.sched_text.specs.Text.{schedule_text}
-use Rattle.topo_read.specs.Reading.{IsReading}
 use Rattle.blazes_commands.specs.Bench.{BenchStates, HasInstances}
-use Rattle.blazes_commands.specs.Script.{Bytes, Script, ◌>>=◌}
-use Rattle.blazes_commands.specs.ShardText.{shard_text}
+use Rattle.command_files.specs.Script.{Script, ◌>>=◌}
 use Rattle.blazes_words.specs.Words.{Asked}
 use Rattle.blazes_commands.specs.Checks as check
-use Rattle.blazes_commands.specs.Soak.{planned_count, tweets_data}
-use Rattle.blazes_commands.specs.declared.status.Status.{Status}
-use Rattle.blazes_commands.specs.declared.status.Status.TheVariants.{Done, Incomplete}
-
--- a status and a text
-pub record Answer : Type 0 where
-  pub status : Status
-  pub text : Bytes
+use Rattle.command_labels.specs.BuiltIn.{planned_count}
+use Rattle.blazes_commands.specs.Soak.{tweets_data}
+use Rattle.command_files.specs.declared.status.Status.{Status}
+use Rattle.command_files.specs.declared.status.Status.TheVariants.{Done, Incomplete}
 
 -- what a command has found that no check refused
 pub data Work : Type 0 where
@@ -111,30 +103,6 @@ script kinds (Asked.shard words) = do
   found ← check.with_modules words.topology
   copies ← check.sharding found words
   Script.gives (Work.sharded copies)
-
--- the answer is Done with a text of the labels that the rules give, and these hold in all complete executions, also in those with forgets
-pub record HasLabels (text : View → List Label → Bytes) (v : View) (answer : Answer) : Type 0 where
-  pub labels : List Label
-  pub rules : AreLabels v labels
-  pub sound : Sound v labels
-  pub restarts : RestartSound v labels
-  pub says : answer ≡ record { status = Done; text = text v labels }
-
--- the planned topology as a file has it, in format 2
-abbrev pub planned_file : Validated → Topology
-planned_file seen = record (plan.topology_with_modes seen.topology (plan.planned seen.view)) { format = 2 }
-
--- the answer is Done with a text that is read as the planned topology; there no stream is worse than Run, and each of a component in mode Pass or Seal is Seal or Async
-pub record HasPlan (seen : Validated) (answer : Answer) : Type 0 where
-  pub status : answer.status ≡ Done
-  pub reads : IsReading answer.text (Ok (planned_file seen))
-  pub coordinated : AreCoordinated (plan.planned seen.view)
-
--- the answer is Done with a text that is read as the new topology, and the texts of the modules of its copies
-pub record HasShards (copies : Sharded) (answer : Answer) : Type 0 where
-  pub text : Bytes
-  pub reads : IsReading text (Ok copies.topology)
-  pub says : answer ≡ record { status = Done; text = shard_text text copies.files }
 
 -- Done where an execution is complete, and else Incomplete
 abbrev pub IsStatusOf : View → Data → Execution → Status → Type 0

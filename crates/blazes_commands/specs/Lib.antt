@@ -1,11 +1,6 @@
-pub mod Script
-pub mod Ends
-pub mod Lines
 pub mod Checks
 pub mod Soak
 pub mod Bench
-pub mod ShardText
 pub mod Commands
 pub mod Answer
-pub mod Status
 pub mod Code

@@ -3,12 +3,12 @@ ghost use Rattle.std.specs.Prelude.{◌≡◌, ◌<◌, ◌++◌, [], ◌∷◌,
 ghost use Rattle.data_read.specs.Gives as reading;
 ghost use Rattle.data_read.specs.Making.{data_from};
 ghost use Rattle.topo_types.specs.Data.{IsData};
-ghost use Rattle.blazes_commands.specs.Code.Ran.{Gives};
+ghost use Rattle.command_files.specs.Ran.{Gives};
 ghost use Rattle.blazes_commands.specs.Soak as spec;
 
-use crate::data_file::data_refusal;
-use crate::stop::{Stop, refused, stop_at};
 use blz_value::{Record, Str, Value};
+use command_checks::data_refusal;
+use command_files::{Stop, refused, stop_at};
 use data_read::{Data, DataFault, of_lists};
 use report_print::Refusal;
 use std::alloc::{AllocError, Global};
@@ -63,7 +63,7 @@ fn tweets(alloc: Global, batches: u32) -> Result<Vec<Record>, AllocError>
 }
 
 // Whether a topology has one source, of three columns.
-#[tactic(auto, using(report_print::proofs::Streams::source_within))]
+#[tactic(auto, using(report_derivation::proofs::Streams::source_within))]
 fn takes_tweets(valid: &Valid) -> bool
     ensures { result ≡ spec.takes_tweets valid.now.view }
 {

@@ -4,20 +4,17 @@ ghost use Rattle.blazes_commands.specs.Bench.{bench_states};
 ghost use Rattle.blazes_commands.specs.Code.Ran.{RepliesTo};
 ghost use Rattle.blazes_words.specs.Requests.{asked_by};
 ghost use Rattle.blazes_commands.specs.Code.Runs.{KeepsKinds};
-ghost use Rattle.blazes_commands.specs.Ends.{files_states, source};
+ghost use Rattle.command_files.specs.Ends.{files_states, source};
 ghost use Rattle.blazes_words.specs.Words.{IsWithin};
 
-use crate::labelling::{derive, label};
 use crate::making::make;
-use crate::planning::plan;
-use crate::reply::Reply;
 use crate::running::run;
-use crate::sharding::shard;
 use crate::soaking::soak;
-use crate::stop::Stop;
 use blazes_words::Request;
 use blz_boxes::Component;
 use blz_outside::Files;
+use command_files::{Reply, Stop};
+use command_labels::{derive, label, plan, shard};
 use std::alloc::Global;
 
 /// The reply of the command that is asked for, or what stopped it: its checks go in their order, and it

@@ -1,32 +1,32 @@
 //! The command that makes a schedule.
 ghost use Rattle.std.specs.Prelude.{◌≡◌, IfOk, OnOk, Some, map};
 ghost use Rattle.report_print.specs.declared.refusal.Refusal.TheVariants as refusal;
-ghost use Rattle.sched_run.specs.Making.{CountFromOne};
-ghost use Rattle.sched_run.specs.Net.{BooksRun};
+ghost use Rattle.sched_make.specs.Making.{CountFromOne};
+ghost use Rattle.sched_hear.specs.Net.{BooksRun};
 ghost use Rattle.sched_text.specs.Text.{IsPrintable};
 ghost use Rattle.topo_types.specs.Data.{IsData};
 ghost use Rattle.blazes_commands.specs.Bench.{bench_states};
 ghost use Rattle.blazes_commands.specs.Checks as check;
 ghost use Rattle.blazes_commands.specs.Code.Made.{IsMadeOf, PrintsBooks};
-ghost use Rattle.blazes_commands.specs.Code.Ran.{answer_of, RepliesTo};
+ghost use Rattle.command_files.specs.Ran.{answer_of};
+ghost use Rattle.blazes_commands.specs.Code.Ran.{RepliesTo};
 ghost use Rattle.blazes_words.specs.Requests.{make_shown};
 ghost use Rattle.blazes_commands.specs.Code.Runs.{KeepsKinds, RepliesAtOnce};
 ghost use Rattle.blazes_commands.specs.Commands.{making};
-ghost use Rattle.blazes_commands.specs.Ends.{files_states, source};
+ghost use Rattle.command_files.specs.Ends.{files_states, source};
 ghost use Rattle.blazes_words.specs.Words.{Asked};
 
-use crate::data_file::data_file;
 use crate::opening::opened;
-use crate::reply::Reply;
 use crate::running::status_of;
-use crate::stop::{Stop, stop_at};
-use crate::valid_topology::valid_topology;
 use blazes_words::MakeWords;
 use blz_boxes::Component;
 use blz_outside::Files;
+use command_checks::{data_file, valid_topology};
+use command_files::{Reply, Stop, stop_at};
 use data_read::Data;
 use report_print::{MakeKind, Refusal};
-use sched_run::{MakeFault, Net};
+use sched_make::MakeFault;
+use sched_run::Net;
 use sched_text::{Schedule, print};
 use std::alloc::{AllocError, Global};
 use topo_types::Valid;
@@ -102,7 +102,7 @@ fn made_over(
         result }
 {
     let mut net = opened(alloc, valid, given, bench)?;
-    let made = sched_run::make(&mut net, seed);
+    let made = sched_make::make(&mut net, seed);
     let outcome = outcome_of(alloc, &net, made);
     net.close(bench)?;
     outcome

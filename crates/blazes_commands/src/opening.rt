@@ -1,16 +1,16 @@
 //! The opening of a net with shells of the bench.
 ghost use Rattle.std.specs.Prelude.{◌≡◌, ◌++◌, [], IfOk, OnErr, map};
 ghost use Rattle.std.specs.List.Sorted.{IsPermutation};
-ghost use Rattle.sched_run.specs.Bench.{fault_of_opening};
-ghost use Rattle.sched_run.specs.Net.{Stands};
+ghost use Rattle.sched_bench.specs.Bench.{fault_of_opening};
+ghost use Rattle.sched_hear.specs.Net.{Stands};
 ghost use Rattle.topo_types.specs.Data.{IsData};
 ghost use Rattle.topo_types.specs.View.{component_at};
 ghost use Rattle.blazes_commands.specs.Checks as check;
-ghost use Rattle.blazes_commands.specs.Code.Ran.{Gives};
+ghost use Rattle.command_files.specs.Ran.{Gives};
 
-use crate::stop::{Stop, stop_at};
 use blz_boxes::Component;
 use blz_value::Str;
+use command_files::{Stop, stop_at};
 use data_read::Data;
 use report_print::Refusal;
 use sched_run::{Net, OpenFault};

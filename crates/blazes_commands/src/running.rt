@@ -1,30 +1,29 @@
 //! The command that runs a schedule.
 ghost use Rattle.std.specs.Prelude.{◌≡◌, IfOk, OnOk, Some, map};
 ghost use Rattle.report_print.specs.declared.refusal.Refusal.TheVariants as refusal;
-ghost use Rattle.sched_run.specs.Net.{BooksRun};
+ghost use Rattle.sched_hear.specs.Net.{BooksRun};
 ghost use Rattle.topo_types.specs.Data.{IsData};
 ghost use Rattle.blazes_commands.specs.Bench.{bench_states};
 ghost use Rattle.blazes_commands.specs.Checks as check;
-ghost use Rattle.blazes_commands.specs.Code.Ran.{answer_of, Replies, RepliesTo};
+ghost use Rattle.command_files.specs.Ran.{answer_of};
+ghost use Rattle.blazes_commands.specs.Code.Ran.{Replies, RepliesTo};
 ghost use Rattle.blazes_words.specs.Requests.{files_shown};
 ghost use Rattle.blazes_commands.specs.Code.Runs.{IsOutcomeOf, KeepsKinds, ReportsBooks, RepliesAtOnce, TellsStatus, running_file};
 ghost use Rattle.blazes_commands.specs.Commands.{running};
-ghost use Rattle.blazes_commands.specs.Ends.{files_states, source};
+ghost use Rattle.command_files.specs.Ends.{files_states, source};
 ghost use Rattle.blazes_words.specs.Words.{Asked};
 
-use crate::data_file::data_file;
 use crate::opening::opened;
-use crate::reply::Reply;
-use crate::schedule_file::schedule_file;
-use crate::status::Status;
-use crate::stop::{Stop, stop_at};
-use crate::valid_topology::valid_topology;
 use blazes_words::RunFiles;
 use blz_boxes::Component;
 use blz_outside::Files;
+use command_checks::{data_file, valid_topology};
+use command_files::{Reply, Status, Stop, schedule_file, stop_at};
 use data_read::Data;
-use report_print::{EventKind, Refusal, run_text};
-use sched_run::{EventFault, EventRefusal, Net};
+use report_print::{EventKind, Refusal};
+use report_runs::run_text;
+use sched_make::{EventRefusal, apply};
+use sched_run::{EventFault, Net};
 use sched_text::Event;
 use std::alloc::{AllocError, Global};
 use topo_types::Valid;
@@ -112,7 +111,7 @@ fn run_lines(
         result }
 {
     let mut net = opened(alloc, valid, given, bench)?;
-    let applied = net.apply(lines);
+    let applied = apply(&mut net, lines);
     let outcome = outcome_of(alloc, valid, &net, applied);
     net.close(bench)?;
     outcome

@@ -1,10 +1,10 @@
 //! The command that makes and runs a schedule of the built-in word count, and sums up what came of it.
 ghost use Rattle.std.specs.Prelude.{◌≡◌, IfOk, OnOk, map};
-ghost use Rattle.sched_run.specs.Net.{BooksRun};
+ghost use Rattle.sched_hear.specs.Net.{BooksRun};
 ghost use Rattle.topo_types.specs.Data.{IsData};
 ghost use Rattle.coord_synth.specs.Laws.{AreCoordinated};
 ghost use Rattle.blazes_commands.specs.Bench.{bench_states};
-ghost use Rattle.blazes_commands.specs.Code.Ran.{answer_of};
+ghost use Rattle.command_files.specs.Ran.{answer_of};
 ghost use Rattle.blazes_words.specs.Requests.{soak_shown};
 ghost use Rattle.blazes_commands.specs.Code.Runs.{KeepsKinds, RepliesAtOnce};
 ghost use Rattle.blazes_commands.specs.Code.Soaked.{IsSummaryOf, SumsBooks};
@@ -12,17 +12,16 @@ ghost use Rattle.blazes_commands.specs.Commands.{Work, making_for, script, soaki
 ghost use Rattle.blazes_words.specs.Words.{Asked};
 
 use crate::batches::tweets_data;
-use crate::built_in::planned_count;
-use crate::labelling::sound_labels;
 use crate::making::make_refusal;
 use crate::opening::opened;
-use crate::reply::{Reply, done};
-use crate::stop::{Stop, stop_at};
 use blazes_words::SoakWords;
 use blz_boxes::Component;
+use command_files::{Reply, Stop, done, stop_at};
+use command_labels::{planned_count, sound_labels};
 use data_read::Data;
-use report_print::soak_text;
-use sched_run::{MakeFault, Net, make};
+use report_runs::soak_text;
+use sched_make::{MakeFault, make};
+use sched_run::Net;
 use sched_text::Schedule;
 use std::alloc::{AllocError, Global};
 use topo_types::Valid;

@@ -4,7 +4,6 @@ use Rattle.std.specs.Char.{is_ascii_digit}
 use Rattle.std.specs.List.{list_all, zip}
 use Rattle.std.specs.Str.Parse.{digits_value}
 use Rattle.clap.specs.Words.{Text}
-use Rattle.blazes_words.specs.declared.numbers.TheConstants.{DEFAULT_SEED, DEFAULT_COUNT, MAX_COUNT, MAX_BOUNDS, OPTION_DIGITS, BOUND_DIGITS}
 
 -- x where the test holds
 abbrev pub only_if : {X : Type 0} → Bool → X → Option X
@@ -25,32 +24,40 @@ number_of most word = only_if (is_decimal most word && nat_lt (digits_value 10 w
 
 -- ---- options
 
--- a seed, or the default
+-- the most digits of an option's number
+abbrev pub option_digits : ℕ
+option_digits = 20
+
+-- a seed, or the default, 0
 abbrev pub seed_of : Option Text → Option ℕ
-seed_of None = Some DEFAULT_SEED
-seed_of (Some word) = number_of OPTION_DIGITS word
+seed_of None = Some 0
+seed_of (Some word) = number_of option_digits word
+
+-- the greatest count of batches
+abbrev pub greatest_count : ℕ
+greatest_count = 3276
 
 -- a count of batches
 abbrev pub count_in : Text → Option ℕ
 count_in word = do
-  number ← number_of OPTION_DIGITS word
-  only_if (nat_le 1 number && nat_le number MAX_COUNT) number
+  number ← number_of option_digits word
+  only_if (nat_le 1 number && nat_le number greatest_count) number
 
--- a count of batches, or the default
+-- a count of batches, or the default, 64
 abbrev pub count_of : Option Text → Option ℕ
-count_of None = Some DEFAULT_COUNT
+count_of None = Some 64
 count_of (Some word) = count_in word
 
 -- from 1 to the greatest count
 abbrev pub IsCount : ℕ → Type 0
-IsCount count = (1 ≤ count) × (count ≤ MAX_COUNT)
+IsCount count = (1 ≤ count) × (count ≤ greatest_count)
 
 -- ---- bounds
 
--- a number that is an Int
+-- a number of at most 19 digits that is an Int
 abbrev pub bound_of : Text → Option ℤ
 bound_of word = do
-  number ← number_of BOUND_DIGITS word
+  number ← number_of 19 word
   only_if (nat_lt number (2 ^ 63)) (pos number)
 
 -- each word as a bound
@@ -69,8 +76,8 @@ is_increasing bounds = list_all (λ pair. int_lt pair.0 pair.1) (zip bounds (dro
 abbrev pub bounds_of : List Text → Option (List ℤ)
 bounds_of words = do
   bounds ← bounds_in words
-  only_if (nat_le 1 (length words) && (nat_le (length words) MAX_BOUNDS && is_increasing bounds)) bounds
+  only_if (nat_le 1 (length words) && (nat_le (length words) 7 && is_increasing bounds)) bounds
 
 -- 1 to 7
 abbrev pub AreFew : List ℤ → Type 0
-AreFew bounds = (1 ≤ length bounds) × (length bounds ≤ MAX_BOUNDS)
+AreFew bounds = (1 ≤ length bounds) × (length bounds ≤ 7)

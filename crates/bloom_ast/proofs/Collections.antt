@@ -7,3 +7,4 @@ pub mod KindSets
 pub mod Small
 pub mod NameNumbers
 pub mod KindNumbersLemmas
+pub mod JoinedNames

@@ -3,12 +3,19 @@ use Rattle.std.specs.Prelude.{if◌then◌else◌, ℕ, suc, ◌+◌, ◌||◌, 
 use Rattle.std.specs.List.{list_any}
 use Rattle.blz_value.specs.declared.value.Value.{Value}
 use Rattle.blz_value.specs.declared.value.Value.TheVariants.{Int, Text}
-use Rattle.bloom_ast.specs.declared.checking.bounds.TheConstants.{MOST_LEVELS, MOST_COMPARISONS, MOST_BYTES}
 use Rattle.bloom_ast.specs.declared.expr.Term.{Term}
 use Rattle.bloom_ast.specs.declared.expr.Term.TheVariants.{Column, Literal}
 use Rattle.bloom_ast.specs.Query.{Formula, Query}
 use Rattle.bloom_ast.specs.Query.Formula.{compare, both, either, not_so}
 use Rattle.bloom_ast.specs.Query.Query.{base, select, project, join, notin, group, at_least}
+
+-- the most levels that are open at once
+abbrev pub most_levels : ℕ
+most_levels = 32
+
+-- the most comparisons of a select
+abbrev pub most_comparisons : ℕ
+most_comparisons = 32
 
 abbrev pub is_either : Formula → Bool
 is_either (compare l o r) = false
@@ -42,7 +49,7 @@ comparisons (not_so a) = comparisons a
 
 abbrev pub is_long_value : Value → Bool
 is_long_value (Int n) = false
-is_long_value (Text bytes) = nat_lt MOST_BYTES (length bytes)
+is_long_value (Text bytes) = nat_lt 64 (length bytes)
 
 abbrev pub is_long_term : Term → Bool
 is_long_term (Column name) = false
@@ -77,11 +84,11 @@ formulas_of (at_least q keys bound) = formulas_of q
 
 -- too many comparisons, or a text literal that is too long
 abbrev pub is_long : Formula → Bool
-is_long f = nat_lt MOST_COMPARISONS (comparisons f) || has_long_literal f
+is_long f = nat_lt most_comparisons (comparisons f) || has_long_literal f
 
 -- too many levels, or a select whose predicate is too long
 abbrev pub passes_bounds : Query → Bool
-passes_bounds q = nat_lt MOST_LEVELS (query_levels q) || list_any is_long (formulas_of q)
+passes_bounds q = nat_lt most_levels (query_levels q) || list_any is_long (formulas_of q)
 
 -- ---- how deep a tree is, by which the walks over one that is handed in are bounded
 

@@ -1,4 +1,3 @@
 -- What private functions give.
-pub mod Borrowed
+pub mod Paired
 pub mod NumberedParts
-pub mod Checking

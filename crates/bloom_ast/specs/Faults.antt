@@ -11,7 +11,7 @@ use Rattle.bloom_ast.specs.declared.fault.ModuleKind.{ModuleKind}
 use Rattle.bloom_ast.specs.declared.fault.ModuleKind.TheVariants as kind
 use Rattle.bloom_ast.specs.declared.fault.ModulePlace.TheVariants as place
 use Rattle.bloom_ast.specs.declared.module.Collection.{Collection}
-use Rattle.bloom_ast.specs.declared.checking.reads.Facts.{Facts}
+use Rattle.bloom_ast.specs.declared.facts.Facts.{Facts}
 use Rattle.bloom_ast.specs.Bounds.{passes_bounds}
 use Rattle.bloom_ast.specs.Columns.{columns_of}
 use Rattle.bloom_ast.specs.Fits.{is_width, repeats, query_fits}

@@ -3,6 +3,7 @@ pub mod Form
 pub mod Codes
 pub mod Lookup
 pub mod Columns
+pub mod Borrowed
 pub mod Heads
 pub mod Kinds
 pub mod KindNumbers

@@ -7,7 +7,7 @@ use Rattle.fd_closure.specs.Bits.{bit_of, meets}
 use Rattle.fd_closure.specs.Closure.{closure}
 use Rattle.bloom_ast.specs.declared.module.Kind.{Kind}
 use Rattle.bloom_ast.specs.declared.module.Collection.{Collection}
-use Rattle.bloom_ast.specs.declared.checking.reads.Facts.{Facts}
+use Rattle.bloom_ast.specs.declared.facts.Facts.{Facts}
 use Rattle.bloom_ast.specs.Form.{RuleForm}
 use Rattle.bloom_ast.specs.Kinds.{has_kind, is_input, is_scratch}
 use Rattle.bloom_ast.specs.Lookup.{collection_number}

@@ -39,7 +39,7 @@ impl Model for Checked {
 
 impl Checked {
     /// A module that has no fault, with its heads in order.
-    pub(crate) fn new(alloc: Global, module: Module, heads: Vec<u32>) -> Result<Checked, AllocError>
+    pub fn new(alloc: Global, module: Module, heads: Vec<u32>) -> Result<Checked, AllocError>
         requires { IsChecked (form_of «module») heads.items }
         ensures { IfOk result (λ checked. checked ≡ record { form = form_of «module»; heads = heads.items }) }
     {

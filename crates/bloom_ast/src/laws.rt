@@ -1,9 +1,7 @@
 //! Laws of a step and of what an expression reads, each the contract of a function that does nothing.
-ghost use Rattle.std.specs.Prelude.{ℕ, ◌≡◌, List};
+ghost use Rattle.std.specs.Prelude.{ℕ, List};
 ghost use Rattle.bloom_ast.specs.Query.{Name};
-ghost use Rattle.bloom_ast.specs.Faults.{fault_of};
-ghost use Rattle.bloom_ast.specs.FirstFault.{first_fault};
-ghost use Rattle.bloom_ast.specs.Form.{Form, Accepted};
+ghost use Rattle.bloom_ast.specs.Form.{Accepted};
 ghost use Rattle.bloom_ast.specs.Heads.{IsOrdered};
 ghost use Rattle.bloom_ast.specs.Checks.{IsChecked};
 ghost use Rattle.bloom_ast.specs.Laws.{EndSolves, HasOneSolution, GivesTables, GivesOutputs, ConeUnfolds, DirectUnfolds, MomentaryUnfolds, StandsStill, StepsSame, HoldsByKind, EndsOver};
@@ -49,11 +47,4 @@ pub fn reads_law()
     ensures cone { ConeUnfolds }
     ensures direct { DirectUnfolds }
     ensures momentary { MomentaryUnfolds }
-{}
-
-/// The first fault of a module, which the check finds by arrows and sets of bits, is that by what is
-/// read: an expression is momentary where it reads a port, directly or through scratches, and a rule
-/// is recursive where its head is in the cone of its body.
-pub fn fault_law()
-    ensures { (m : Form) → fault_of m ≡ first_fault m }
 {}

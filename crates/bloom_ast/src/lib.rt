@@ -1,13 +1,15 @@
-//! The module language: modules as trees, what an expression and a step mean, and the checks of a
-//! module.
+//! The module language: modules as trees, what an expression and a step mean, and modules that were
+//! checked.
 #![tactic(auto)]
 
 mod checked;
-mod checking;
+mod columns;
 mod copying;
 mod expr;
+mod facts;
 mod fault;
 mod laws;
+mod limits;
 mod lookup;
 mod module;
 mod numbered;
@@ -15,13 +17,13 @@ mod numbering;
 mod program;
 
 pub use checked::Checked;
-pub use checking::bounds::{MOST_COMPARISONS, MOST_LEVELS};
-pub use checking::check;
-pub use checking::fits::repeats_column;
-pub use checking::reserved::{has_own_names, is_reserved};
+pub use columns::{borrowed, joined, seconds};
 pub use expr::{Expr, NamedAgg, Pred, Term};
+pub use facts::Facts;
 pub use fault::{CheckFault, ModuleFault, ModuleKind, ModulePlace};
-pub use laws::{fault_law, order_law, reads_law, standing_law, step_law, tables_law};
+pub use laws::{order_law, reads_law, standing_law, step_law, tables_law};
+pub use limits::{MOST_BYTES, MOST_COMPARISONS, MOST_LEVELS};
+pub use lookup::{collection_named, collection_number, declared};
 pub use module::{Collection, Kind, Module, Rule};
 pub use numbered::{NumberedExpr, NumberedRule};
 pub use program::Program;

@@ -1,7 +1,7 @@
 //! The numbers of the names in expressions and rules.
 ghost use Rattle.std.specs.Prelude.{◌≡◌, ◌≤◌, ◌<◌, ◌++◌, ◌∷◌, [], List, length, IfOk};
 ghost use Rattle.blz_value.specs.Members.{Has};
-ghost use Rattle.bloom_ast.specs.Code.Borrowed.{names_in};
+ghost use Rattle.bloom_ast.specs.Borrowed.{names_in};
 ghost use Rattle.bloom_ast.specs.Columns as spec;
 ghost use Rattle.bloom_ast.specs.Form.{RuleForm, formula_of, query_of, rule_form, rule_forms};
 ghost use Rattle.bloom_ast.specs.Lookup.{declared};
@@ -13,7 +13,7 @@ ghost use Rattle.bloom_ast.specs.Rows as rows;
 ghost use Rattle.bloom_ast.specs.Tests.{TermFits, FormulaFits, IsOperandOf, IsTestOf};
 ghost use Rattle.bloom_ast.specs.declared.module.Collection.{Collection};
 
-use crate::checking::fits;
+use crate::columns;
 use crate::expr::{Expr, NamedAgg, Pred, Term};
 use crate::lookup::{collection_number, declared};
 use crate::module::{Collection, Rule};
@@ -25,7 +25,7 @@ fn column_number(columns: &[&Str], name: &Str) -> u32
     requires { length columns.now ≤ 8 }
     ensures { result ≡ spec.column_number (names_in columns.now) name.now }
 {
-    fits::column_number(columns, name) as u32
+    columns::column_number(columns, name) as u32
 }
 
 fn column_numbers(alloc: Global, columns: &[&Str], names: &[Str]) -> Result<Items<u32>, AllocError>
@@ -152,7 +152,7 @@ fn group_columns<'a>(
 ) -> Result<Vec<&'a Str>, AllocError>
     ensures { IfOk result (λ columns. names_in columns.items ≡ keys.now ++ name.now ∷ []) }
 {
-    let mut columns = fits::borrowed(alloc, keys)?;
+    let mut columns = columns::borrowed(alloc, keys)?;
     columns.push(name)?;
     Ok(columns)
 }
@@ -176,7 +176,7 @@ impl<'a> NumberedPart<'a> {
         let NumberedPart { expr, columns } = self;
         let numbers = item_numbers(alloc, &columns, items)?;
         let expr = boxed(alloc, NumberedExpr::Project(expr, numbers))?;
-        let columns = fits::seconds(alloc, items)?;
+        let columns = columns::seconds(alloc, items)?;
         Ok(NumberedPart { expr, columns })
     }
 
@@ -200,7 +200,7 @@ impl<'a> NumberedPart<'a> {
         } = other;
         let numbers = pair_numbers(alloc, &columns, &others, pairs)?;
         let expr = boxed(alloc, NumberedExpr::Join(left, right, numbers))?;
-        let all = fits::joined(columns, &others, pairs)?;
+        let all = columns::joined(columns, &others, pairs)?;
         Ok(NumberedPart { expr, columns: all })
     }
 
@@ -260,7 +260,7 @@ impl<'a> NumberedPart<'a> {
             alloc,
             NumberedExpr::AtLeast(expr, numbers, row_bound(bound)),
         )?;
-        let columns = fits::borrowed(alloc, keys)?;
+        let columns = columns::borrowed(alloc, keys)?;
         Ok(NumberedPart { expr, columns })
     }
 }
@@ -275,7 +275,7 @@ fn base_part<'a>(
     requires narrow { IsNumberable (declared collections.now) (base name.now) }
     ensures { IfOk result (IsNumberedPart collections.now (base name.now)) }
 {
-    let columns = fits::borrowed(alloc, declared(collections, name))?;
+    let columns = columns::borrowed(alloc, declared(collections, name))?;
     let number = collection_number(collections, name) as u32;
     let expr = boxed(alloc, NumberedExpr::Base(number))?;
     Ok(NumberedPart { expr, columns })

@@ -3,11 +3,10 @@ use Rattle.std.specs.Prelude.{ℕ, ◌≤◌, ◌≢◌, List, [], ◌∷◌, �
 use Rattle.std.specs.List.{position_from}
 use Rattle.std.specs.Ordering.{eq_by_cmp}
 use Rattle.blz_value.specs.Record.{Row, record_cmp}
-use Rattle.blz_pool.specs.declared.pool.TheConstants.{MAX_RECORDS}
 
 -- the most records of a pool
 abbrev pub record_limit : ℕ
-record_limit = MAX_RECORDS
+record_limit = 262144
 
 -- no record stands twice, and they are not too many
 pub record IsPool (records : List Row) : Type 0 where

@@ -2,11 +2,10 @@
 use Rattle.std.specs.Prelude.{ℕ, ◌≤◌, List, length}
 use Rattle.blz_value.specs.Record.{Row}
 use Rattle.blz_value.specs.Sets.{IsRowSet}
-use Rattle.blz_set.specs.declared.set.TheConstants.{ROW_LIMIT}
 
 -- the most rows of a set
 abbrev pub row_limit : ℕ
-row_limit = ROW_LIMIT
+row_limit = 262144
 
 -- the rows are sorted without repeats, and not too many
 pub record IsRecordSet (rows : List Row) : Type 0 where

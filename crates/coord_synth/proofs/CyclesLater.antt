@@ -8,7 +8,7 @@ use Rattle.topo_types.specs.Graph.{Edge, is_in, is_cyclic_set}
 use Rattle.topo_types.specs.Regions.{edges, region_set, is_in_cycle}
 use Rattle.topo_types.specs.Valid.{IsValid}
 use Rattle.topo_types.specs.View.{View, Component, is_order, is_order_mode, mode_of}
-use Rattle.topo_types.proofs.Modes.OtherModes.{cyclic_more}
+use Rattle.topo_modes.proofs.OtherModes.{cyclic_more}
 use Rattle.topo_types.proofs.Regions.Spreading.{both_true}
 use Rattle.label_walk.proofs.Upstream.Alike.{holding}
 use Rattle.coord_synth.proofs.Later.{Later, edge_before, edge_after, edge_unordered, region_before, region_kept, region_of_member}

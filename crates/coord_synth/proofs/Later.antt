@@ -22,7 +22,7 @@ use Rattle.topo_types.proofs.Regions.RegionOrder.{edge_within, where_same}
 use Rattle.topo_types.proofs.Regions.Spreading.{both_true, and_true, same_truth, from_below, in_below}
 use Rattle.label_walk.proofs.Upstream.Alike.{holding, same_length, same_freed}
 use Rattle.label_walk.proofs.Tests.{not_so, so_not}
-use Rattle.topo_types.proofs.Modes.OtherModes.{other_modes_law}
+use Rattle.topo_modes.proofs.OtherModes.{other_modes_law}
 
 -- the components differ in modes alone; those that are Order stay so; and none in a cycle of the first has a key
 pub record Later (b : View) (xs ys : List Component) : Type 0 where

@@ -20,7 +20,7 @@ use Rattle.topo_types.specs.Sets.{below}
 use Rattle.topo_types.specs.Valid.{IsValid}
 use Rattle.topo_types.specs.View.{View, Component, no_component, component_at, component_with_mode, is_order, is_order_mode, mode_key, with_mode}
 use Rattle.topo_types.proofs.Regions.Lower.{given}
-use Rattle.topo_types.proofs.Modes.OtherModes.{other_modes_law, cyclic_more}
+use Rattle.topo_modes.proofs.OtherModes.{other_modes_law, cyclic_more}
 use Rattle.topo_types.proofs.Regions.RegionOrder.{classes_at}
 use Rattle.topo_types.proofs.Regions.Spreading.{from_below}
 use Rattle.coord_synth.specs.Laws.{PlansKeepValid}

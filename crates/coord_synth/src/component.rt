@@ -18,6 +18,7 @@ use crate::steps::Steps;
 use crate::tried::is_good_with;
 use label_walk::{Labels, is_order, labels};
 use std::alloc::{AllocError, Global};
+use topo_modes::with_mode;
 use topo_types::{Attrs, Mode, Valid};
 
 // The mode that is tried with a key.
@@ -42,7 +43,7 @@ fn trial(alloc: Global, now: &Valid, component: u32, key: Attrs) -> Result<Valid
     ensures written { IfOk result (λ next. StaysWritten now.now next) }
 {
     let mode = tried_mode(now, component, key);
-    now.with_mode(alloc, component, mode)
+    with_mode(alloc, now, component, mode)
 }
 
 // Whether all output streams are Seal or Async with the key.
@@ -183,7 +184,7 @@ fn ordered(
 {
     let becomes = becomes_order(steps, &now, labels, component);
     if becomes {
-        now.with_mode(alloc, component, Mode::Order)
+        with_mode(alloc, &now, component, Mode::Order)
     } else {
         Ok(now)
     }

@@ -12,6 +12,7 @@ use crate::notes::has_order_note;
 use crate::steps::Steps;
 use label_walk::{is_order, is_replicated, labels, region_label, region_members};
 use std::alloc::{AllocError, Global};
+use topo_modes::with_mode;
 use topo_types::{Mode, Valid};
 
 fn becomes_order(now: &Valid, component: u32) -> bool
@@ -28,7 +29,7 @@ fn order_member(alloc: Global, now: Valid, component: u32) -> Result<Valid, Allo
     ensures written { IfOk result (λ next. StaysWritten now next) }
 {
     if becomes_order(&now, component) {
-        now.with_mode(alloc, component, Mode::Order)
+        with_mode(alloc, &now, component, Mode::Order)
     } else {
         Ok(now)
     }

@@ -7,6 +7,8 @@ ghost use Rattle.topo_types.specs.View as view;
 
 use label_walk::is_order;
 use std::alloc::{AllocError, Global};
+use topo_copy::valid_copy;
+use topo_modes::with_mode;
 use topo_types::{Mode, Valid};
 
 fn is_free(valid: &Valid, component: u32) -> bool
@@ -32,7 +34,7 @@ fn free_component(alloc: Global, now: Valid, component: u32) -> Result<Valid, Al
     if is_free(&now, component) {
         return Ok(now);
     }
-    now.with_mode(alloc, component, Mode::Free)
+    with_mode(alloc, &now, component, Mode::Free)
 }
 
 /// The topology in which every component is Free that isn't Order.
@@ -41,7 +43,7 @@ pub(crate) fn freed(alloc: Global, valid: &Valid) -> Result<Valid, AllocError>
     ensures written { IfOk result (λ start. IsWritten valid.now.topology start) }
 {
     valid.whole();
-    let mut now = valid.copy(alloc)?;
+    let mut now = valid_copy(alloc, valid)?;
     for component in 0..valid.component_count() {
         now = free_component(alloc, now, component)?;
     }

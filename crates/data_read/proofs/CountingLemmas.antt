@@ -7,20 +7,19 @@ use Rattle.blz_value.specs.Record.{Row}
 use Rattle.topo_types.specs.Data.{Data, SourceData}
 use Rattle.topo_types.specs.Messages.{distinct_rows, is_same_row}
 use Rattle.topo_types.specs.View.{View}
-use Rattle.data_read.specs.Counting.{count_of, passed_at, few, counted, AreFew}
+use Rattle.data_read.specs.Counting.{source_limit, count_of, passed_at, few, counted, AreFew}
 use Rattle.data_read.specs.Gives.{Gives}
 use Rattle.data_read.specs.Making.{distinct_lists}
-use Rattle.data_read.specs.declared.counting.TheConstants.{MAX_ROWS}
 use Rattle.data_read.specs.declared.fault.DataFault.{DataFault}
 
-few_from : (so_far s : ℕ) (lists : List SourceData) → so_far ≤ MAX_ROWS → passed_at so_far s lists ≡ None → so_far + sum_by count_of lists ≤ MAX_ROWS
+few_from : (so_far s : ℕ) (lists : List SourceData) → so_far ≤ source_limit → passed_at so_far s lists ≡ None → so_far + sum_by count_of lists ≤ source_limit
 few_from so_far s [] le none = omega arith
-few_from so_far s (d ∷ ds) le none = go (few_from (so_far + count_of d) (s + 1) ds) (nat_lt MAX_ROWS (so_far + count_of d)) refl none
+few_from so_far s (d ∷ ds) le none = go (few_from (so_far + count_of d) (s + 1) ds) (nat_lt source_limit (so_far + count_of d)) refl none
   where
-    go : (so_far + count_of d ≤ MAX_ROWS → passed_at (so_far + count_of d) (s + 1) ds ≡ None → so_far + count_of d + sum_by count_of ds ≤ MAX_ROWS)
-        → (b : Bool) → nat_lt MAX_ROWS (so_far + count_of d) ≡ b → cond b (Some s) (passed_at (so_far + count_of d) (s + 1) ds) ≡ None → so_far + sum_by count_of (d ∷ ds) ≤ MAX_ROWS
+    go : (so_far + count_of d ≤ source_limit → passed_at (so_far + count_of d) (s + 1) ds ≡ None → so_far + count_of d + sum_by count_of ds ≤ source_limit)
+        → (b : Bool) → nat_lt source_limit (so_far + count_of d) ≡ b → cond b (Some s) (passed_at (so_far + count_of d) (s + 1) ds) ≡ None → so_far + sum_by count_of (d ∷ ds) ≤ source_limit
     go rest true t e = cc
-    go rest false t e = omega (arith, rest (ltb-false MAX_ROWS (so_far + count_of d) t) e, sum_by-cons count_of d ds)
+    go rest false t e = omega (arith, rest (ltb-false source_limit (so_far + count_of d) t) e, sum_by-cons count_of d ds)
 
 -- what isn't refused
 pub few_counted : (v : View) (lists : List SourceData) → counted v lists ≡ Ok tt → AreFew lists

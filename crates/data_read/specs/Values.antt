@@ -8,7 +8,6 @@ use Rattle.serde_json.specs.Events.{items_len}
 use Rattle.serde_json.specs.Find.{as_number, as_i64, as_str, as_array}
 use Rattle.topo_types.specs.declared.topology.ColumnType.{ColumnType}
 use Rattle.topo_types.specs.declared.topology.ColumnType.TheVariants as types
-use Rattle.data_read.specs.declared.values.TheConstants.{MAX_TEXT}
 
 -- goes on with what was given
 infixl 10 ◌>>=◌
@@ -31,7 +30,7 @@ int_in value = option_map values.Int (option_and_then as_i64 (as_number value))
 
 -- a text of at most 64 bytes
 abbrev pub short_text : List ℕ → Option Value
-short_text text = only_if (nat_le (length text) MAX_TEXT) (values.Text text)
+short_text text = only_if (nat_le (length text) 64) (values.Text text)
 
 abbrev pub text_in : Data → Option Value
 text_in value = as_str value >>= short_text

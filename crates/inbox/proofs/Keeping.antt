@@ -1,5 +1,5 @@
 -- What an inbox keeps stands for what was heard.
-pub mod Counters
+pub mod Places
 pub mod Loops
 pub mod Feeds
 pub mod Whole

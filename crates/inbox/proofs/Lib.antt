@@ -1,5 +1,3 @@
-pub mod MessagesLemmas
-pub mod LogLemmas
 pub mod Ranges
 pub mod CarriedKeys
 pub mod SendersLemmas

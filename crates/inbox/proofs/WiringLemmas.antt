@@ -11,7 +11,7 @@ use Rattle.topo_types.specs.View.{View, no_stream, replicas_of, port_numbers, st
 use Rattle.topo_types.specs.Feeds.{Feed, no_feed, feeds, log_feeds, feeds_at, feeds_from, paired_senders}
 use Rattle.topo_types.specs.Sets.{below}
 use Rattle.topo_types.specs.Messages.{row}
-use Rattle.inbox.specs.Messages.{Pair, Batch, all_pairs}
+use Rattle.messages.specs.Messages.{Pair, Batch, all_pairs}
 use Rattle.inbox.specs.Instances.{Instance, port_of_feed}
 use Rattle.inbox.specs.Growth.{feed_numbered}
 use Rattle.inbox.proofs.TimestepLemmas.Held.{ComesAtPorts}

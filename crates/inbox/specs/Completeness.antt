@@ -2,7 +2,7 @@
 use Rattle.std.specs.Prelude.{◌≡◌, ℕ, ◌+◌, ◌-◌, not, IsTrue, if◌then◌else◌, List, filter, length}
 use Rattle.std.specs.List.{list_any, range_with_len, enumerate_from, sum_by}
 use Rattle.topo_types.specs.Messages.{Message, rows_in}
-use Rattle.inbox.specs.Messages.{Pair, is_same_pair, is_same_entry, all_pairs}
+use Rattle.messages.specs.Messages.{Pair, is_same_pair, is_same_entry, all_pairs}
 use Rattle.topo_types.specs.View.{is_order_mode}
 use Rattle.inbox.specs.Timesteps.{held_count}
 use Rattle.topo_types.specs.Data.{Data}

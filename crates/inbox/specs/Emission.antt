@@ -1,14 +1,13 @@
 -- An instance emits each of its rows once, timestep by timestep, and seals a partition once it is whole.
-use Rattle.std.specs.Prelude.{ℕ, ◌++◌, Bool, if◌then◌else◌, Option, Some, None, List, [], ◌∷◌, map, filter, length, slice_index_or, slice_get}
-use Rattle.std.specs.List.{list_any, fold, enumerate_from}
+use Rattle.std.specs.Prelude.{ℕ, Option, Some, None, List, [], map, slice_index_or, slice_get}
+use Rattle.std.specs.List.{fold, enumerate_from}
 use Rattle.std.specs.Option.{option_and_then}
 use Rattle.blz_value.specs.Record.{Row}
-use Rattle.blz_value.specs.Operators.{cells}
 use Rattle.bloom_ast.specs.declared.program.Program.{Program}
 use Rattle.bloom_ast.specs.ProgramStep.{tables_after_step, outputs_of_step, empty_tables}
 use Rattle.bloom_ast.specs.Step.{Sets, set_at}
-use Rattle.topo_types.specs.Messages.{Message, row, seal, is_same_row, rows_in}
-use Rattle.inbox.specs.Messages.{is_same_message, sealed_in, with_new}
+use Rattle.messages.specs.Message.{Message}
+pub use Rattle.messages.specs.Emitted.{has_seal, with_row, with_rows, count_in, with_seal, with_seals}
 use Rattle.inbox.specs.Instances.{Instance}
 use Rattle.inbox.specs.Timesteps.{SetOff}
 
@@ -24,33 +23,6 @@ list_of kept output = slice_index_or kept.lists output []
 -- each element changed by its number
 abbrev pub each_by_place : {X : Type 0} → (ℕ → X → X) → List X → List X
 each_by_place change xs = map (λ place. change place.0 place.1) (enumerate_from 0 xs)
-
--- ---- lists
-
--- a seal of the partition stands in the list
-abbrev pub has_seal : List Message → (key : Row) → Bool
-has_seal list key = list_any (is_same_row key) (sealed_in list)
-
--- a list with a row at its end, unless it stands there
-abbrev pub with_row : List Message → Row → List Message
-with_row list r = with_new is_same_message list (row r)
-
--- a list with the rows of a set that aren't in it yet, in record order
-abbrev pub with_rows : List Message → List Row → List Message
-with_rows list rows = fold with_row list rows
-
--- how many records of a partition stand in a list, where the key has these places
-abbrev pub count_in : List ℕ → List Message → (key : Row) → ℕ
-count_in places list key = length (filter (λ r. is_same_row (cells places r) key) (rows_in list))
-
--- a list with a seal of a partition, unless one stands there
-abbrev pub with_seal : List ℕ → List Message → (key : Row) → List Message
-with_seal places list key = if has_seal list key then list else list ++ seal key (count_in places list key) ∷ []
-
--- a list with seals of these partitions, where the output carries the key
-abbrev pub with_seals : Option (List ℕ) → List Message → List Row → List Message
-with_seals None list keys = list
-with_seals (Some places) list keys = fold (with_seal places) list keys
 
 -- ---- the course of emission
 

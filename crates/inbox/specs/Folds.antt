@@ -5,7 +5,7 @@ use Rattle.bloom_ast.specs.declared.program.Program.{Program}
 use Rattle.bloom_ast.specs.Program.{port_columns}
 use Rattle.bloom_ast.specs.Step.{Sets}
 use Rattle.row_laws.specs.Runs.{output_rows, output_over, over_steps}
-use Rattle.inbox.specs.Messages.{Entry}
+use Rattle.messages.specs.Messages.{Entry}
 use Rattle.inbox.specs.Timesteps.{one_by_one}
 
 -- an output's rows in timesteps, one timestep after the other, from these tables on

@@ -1,19 +1,15 @@
 -- Emitted lists and logs only grow, what is heard was emitted before, and no list repeats a message.
-use Rattle.std.specs.Prelude.{◌≡◌, ℕ, ◌≤◌, ◌<◌, ◌++◌, Bool, false, List, [], ◌∷◌, length, slice_index_or}
+use Rattle.std.specs.Prelude.{◌≡◌, ℕ, ◌≤◌, ◌<◌, Bool, false, List, [], ◌∷◌, length, slice_index_or}
 use Rattle.blz_value.specs.Members.{Has}
 use Rattle.topo_types.specs.Data.{Data}
 use Rattle.topo_types.specs.Feeds.{Feed, no_feed}
 use Rattle.topo_types.specs.Messages.{Message, row, seal, is_same_row}
-use Rattle.inbox.specs.Messages.{Pair, Batch, Entry}
+use Rattle.messages.specs.Messages.{Pair, Batch, Entry}
+pub use Rattle.messages.specs.Emitted.{Continues}
 use Rattle.inbox.specs.Instances.{Instance}
 use Rattle.inbox.specs.Wiring.{Wiring, instance_at}
 use Rattle.inbox.specs.Lives.{Life, all_lives}
 use Rattle.inbox.specs.Executions.{Execution, emitted_list}
-
--- the second list begins with the first
-pub record Continues {X : Type 0} (xs ys : List X) : Type 0 where
-  pub more : List X
-  pub with_more : xs ++ more ≡ ys
 
 -- each emitted list and each log of the second execution begins with that of the first
 pub record IsExtendedBy (w : Wiring) (given : Data) (x y : Execution) : Type 0 where

@@ -3,11 +3,11 @@ use Rattle.std.specs.Prelude.{◌≡◌, ◌<◌, ℕ, true, false, not, Bool, L
 use Rattle.blz_value.specs.Members.{Has}
 use Rattle.blz_value.specs.Record.{Row}
 use Rattle.topo_types.specs.View.{is_order_mode}
-use Rattle.inbox.specs.Messages.{Pair, Batch, Entry, all_pairs}
+use Rattle.messages.specs.Messages.{Pair, Batch, Entry, all_pairs}
 use Rattle.inbox.specs.Instances.{Instance, entries_of}
 use Rattle.inbox.specs.Timesteps.{is_due}
-use Rattle.inbox.specs.Log.{AreGiven}
-use Rattle.inbox.specs.Code.Feeds.{feed_count}
+use Rattle.messages.specs.Log.{AreGiven}
+use Rattle.messages.specs.Feeds.{feed_count}
 use Rattle.inbox.specs.Code.Heard.{FeedsHeard, WaitingHeard, IsIdle, is_sealing}
 use Rattle.inbox.specs.declared.inbox.Inbox.{Inbox}
 

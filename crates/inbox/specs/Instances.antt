@@ -8,12 +8,8 @@ use Rattle.bloom_ast.specs.declared.program.Program.{Program}
 use Rattle.topo_types.specs.Feeds.{Feed}
 use Rattle.topo_types.specs.declared.mode.Mode.{Mode}
 use Rattle.topo_types.specs.Messages.{is_same_row, row_in}
-use Rattle.inbox.specs.Messages.{Pair, Entry}
-
--- a port: the places of the mode's key among its columns, in the order of the key's attributes, where it has them all; and whether the port carries the key
-pub record PortKey : Type 0 where
-  pub places : Option (List ℕ)
-  pub carries : Bool
+use Rattle.messages.specs.Messages.{Pair, Entry}
+pub use Rattle.messages.specs.Ports.{PortKey}
 
 -- an instance: its program where it has a body, its mode, its ports, its feeds by their numbers, and of each output the places of the key that its stream carries
 pub record Instance : Type 0 where

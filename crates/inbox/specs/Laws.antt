@@ -4,7 +4,7 @@ use Rattle.fd_closure.specs.declared.attrs.Attrs.{Attrs}
 use Rattle.bloom_ast.specs.declared.program.Program.{Program}
 use Rattle.topo_types.specs.declared.mode.Mode.TheVariants.{Seal}
 use Rattle.topo_types.specs.Data.{Data}
-use Rattle.inbox.specs.Messages.{Batch, Entry, all_pairs}
+use Rattle.messages.specs.Messages.{Batch, Entry, all_pairs}
 use Rattle.inbox.specs.Instances.{Instance}
 use Rattle.inbox.specs.Timesteps.{timesteps, Stands, Goes}
 use Rattle.inbox.specs.Wiring.{Wiring}

@@ -1,4 +1,4 @@
-pub mod Messages
+pub use Rattle.messages.specs.Messages
 pub mod Instances
 pub mod Timesteps
 pub mod Emission
@@ -12,8 +12,8 @@ pub mod OrderReplicas
 pub mod Growth
 pub mod Standing
 pub mod Laws
-pub mod Log
+pub use Rattle.messages.specs.Log
 pub mod Code
-pub mod Ids
+pub use Rattle.messages.specs.Ids
 pub mod Inbox
 pub mod Pools

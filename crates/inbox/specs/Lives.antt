@@ -3,7 +3,7 @@ use Rattle.std.specs.Prelude.{ℕ, ◌+◌, ◌++◌, if◌then◌else◌, List,
 use Rattle.std.specs.List.{fold, flat_map}
 use Rattle.bloom_ast.specs.Step.{Sets}
 use Rattle.topo_types.specs.Messages.{Message}
-use Rattle.inbox.specs.Messages.{Batch, Entry}
+use Rattle.messages.specs.Messages.{Batch, Entry}
 use Rattle.topo_types.specs.View.{is_order_mode}
 use Rattle.inbox.specs.Instances.{Instance}
 use Rattle.inbox.specs.Timesteps.{SetOff, timestep_of, each_set_off}

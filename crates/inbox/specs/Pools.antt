@@ -2,9 +2,9 @@
 use Rattle.std.specs.Prelude.{◌≡◌, ◌<◌, ◌≤◌, ℕ, List, length}
 use Rattle.blz_pool.specs.Pool.{IsPool, with_record}
 use Rattle.blz_value.specs.Record.{Row}
-use Rattle.inbox.specs.Messages.{Batch}
+use Rattle.messages.specs.Messages.{Batch}
 use Rattle.inbox.specs.Instances.{Instance}
-use Rattle.inbox.specs.Log.{EntryId, AreGiven, row_with_id, entries_with_ids}
+use Rattle.messages.specs.Log.{EntryId, AreGiven, row_with_id, entries_with_ids}
 use Rattle.inbox.specs.Inbox.{HasHeard, IsFrom}
 use Rattle.inbox.specs.declared.inbox.Inbox.{Inbox}
 

@@ -9,7 +9,7 @@ use Rattle.bloom_ast.specs.Step.{Sets, set_at}
 use Rattle.topo_types.specs.declared.mode.Mode.{Mode}
 use Rattle.topo_types.specs.declared.mode.Mode.TheVariants.{Free, Pass, Seal, Order}
 use Rattle.topo_types.specs.Messages.{Message, row, seal, is_same_row}
-use Rattle.inbox.specs.Messages.{Pair, Batch, Entry, is_same_entry, sealed_in, all_pairs, firsts}
+use Rattle.messages.specs.Messages.{Pair, Batch, Entry, is_same_entry, sealed_in, all_pairs, firsts}
 use Rattle.inbox.specs.Instances.{Instance, is_carrying, carrying_feeds, entries_of, key_of_entry, is_of_key}
 
 -- ---- what arrives in a timestep

@@ -1,5 +1,2 @@
--- What is computed by numbers is what is said by names.
-pub mod ByNumberLemmas
-pub mod ByNumberCorrect
-pub mod Lists
+-- Lists of numbers.
 pub mod NumbersLemmas

@@ -1,5 +1,4 @@
 -- Roots, and the copies that they stand for.
-pub mod RootsLemmas
 pub mod RootsLaw
 pub mod Copying
 pub mod Origins

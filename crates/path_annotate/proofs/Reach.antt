@@ -2,4 +2,3 @@
 pub mod Behind
 pub mod ClosedFormsLemmas
 pub mod GoodTables
-pub mod ReadingsCorrect

@@ -13,4 +13,3 @@ pub mod Annotation
 pub mod Given
 pub mod Copies
 pub mod CopiesLaw
-pub mod Code

@@ -23,7 +23,7 @@ impl Model for Notes {
 
 impl Notes {
     /// The notes of these ports, of each those to all outputs.
-    pub(crate) fn from_ports(ports: Vec<Items<Option<Note>>>) -> Notes
+    pub fn from_ports(ports: Vec<Items<Option<Note>>>) -> Notes
         ensures { result ≡ ports.items }
     {
         Notes { ports }

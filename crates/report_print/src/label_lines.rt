@@ -1,6 +1,6 @@
 //! The text of `label`.
 ghost use Rattle.std.specs.Prelude.{◌≡◌, ◌<◌, ◌++◌, IfOk, OnOk, length};
-ghost use Rattle.report_print.specs.Code.Reports.{view_in, labels_in};
+ghost use Rattle.report_print.specs.Reports.{view_in, labels_in};
 ghost use Rattle.report_print.specs.LabelText as spec;
 
 use crate::line::{Word, push_line};

@@ -2,7 +2,7 @@
 ghost use Rattle.std.specs.Prelude.{◌≡◌, ◌++◌, IfOk, OnOk, [], codes, map, slice_index_or};
 ghost use Rattle.std.specs.Fmt.{decimal};
 ghost use Rattle.std.specs.List.{flat_map, join_by};
-ghost use Rattle.report_print.specs.Code.Lines.{word_text, later_text, shown};
+ghost use Rattle.report_print.specs.Lines.{word_text, later_text, shown};
 ghost use Rattle.report_print.specs.Words as spec;
 
 use blz_value::{Record, Str, write_escaped, write_record};
@@ -12,7 +12,7 @@ use topo_types::Attrs;
 
 /// A word of a line.
 #[derive(Clone, Copy)]
-pub(crate) enum Word<'a> {
+pub enum Word<'a> {
     /// A text as it is.
     Plain(&'a str),
     /// A text with its escapes, without quotes.
@@ -165,11 +165,7 @@ fn push_words(alloc: Global, words: &[Word<'_>], into: &mut Vec<u8>) -> Result<(
 }
 
 /// Appends the line of these words, with a space between each two.
-pub(crate) fn push_line(
-    alloc: Global,
-    words: &[Word<'_>],
-    into: &mut Vec<u8>,
-) -> Result<(), AllocError>
+pub fn push_line(alloc: Global, words: &[Word<'_>], into: &mut Vec<u8>) -> Result<(), AllocError>
     ensures { OnOk result (into.new.items ≡ into.old.items ++ spec.line (map word_text words.now)) }
 {
     push_words(alloc, words, into)?;
@@ -178,7 +174,7 @@ pub(crate) fn push_line(
 }
 
 /// Appends the line of these words, behind two spaces.
-pub(crate) fn push_inner_line(
+pub fn push_inner_line(
     alloc: Global,
     words: &[Word<'_>],
     into: &mut Vec<u8>,

@@ -1,6 +1,6 @@
 //! The lines of refusals.
 ghost use Rattle.std.specs.Prelude.{◌≡◌, [], ◌∷◌, ◌++◌, IfOk, OnOk, map};
-ghost use Rattle.report_print.specs.Code.Lines.{word_text, later_text};
+ghost use Rattle.report_print.specs.Lines.{word_text, later_text};
 ghost use Rattle.report_print.specs.Refusals as spec;
 
 use crate::line::Word::{self, Escaped, Names, Number, Numbered, Plain, Row};

@@ -1,7 +1,7 @@
 //! What the reports on labels print: a topology and the labels of its streams.
 ghost use Rattle.std.specs.Prelude.{◌≡◌, ◌<◌, length};
 ghost use Rattle.label_walk.specs.Paths.{label_at};
-ghost use Rattle.report_print.specs.Code.Lines.{word_text};
+ghost use Rattle.report_print.specs.Lines.{word_text};
 ghost use Rattle.report_print.specs.Words as spec;
 
 use crate::line::Word;
@@ -13,16 +13,16 @@ use topo_types::{Mode, Note, Valid};
 
 /// A topology and the labels of its streams.
 #[derive(Clone, Copy)]
-pub(crate) struct Report<'a> {
-    pub(crate) alloc: Global,
-    pub(crate) valid: &'a Valid,
-    pub(crate) labels: &'a Labels,
+pub struct Report<'a> {
+    pub alloc: Global,
+    pub valid: &'a Valid,
+    pub labels: &'a Labels,
     ghost each: { length labels.now ≡ length valid.now.view.streams },
 }
 
 impl<'a> Report<'a> {
     /// The label of a stream.
-    pub(crate) fn label(&self, stream: u32) -> Label
+    pub fn label(&self, stream: u32) -> Label
         requires { stream < length self.now.valid.now.view.streams }
         ensures { result ≡ label_at self.now.labels.now stream }
     {
@@ -31,7 +31,7 @@ impl<'a> Report<'a> {
 }
 
 /// The word of a label, where these are the names of the attributes.
-pub(crate) fn label_word<'a>(names: &'a [Str], label: Label) -> Word<'a>
+pub fn label_word<'a>(names: &'a [Str], label: Label) -> Word<'a>
     ensures { word_text result ≡ spec.label_word names.now label }
 {
     match label {
@@ -44,7 +44,7 @@ pub(crate) fn label_word<'a>(names: &'a [Str], label: Label) -> Word<'a>
 }
 
 /// The word of a note.
-pub(crate) fn note_word<'a>(names: &'a [Str], note: Note) -> Word<'a>
+pub fn note_word<'a>(names: &'a [Str], note: Note) -> Word<'a>
     ensures { word_text result ≡ spec.note_word names.now note }
 {
     match note {
@@ -56,7 +56,7 @@ pub(crate) fn note_word<'a>(names: &'a [Str], note: Note) -> Word<'a>
 }
 
 /// The word of a mode.
-pub(crate) fn mode_word<'a>(names: &'a [Str], mode: Mode) -> Word<'a>
+pub fn mode_word<'a>(names: &'a [Str], mode: Mode) -> Word<'a>
     ensures { word_text result ≡ spec.mode_word names.now mode }
 {
     match mode {

@@ -30,7 +30,7 @@ use Rattle.inbox.specs.Instances.{Instance}
 use Rattle.inbox.specs.Timesteps.{SetOff}
 use Rattle.inbox.specs.Emission.{Kept, list_of, with_rows, seal_all, emit_step, emit_of, emit, first_tables, begin_life, nothing_emitted}
 use Rattle.inbox.specs.Lives.{Life, Lives, all_lives, life_sets_off, after_life, kept_after}
-use Rattle.inbox.proofs.MessagesLemmas.{is_same_message-is, is_same_message-itself, any-from_same, same-from_any}
+use Rattle.messages.proofs.MessagesLemmas.{is_same_message-is, is_same_message-itself, any-from_same, same-from_any}
 use Rattle.inbox.proofs.Lists.Growing.{get_or-each_by_place, length-each_by_place, emit_step-continues}
 use Rattle.inbox.proofs.Lists.Rows.{rows-with_rows, rows-seal_all}
 use Rattle.inbox.proofs.TimestepLemmas.Held.{filter_same}

@@ -7,7 +7,7 @@ use Rattle.bloom_ast.specs.Step.{Sets}
 use Rattle.topo_types.specs.Messages.{Message}
 use Rattle.inbox.specs.Timesteps.{SetOff}
 use Rattle.sched_lists.specs.Code.Running.{EmitsAt, Emits}
-use Rattle.sched_lists.specs.declared.fault.EventFault.{EventFault}
+use Rattle.emitted.specs.declared.fault.EventFault.{EventFault}
 use Rattle.sched_lists.specs.declared.outlets.Outlet.{Outlet}
 
 emitted_at : {X : Type 0} (loads : X → Option Program) (keeps : X → Sets) (xs : List X) (place : ℕ) (x y : X) (outlets : List Outlet) (before after : List (List Message)) (s : SetOff) → place < length xs → x ≡ get_or xs place x

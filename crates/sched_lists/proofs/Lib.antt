@@ -1,14 +1,9 @@
 pub mod PlacesLemmas
 pub mod OutputSets
 pub mod Emitting
-pub mod ListsLemmas
 pub mod OutletsLemmas
 pub mod RunningLemmas
-pub mod ListSeals
-pub mod Tallies
-pub mod ListLoops
-pub mod FaultLemmas
-pub mod Ids
+pub mod OutletLoops
 pub mod SettingOff
 pub mod PlacesFound
 pub mod EmittingPlaces
@@ -17,4 +12,3 @@ pub mod SourceKeys
 pub mod SourceLists
 pub mod PlacesMade
 pub mod KeyColumns
-pub mod SealedSources

@@ -16,12 +16,12 @@ use Rattle.inbox.specs.Instances.{Instance}
 use Rattle.inbox.specs.Emission.{Kept, list_of, with_rows, with_seals, output_key, seal_all, emit_step}
 use Rattle.inbox.proofs.Lists.Growing.{get_or-each_by_place, length-each_by_place, with_rows-continues, with_seals-continues}
 use Rattle.sched_lists.specs.Limits.{messages_in}
-use Rattle.sched_lists.specs.Lists.{list_at, total}
+use Rattle.emitted.specs.Lists.{list_at, total}
 use Rattle.sched_lists.specs.Outlets.{emit_outlets, seal_outlets, AreApart, ShowsOutlet, ShowsOutlets, OthersStay, own_messages}
 use Rattle.sched_lists.specs.declared.outlets.Outlet.{Outlet}
 use Rattle.sched_lists.specs.Code.Running.{StandingIsEmitted}
 use Rattle.sched_lists.proofs.Emitting.{changes_append}
-use Rattle.sched_lists.proofs.ListsLemmas.{total-same}
+use Rattle.emitted.proofs.ListsLemmas.{total-same}
 
 -- ---- any change of each outlet's list
 

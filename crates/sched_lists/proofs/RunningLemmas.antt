@@ -19,7 +19,7 @@ use Rattle.inbox.specs.Instances.{Instance}
 use Rattle.inbox.specs.Timesteps.{SetOff}
 use Rattle.inbox.specs.Emission.{Kept, emit_step}
 use Rattle.sched_lists.specs.Limits.{too_many_rows, too_many_messages, message_limit, step_fits, limit_in, messages_in}
-use Rattle.sched_lists.specs.Lists.{total}
+use Rattle.emitted.specs.Lists.{total}
 use Rattle.sched_lists.specs.Outlets.{emit_outlets, ShowsOutlets, own_messages}
 use Rattle.sched_lists.specs.Code.Running.{AreStepChanges, HasStepped, HasOverflowed, IsCourse, GoesOnTo, GoesOn, MeetsLimit, outputs_of_outlets}
 use Rattle.sched_lists.specs.declared.outlets.Outlet.{Outlet}

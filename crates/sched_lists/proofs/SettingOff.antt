@@ -11,7 +11,7 @@ use Rattle.inbox.specs.Instances.{Instance}
 use Rattle.inbox.specs.Timesteps.{SetOff}
 use Rattle.inbox.specs.Emission.{Kept, seal_all, emit_step, emit_of}
 use Rattle.sched_lists.specs.Limits.{Limit, too_many_messages, message_limit, limit_in, limit_of, limit_at_seals, messages_in}
-use Rattle.sched_lists.specs.Lists.{total}
+use Rattle.emitted.specs.Lists.{total}
 use Rattle.sched_lists.specs.Outlets.{seal_outlets, ShowsOutlets, own_messages}
 use Rattle.sched_lists.specs.Code.Running.{IsCourse, GoesOnTo, GoesOn, MeetsLimit, outputs_of_outlets, HaveOwnKeys, IsCourseOf, HasEmitted, Emits, MeetsFirst}
 use Rattle.sched_lists.specs.declared.outlets.Outlet.{Outlet}

@@ -14,11 +14,11 @@ use Rattle.inbox.specs.Emission.{with_rows}
 use Rattle.inbox.proofs.Lists.Growing.{continues_on}
 use Rattle.data_read.specs.Counting.{count_of, AreFew}
 use Rattle.data_read.proofs.KeyOfSource.{source_stream}
-use Rattle.sched_lists.specs.Limits.{message_limit}
-use Rattle.sched_lists.specs.Lists.{Listed, OneListBecomes, read_lists, list_at, total}
+use Rattle.emitted.specs.Lists.{message_limit}
+use Rattle.emitted.specs.Lists.{Listed, OneListBecomes, read_lists, list_at, total}
 use Rattle.sched_lists.specs.Places.{list_place, list_count}
 use Rattle.sched_lists.specs.Code.Sources.{SourcesEmitted}
-use Rattle.sched_lists.proofs.ListsLemmas.{total-read, length-read_lists}
+use Rattle.emitted.proofs.ListsLemmas.{total-read, length-read_lists}
 use Rattle.sched_lists.proofs.PlacesLemmas.{one_place, place-before}
 use Rattle.sched_lists.proofs.SourceMessages.{all_rows, few_rows, few_messages}
 

@@ -16,11 +16,11 @@ use Rattle.topo_types.specs.Messages.{row, seal, is_same_row, distinct_rows, row
 use Rattle.topo_types.specs.View.{Stream}
 use Rattle.inbox.specs.Emission.{with_row, with_rows}
 use Rattle.inbox.specs.Messages.{is_same_message}
-use Rattle.inbox.proofs.MessagesLemmas.{is_same_row-is, is_same_row-itself}
+use Rattle.messages.proofs.MessagesLemmas.{is_same_row-is, is_same_row-itself}
 use Rattle.data_read.specs.Counting.{count_of}
 use Rattle.data_read.proofs.CountingLemmas.{no_more_rows}
 use Rattle.data_read.proofs.DistinctLemmas.{is_among, distinct_rows-more, Has-from_distinct}
-use Rattle.sched_lists.specs.Code.Counts.{seals_of}
+use Rattle.emitted.specs.Counts.{seals_of}
 
 -- ---- records
 

@@ -1,5 +1,3 @@
 -- What private functions give.
-pub mod Ids
 pub mod Running
-pub mod Counts
 pub mod Sources

@@ -1,5 +1,5 @@
+pub use Rattle.emitted.specs.Lists
 pub mod Limits
-pub mod Lists
 pub mod Places
 pub mod Outlets
 pub mod Code

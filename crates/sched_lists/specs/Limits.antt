@@ -16,11 +16,7 @@ use Rattle.inbox.specs.Lives.{Lives, all_lives, life_timesteps, of_entry, kept_a
 use Rattle.inbox.specs.Wiring.{Wiring, instances_at, instance_at}
 use Rattle.inbox.specs.Events.{Part, Event, deliver, batch, order, take_one, Refusal}
 use Rattle.inbox.specs.Executions.{Execution, emitted_list, pairs_of}
-use Rattle.sched_lists.specs.declared.limits.TheConstants.{MAX_MESSAGES}
-
--- the messages of all emitted lists together are at most so many
-abbrev pub message_limit : ℕ
-message_limit = MAX_MESSAGES
+pub use Rattle.emitted.specs.Lists.{message_limit}
 
 -- what an event can meet: a set of a step has too many rows, or the emitted lists have too many messages
 pub data Limit : Type 0 where

@@ -8,7 +8,7 @@ use Rattle.topo_types.specs.Messages.{Message}
 use Rattle.topo_types.specs.View.{View, End, origin_of, streams_from}
 use Rattle.inbox.specs.Wiring.{carried_places}
 use Rattle.inbox.specs.Emission.{Kept, list_of, with_rows, with_seals}
-use Rattle.sched_lists.specs.Lists.{list_at}
+use Rattle.emitted.specs.Lists.{list_at}
 use Rattle.sched_lists.specs.Places.{list_place}
 use Rattle.sched_lists.specs.declared.outlets.Outlet.{Outlet}
 

@@ -1,30 +1,11 @@
-//! Keys of records.
+//! The columns of a key.
 ghost use Rattle.std.specs.Prelude.{◌≡◌, ◌<◌, IfOk, Some, length};
-ghost use Rattle.blz_value.specs.Operators.{cells};
 ghost use Rattle.path_annotate.specs.Roots.{are_same};
 ghost use Rattle.topo_types.specs.Data.{place_of_attribute, key_places};
 ghost use Rattle.topo_types.specs.View.{stream_at};
 
-use blz_value::{Record, Value};
 use std::alloc::{AllocError, Global};
 use topo_types::{Attrs, Valid};
-
-/// The key value of a record in some columns; past the end stands the number 0.
-pub(crate) fn key_of(alloc: Global, row: &Record, columns: &[u32]) -> Result<Record, AllocError>
-    ensures { IfOk result (λ key. key ≡ cells columns.now row.now) }
-{
-    let mut values = Vec::new(alloc);
-    for column in columns {
-        let value = match row.values().get(*column as usize) {
-            Some(value) => value.copy()?,
-            None => Value::Int(0),
-        };
-        values.push(value)?;
-    }
-    Ok(Record::from_values(values))
-}
-
-// ---- the columns of a key
 
 fn is_column(column: Option<u8>, attribute: u8) -> bool
     ensures { result ≡ are_same column (Some attribute) }

@@ -2,20 +2,13 @@
 //! make the lists grow.
 #![tactic(auto)]
 
-mod counts;
-mod emitted;
-mod fault;
 mod keys;
-mod limits;
-mod lists;
 mod outlets;
 mod places;
 mod running;
 mod sources;
 
-pub use fault::EventFault;
-pub use limits::MAX_MESSAGES;
-pub use lists::Lists;
+pub use emitted::{EventFault, Lists, MAX_MESSAGES};
 pub use outlets::{Outlet, outlets_of};
 pub use places::Places;
 pub use running::emit_at;

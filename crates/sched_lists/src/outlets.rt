@@ -5,22 +5,21 @@ ghost use Rattle.blz_value.specs.Sets.{IsRowSet};
 ghost use Rattle.bloom_ast.specs.Step.{set_at};
 ghost use Rattle.inbox.specs.Emission.{with_rows, with_seals};
 ghost use Rattle.inbox.specs.Growth.{Continues};
-ghost use Rattle.sched_lists.specs.Limits.{message_limit};
-ghost use Rattle.sched_lists.specs.Lists.{OneListBecomes, IsExact, read_lists, list_at, total};
-ghost use Rattle.sched_lists.specs.Code.Ids.{IsLimit};
+ghost use Rattle.emitted.specs.Lists.{message_limit};
+ghost use Rattle.emitted.specs.Lists.{OneListBecomes, IsExact, read_lists, list_at, total};
+ghost use Rattle.emitted.specs.Faults.{IsLimit};
 ghost use Rattle.inbox.specs.Wiring.{carried_places};
 ghost use Rattle.topo_types.specs.View as view;
 ghost use Rattle.sched_lists.specs.Places.{ArePlaces};
 ghost use Rattle.sched_lists.specs.Outlets.{emit_outlets, seal_outlets, output_number, outlet_for, outlets_for};
-ghost use Rattle.sched_lists.specs.declared.fault.EventFault.TheVariants.{TooManyMessages};
+ghost use Rattle.emitted.specs.declared.fault.EventFault.TheVariants.{TooManyMessages};
 
-use crate::fault::EventFault;
 use crate::keys::key_columns;
-use crate::lists::Lists;
 use crate::places::Places;
 use bloom_eval::Outs;
 use blz_set::RecordSet;
 use blz_value::{Items, Record};
+use emitted::{EventFault, Lists};
 use std::alloc::{AllocError, Global};
 use topo_types::{Valid, carries};
 

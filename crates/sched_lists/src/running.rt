@@ -5,18 +5,17 @@ ghost use Rattle.bloom_eval.specs.StepAnswers.{SomeIsOver};
 ghost use Rattle.blz_boxes.specs.Step.{Arrive, counted_next};
 ghost use Rattle.inbox.specs.Growth.{Continues};
 ghost use Rattle.sched_lists.specs.Limits.{message_limit, too_many_rows, too_many_messages};
-ghost use Rattle.sched_lists.specs.Lists.{IsExact, read_lists, total};
+ghost use Rattle.emitted.specs.Lists.{IsExact, read_lists, total};
 ghost use Rattle.sched_lists.specs.Outlets.{OthersStay};
-ghost use Rattle.sched_lists.specs.Code.Ids.{IsLegal};
+ghost use Rattle.emitted.specs.Faults.{IsLegal};
 ghost use Rattle.sched_lists.specs.Code.Running.{HasStepped, HasOverflowed, GoesOn, MeetsLimit, Emits, MeetsFirst, EmitsAt, MeetsAt};
-ghost use Rattle.sched_lists.specs.declared.fault.EventFault.TheVariants.{TooManyRows, TooManyMessages};
+ghost use Rattle.emitted.specs.declared.fault.EventFault.TheVariants.{TooManyRows, TooManyMessages};
 
-use crate::fault::EventFault;
-use crate::lists::Lists;
 use crate::outlets::{Outlet, are_sets, emit_outputs, emit_seals};
 use bloom_eval::{Arrivals, Outs, StepFault};
 use blz_boxes::Component;
 use blz_value::Record;
+use emitted::{EventFault, Lists};
 use std::alloc::Global;
 
 // Steps a shell once, by its changes, and emits them.

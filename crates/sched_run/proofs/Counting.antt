@@ -1,15 +1,8 @@
 -- Sums and counts over the numbers below a count, over numbered elements and over messages; and how long lists can be.
 use Rattle.std.proofs.Common.{◌≡◌, ◌<◌, ◌≤◌, ◌+◌, ◌*◌, ◌==◌, ◌&&◌, ◌||◌, ℕ, suc, Bool, true, false, cond, eqb, Some, List, [], ◌∷◌, length, map, filter, get_or, slice_get, refl, ap, ◌∙◌, sym, subst, inl, inr, arith}
-use Rattle.std.specs.List.{count_by, flat_map, fold, list_any, range_with_len, sum_by}
+use Rattle.std.specs.List.{count_by, flat_map, fold, range_with_len, sum_by}
 use Rattle.std.specs.Option.{option_map_or}
-use Rattle.std.specs.Ordering.{is_eq, ordering_then, nat_cmp}
-use Rattle.std.specs.BTreeMap.{is_at}
-use Rattle.std.specs.Cmp.{Equal-is, tied_itself}
-use Rattle.std.specs.FinMap.{nat_cmp-IsAntisymmetric}
-use Rattle.std.specs.declared.cmp.Ordering.{Ordering}
-use Rattle.std.specs.declared.cmp.Ordering.TheVariants.{Less, Equal, Greater}
-use Rattle.std.proofs.lemmas.Bool.{eqb-true, eq-eqb, ne_eqb}
-use Rattle.std.proofs.lemmas.Cmp.{nat_cmp_total}
+use Rattle.std.proofs.lemmas.Bool.{eqb-true, ne_eqb}
 use Rattle.std.proofs.lemmas.List.{length-append, length-map, get_or-map}
 use Rattle.std.proofs.lemmas.List.FromFn.{length-range_with_len}
 use Rattle.std.proofs.lemmas.List.Sums.{sum_by_push, length-filter, count_by-le-length}
@@ -20,12 +13,10 @@ use Rattle.blz_value.specs.Record.{Row as Record}
 use Rattle.blz_value.proofs.Membership.{Has-get_or, Has-from_any, Has-from_map}
 use Rattle.topo_types.specs.Messages.{row_in, rows_in}
 use Rattle.topo_types.specs.Sets.{below}
-use Rattle.topo_types.proofs.Regions.Spreading.{same_truth}
 use Rattle.inbox.specs.Ids.{message_with_id}
-use Rattle.inbox.specs.Log.{EntryId, IsLog, is_same_entry_id}
-use Rattle.inbox.specs.Code.Known.{entry_id_cmp}
-use Rattle.inbox.specs.declared.message.Message.{Message as IdMessage}
-use Rattle.inbox.specs.declared.message.Message.TheVariants.{Row, Seal}
+use Rattle.inbox.specs.Log.{EntryId, IsLog}
+use Rattle.messages.specs.declared.message.Message.{Message as IdMessage}
+use Rattle.messages.specs.declared.message.Message.TheVariants.{Row, Seal}
 use Rattle.sched_lists.specs.Lists.{read_list}
 use Rattle.sched_lists.proofs.PlacesLemmas.{below_more}
 
@@ -66,25 +57,6 @@ rows_counted p records list = go list 0 ∙ sym (length-filter p (rows_in (read_
     go (Seal key count ∷ ms) n =
         ap (λ k. fold (λ s m. s + cond (option_map_or p (row_in (message_with_id records m)) false) 1 0) k ms) (let e : n + 0 ≡ n = omega arith in e)
         ∙ go ms n
-
--- ---- pairs in an ordered set
-
-pub is_eq-then : (o p : Ordering) → is_eq (ordering_then o p) ≡ (is_eq o && is_eq p)
-is_eq-then Less p = refl
-is_eq-then Equal p = refl
-is_eq-then Greater p = refl
-
-pub is_eq-numbers : (a b : ℕ) → is_eq (nat_cmp a b) ≡ (a == b)
-is_eq-numbers a b =
-    same_truth (is_eq (nat_cmp a b)) (a == b)
-    (λ e. eq-eqb a b (nat_cmp-IsAntisymmetric a b ((Equal-is (nat_cmp a b)).0 e)))
-    (λ e. subst (λ n. is_eq (nat_cmp a n) ≡ true) (eqb-true a b e) ((Equal-is (nat_cmp a a)).1 (tied_itself nat_cmp_total a)))
-
-pub found_in_keys : (q : EntryId) (keys : List EntryId) → list_any (is_at (entry_id_cmp q)) keys ≡ list_any (is_same_entry_id q) keys
-found_in_keys q [] = refl
-found_in_keys q (k ∷ keys) =
-    ap (λ b. b || list_any (is_at (entry_id_cmp q)) keys) (is_eq-then (nat_cmp q.0 k.0) (nat_cmp q.1 k.1) ∙ ap (λ b. b && is_eq (nat_cmp q.1 k.1)) (is_eq-numbers q.0 k.0) ∙ ap (λ b. (q.0 == k.0) && b) (is_eq-numbers q.1 k.1))
-    ∙ ap (λ b. is_same_entry_id q k || b) (found_in_keys q keys)
 
 -- ---- how long lists are
 

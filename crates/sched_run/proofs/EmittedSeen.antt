@@ -30,20 +30,20 @@ use Rattle.inbox.specs.Ids.{IsGiven, message_with_id}
 use Rattle.inbox.specs.Instances.{Instance}
 use Rattle.inbox.specs.OrderReplicas.{IsOrderOutput, most_taken}
 use Rattle.inbox.specs.Wiring.{wiring_of, carried_places}
-use Rattle.inbox.specs.declared.message.Message.{Message as IdMessage}
-use Rattle.inbox.specs.declared.message.Message.TheVariants.{Row, Seal}
+use Rattle.messages.specs.declared.message.Message.{Message as IdMessage}
+use Rattle.messages.specs.declared.message.Message.TheVariants.{Row, Seal}
 use Rattle.inbox.proofs.Lists.SequencerLaw.{sequencer_law}
 use Rattle.inbox.proofs.WiringLemmas.{instance-wired, instance-ports, stream-wired, length-below}
 use Rattle.sched_lists.specs.Limits.{message_limit}
 use Rattle.sched_lists.specs.Lists.{Listed, AllAreGiven, read_list, read_lists, list_at, total}
-use Rattle.sched_run.specs.Net.{BooksStand, execution_in}
+use Rattle.sched_hear.specs.Net.{BooksStand, execution_in}
 use Rattle.sched_lists.specs.Places.{list_place, list_count}
 use Rattle.sched_run.specs.Reading.{AreEmitted, IsOrdered}
-use Rattle.sched_run.specs.declared.books.Books.{Books}
-use Rattle.sched_run.specs.Code.Seen.{list_seen}
-use Rattle.sched_run.proofs.Found.{list_there, no_stream_there, number_of_place}
-use Rattle.sched_lists.proofs.ListsLemmas.{given-list, length-read_lists, read-at}
-use Rattle.sched_run.proofs.Showing.{emitted_shown}
+use Rattle.sched_hear.specs.declared.books.Books.{Books}
+use Rattle.sched_hear.specs.Seen.{list_seen}
+use Rattle.sched_hear.proofs.Found.{list_there, no_stream_there, number_of_place}
+use Rattle.emitted.proofs.ListsLemmas.{given-list, length-read_lists, read-at}
+use Rattle.sched_hear.proofs.Showing.{emitted_shown}
 
 -- ---- rows of messages by ids
 

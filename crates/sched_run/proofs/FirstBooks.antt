@@ -20,17 +20,17 @@ use Rattle.inbox.specs.Log.{EntryId, AreGiven, entries_with_ids}
 use Rattle.inbox.specs.Wiring.{wiring_of, instance_at}
 use Rattle.inbox.proofs.Executions.Standing.{first_seats, stands_first}
 use Rattle.inbox.proofs.WiringLemmas.{instance-wired}
-use Rattle.sched_run.specs.Bench.{instance_components, first_without_body, fault_of_bodies, taken_by, left_by}
+use Rattle.sched_bench.specs.Bench.{instance_components, first_without_body, fault_of_bodies, taken_by, left_by}
 use Rattle.sched_lists.specs.Lists.{IsExact, read_lists, list_at}
-use Rattle.sched_run.specs.Net.{ShowLogs, Stands}
+use Rattle.sched_hear.specs.Net.{ShowLogs, Stands}
 use Rattle.sched_lists.specs.Places.{ArePlaces, instance_place, instance_count}
-use Rattle.sched_run.specs.Shown.{ShowsSeats}
+use Rattle.sched_hear.specs.Shown.{ShowsSeats}
 use Rattle.sched_run.specs.Code.First.{AreFirst, AllHaveBodies, StandFirst}
 use Rattle.sched_lists.specs.Code.Sources.{SourcesEmitted}
-use Rattle.sched_run.specs.declared.books.Books.{Books}
+use Rattle.sched_hear.specs.declared.books.Books.{Books}
 use Rattle.sched_lists.proofs.PlacesLemmas.{place-before}
-use Rattle.sched_run.proofs.ShellsLemmas.{component_at_place, many_components}
-use Rattle.sched_run.proofs.TakingLemmas.{all_have_bodies, all_taken}
+use Rattle.sched_hear.proofs.ShellsLemmas.{component_at_place, many_components}
+use Rattle.sched_bench.proofs.TakingLemmas.{all_have_bodies, all_taken}
 
 -- ---- tables
 

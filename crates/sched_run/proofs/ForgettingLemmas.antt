@@ -20,27 +20,26 @@ use Rattle.inbox.specs.Wiring.{instance_at, instance_for, wiring_of}
 use Rattle.inbox.proofs.Executions.Standing.{seat_forgets}
 use Rattle.inbox.proofs.Lists.Growing.{continues_itself}
 use Rattle.inbox.proofs.WiringLemmas.{instance-wired}
-use Rattle.sched_run.specs.Answers.{answer_to_forget}
 use Rattle.sched_run.specs.Closing.{AreLastTables}
-use Rattle.sched_run.specs.Forgetting.{ForgetAnswers, ForgetLeaves}
+use Rattle.sched_run.specs.Forgetting.{answer_to_forget, ForgetAnswers, ForgetLeaves}
 use Rattle.sched_lists.specs.Lists.{Listed, IsExact, read_lists, list_at}
-use Rattle.sched_run.specs.Net.{Stands, Runs, KnowsHeard, ShowsEar, ShowsSeat, ShowSeats, ShowLogs, execution_in}
+use Rattle.sched_hear.specs.Net.{Stands, Runs, KnowsHeard, ShowsEar, ShowsSeat, ShowSeats, ShowLogs, execution_in}
 use Rattle.sched_lists.specs.Places.{ArePlaces, instance_place}
 use Rattle.sched_lists.specs.Outlets.{outlets_for}
-use Rattle.sched_run.specs.Seated.{with_seat}
-use Rattle.sched_run.specs.Shown.{ShowsSeats}
-use Rattle.sched_run.specs.Code.Taking.{EarForgets, OneForgets}
-use Rattle.sched_run.specs.declared.books.Books.{Books}
+use Rattle.sched_hear.specs.Seated.{with_seat}
+use Rattle.sched_hear.specs.Shown.{ShowsSeats}
+use Rattle.sched_hear.specs.Code.Taking.{EarForgets, OneForgets}
+use Rattle.sched_hear.specs.declared.books.Books.{Books}
 use Rattle.sched_run.specs.declared.fault.ForgetFault.TheVariants.{NoInstance}
-use Rattle.sched_run.specs.declared.seated.Ear.{Ear}
-use Rattle.sched_run.specs.declared.seated.Ear.TheVariants.{Hears, Takes}
-use Rattle.sched_run.proofs.CourseLemmas.{program_here, shell_inside}
+use Rattle.sched_hear.specs.declared.seated.Ear.{Ear}
+use Rattle.sched_hear.specs.declared.seated.Ear.TheVariants.{Hears, Takes}
+use Rattle.sched_hear.proofs.CourseLemmas.{program_here, shell_inside}
 use Rattle.sched_lists.proofs.PlacesLemmas.{place-before}
-use Rattle.sched_run.proofs.Lifting.{forgetting_lifts}
-use Rattle.sched_run.proofs.OrderingLemmas.{there_tested, seat_at}
+use Rattle.sched_hear.proofs.Lifting.{forgetting_lifts}
+use Rattle.sched_hear.proofs.OrderingLemmas.{there_tested, seat_at}
 use Rattle.sched_lists.proofs.OutletsLemmas.{others_itself}
-use Rattle.sched_run.proofs.SeatsLemmas.{later_pool, logs_stay, seats_after}
-use Rattle.sched_run.proofs.Showing.{is_there-true, outputs-shown}
+use Rattle.sched_hear.proofs.SeatsLemmas.{later_pool, logs_stay, seats_after}
+use Rattle.sched_hear.proofs.Showing.{is_there-true, outputs-shown}
 
 first_is : (o : Option Program) → nothing_kept o ≡ first_tables o
 first_is None = refl

@@ -22,15 +22,15 @@ use Rattle.inbox.specs.Wiring.{Wiring, instances_at, instance_at, instance_for, 
 use Rattle.inbox.proofs.Executions.Histories.{Changes, hears, logs, takes, forgets, step_changes, by_history}
 use Rattle.inbox.proofs.Executions.Lengthening.{same_numbers, with_logged-lives, lives-other}
 use Rattle.inbox.proofs.WiringLemmas.{instance-wired, there-wired, length-below}
-use Rattle.sched_run.specs.Net.{BooksStand, ShowsEar, execution_in}
+use Rattle.sched_hear.specs.Net.{BooksStand, ShowsEar, execution_in}
 use Rattle.sched_lists.specs.Places.{instance_place}
-use Rattle.sched_run.specs.declared.books.Books.{Books}
-use Rattle.sched_run.specs.declared.seated.Ear.{Ear}
-use Rattle.sched_run.specs.declared.seated.Ear.TheVariants.{Hears, Takes}
-use Rattle.sched_run.specs.declared.seated.Seated.{Seated}
-use Rattle.sched_run.specs.Code.Seen.{seat_seen, IsHeldBy}
-use Rattle.sched_run.proofs.Found.{lt-not, seat_there, no_seat_there, instance_within}
-use Rattle.sched_run.proofs.Showing.{is_there-true}
+use Rattle.sched_hear.specs.declared.books.Books.{Books}
+use Rattle.sched_hear.specs.declared.seated.Ear.{Ear}
+use Rattle.sched_hear.specs.declared.seated.Ear.TheVariants.{Hears, Takes}
+use Rattle.sched_hear.specs.declared.seated.Seated.{Seated}
+use Rattle.sched_hear.specs.Seen.{seat_seen, IsHeldBy}
+use Rattle.sched_hear.proofs.Found.{lt-not, seat_there, no_seat_there, instance_within}
+use Rattle.sched_hear.proofs.Showing.{is_there-true}
 
 -- ---- who hears nothing
 

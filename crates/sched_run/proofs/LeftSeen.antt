@@ -16,7 +16,7 @@ use Rattle.topo_types.specs.Feeds.{Feed, no_feed, are_paired, feeds, feeds_at, f
 use Rattle.topo_types.specs.Messages.{Message, rows_in}
 use Rattle.topo_types.specs.Sets.{below}
 use Rattle.topo_types.specs.Valid.{IsValid, IsWhole, Validated}
-use Rattle.topo_types.specs.Code.Bounded.{IsBounded}
+use Rattle.topo_types.specs.Bounded.{IsBounded}
 use Rattle.topo_types.specs.View.{View, End, Stream, no_stream, component_at, goes_to, origin_of, port_numbers, replicas_of, senders_of, stream_numbers, stream_replicas, streams_to, is_order, is_order_mode}
 use Rattle.topo_types.specs.ViewOf.{modules_in}
 use Rattle.topo_types.proofs.Regions.Spreading.{same_truth}
@@ -31,27 +31,27 @@ use Rattle.inbox.specs.Log.{EntryId, AreGiven, IsLog, is_same_entry_id, entry_wi
 use Rattle.inbox.specs.Messages.{Batch, Entry, Pair, all_pairs, is_same_entry, is_same_pair}
 use Rattle.inbox.specs.Wiring.{feeds_for, instances_at, instance_at, instance_for, is_sequencer, is_there, wiring_of}
 use Rattle.inbox.specs.declared.inbox.Inbox.{Inbox}
-use Rattle.inbox.specs.declared.message.Message.{Message as IdMessage}
-use Rattle.inbox.specs.declared.message.Message.TheVariants.{Row}
+use Rattle.messages.specs.declared.message.Message.{Message as IdMessage}
+use Rattle.messages.specs.declared.message.Message.TheVariants.{Row}
 use Rattle.inbox.proofs.Executions.Sent.{history_holds}
-use Rattle.inbox.proofs.LogLemmas.{is_same_entry_id-is, is_same_entry_id-itself, any-with_ids, one_id}
-use Rattle.inbox.proofs.MessagesLemmas.{is_same_pair-is, is_same_pair-itself, any-from_same, same-from_any}
+use Rattle.messages.proofs.LogLemmas.{is_same_entry_id-is, is_same_entry_id-itself, any-with_ids, one_id}
+use Rattle.messages.proofs.MessagesLemmas.{is_same_pair-is, is_same_pair-itself, any-from_same, same-from_any}
 use Rattle.inbox.proofs.Ranges.{all_below, not_all_below}
 use Rattle.inbox.proofs.WiringLemmas.{instance-feeds, instance-wired, instances-wired, length-below}
 use Rattle.sched_lists.specs.Lists.{read_lists, list_at}
-use Rattle.sched_run.specs.Net.{BooksStand, KnowsHeard, ShowsEar, ShowsInbox, execution_in, list_on}
+use Rattle.sched_hear.specs.Net.{BooksStand, KnowsHeard, ShowsEar, ShowsInbox, execution_in, list_on}
 use Rattle.sched_lists.specs.Places.{instance_place}
 use Rattle.sched_run.specs.Reading.{holds_none_at, holds_none, is_complete}
-use Rattle.sched_run.specs.declared.books.Books.{Books}
-use Rattle.sched_run.specs.declared.seated.Ear.TheVariants.{Hears, Takes}
-use Rattle.sched_run.specs.declared.seated.Seated.{Seated}
-use Rattle.sched_run.specs.Code.Seen.{list_seen}
+use Rattle.sched_hear.specs.declared.books.Books.{Books}
+use Rattle.sched_hear.specs.declared.seated.Ear.TheVariants.{Hears, Takes}
+use Rattle.sched_hear.specs.declared.seated.Seated.{Seated}
+use Rattle.sched_hear.specs.Seen.{list_seen}
 use Rattle.sched_run.specs.Code.Remaining.{unknown_on, unknown_at, unknown_in, is_unlogged, unlogged_on, unlogged_in}
 use Rattle.sched_run.proofs.Counting.{numbers_counted, rows_counted, length-joined, few_entries}
 use Rattle.sched_run.proofs.EmittedSeen.{seen_emitted, seen_length}
 use Rattle.sched_run.proofs.HeldSeen.{component_of_replica, not_there}
 use Rattle.sched_lists.proofs.PlacesLemmas.{Has-below, range_has}
-use Rattle.sched_run.proofs.Showing.{is_there-true, emitted_shown, sums_same, sums_numbered}
+use Rattle.sched_hear.proofs.Showing.{is_there-true, emitted_shown, sums_same, sums_numbered}
 
 -- ---- limits of a topology
 

@@ -14,10 +14,10 @@ use Rattle.inbox.specs.Events.{Step}
 use Rattle.inbox.specs.Instances.{Instance}
 use Rattle.inbox.specs.Lives.{kept_after}
 use Rattle.inbox.proofs.WiringLemmas.{instance-wired, there-wired}
-use Rattle.sched_run.specs.Net.{Stands, execution_in}
+use Rattle.sched_hear.specs.Net.{Stands, execution_in}
 use Rattle.sched_lists.specs.Places.{places_before}
 use Rattle.sched_run.specs.Tables.{tables_at, last_tables}
-use Rattle.sched_run.specs.declared.books.Books.{Books}
+use Rattle.sched_hear.specs.declared.books.Books.{Books}
 use Rattle.sched_lists.proofs.PlacesLemmas.{below_more, before-more, place-before}
 
 module _ {X : Type 0} (size : ℕ → ℕ) (g : ℕ → ℕ → X) (xs : List X) (d : X) (total : ℕ)

@@ -8,9 +8,9 @@ use Rattle.inbox.specs.Events.{Step}
 use Rattle.inbox.specs.Lives.{kept_after}
 use Rattle.inbox.specs.Wiring.{wiring_of, instance_at}
 use Rattle.sched_lists.specs.Lists.{list_at}
-use Rattle.sched_run.specs.Net.{Stands, execution_in}
+use Rattle.sched_hear.specs.Net.{Stands, execution_in}
 use Rattle.sched_lists.specs.Places.{instance_place}
-use Rattle.sched_run.specs.declared.books.Books.{Books}
+use Rattle.sched_hear.specs.declared.books.Books.{Books}
 
 -- the tables are those with which the last life of each instance ends, for whatever steps the net stands
 abbrev pub AreLastTables : View → (loaded : List (Option Program)) → (tables : List Sets) → Books → Type 0

@@ -5,12 +5,17 @@ use Rattle.bloom_ast.specs.Step.{Sets}
 use Rattle.topo_types.specs.Data.{Data}
 use Rattle.topo_types.specs.View.{View}
 use Rattle.inbox.specs.Wiring.{wiring_of}
-use Rattle.inbox.specs.Executions.{after_step}
-use Rattle.inbox.specs.Events.{Step}
-use Rattle.sched_run.specs.Answers.{answer_to_forget}
-use Rattle.sched_run.specs.Net.{Stands, execution_in}
-use Rattle.sched_run.specs.declared.books.Books.{Books}
+use Rattle.inbox.specs.Executions.{Execution, after_step}
+use Rattle.inbox.specs.Events.{Step, Refusal}
+use Rattle.sched_hear.specs.Net.{Stands, execution_in}
+use Rattle.sched_hear.specs.declared.books.Books.{Books}
 use Rattle.sched_run.specs.declared.fault.ForgetFault.{ForgetFault}
+use Rattle.sched_run.specs.declared.fault.ForgetFault.TheVariants as forget_fault
+
+-- the answer to a forget
+abbrev pub answer_to_forget : Result Execution Refusal → Result (Unit {0}) ForgetFault
+answer_to_forget (Ok x) = Ok tt
+answer_to_forget (Err refusal) = Err forget_fault.NoInstance
 
 -- it is answered as the execution says, for whatever steps the net stood
 abbrev pub ForgetAnswers : View → (loaded : List (Option Program)) → (tables : List Sets) → (old : Books) → Step → Result (Unit {0}) ForgetFault → Type 0

@@ -1,14 +1,5 @@
-pub mod Numbered
-pub mod Answers
-pub mod Bench
-pub mod Shown
-pub mod Seated
-pub mod Net
 pub mod Forgetting
 pub mod Closing
 pub mod Reading
-pub mod Applying
-pub mod Made
-pub mod Making
 pub mod Tables
 pub mod Code

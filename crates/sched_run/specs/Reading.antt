@@ -15,8 +15,8 @@ use Rattle.inbox.specs.Executions.{Execution, emitted_list}
 use Rattle.inbox.specs.Folds.{fold_rows}
 use Rattle.inbox.specs.OrderReplicas.{most_taken}
 use Rattle.inbox.specs.Wiring.{wiring_of}
-use Rattle.sched_run.specs.Net.{BooksStand, execution_in}
-use Rattle.sched_run.specs.declared.books.Books.{Books}
+use Rattle.sched_hear.specs.Net.{BooksStand, execution_in}
+use Rattle.sched_hear.specs.declared.books.Books.{Books}
 
 -- an answer is this of the data and the execution, of whatever data and steps the books stand for
 abbrev pub IsRead : {X : Type 0} → View → Books → (Data → Execution → X) → X → Type 0

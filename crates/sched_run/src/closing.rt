@@ -2,9 +2,9 @@
 ghost use Rattle.std.specs.Prelude.{◌≡◌, ◌++◌, map, OnOk, OnErr};
 ghost use Rattle.sched_run.specs.Closing.{AreLastTables};
 
-use crate::bench::put_back;
 use crate::net::Net;
 use blz_boxes::Component;
+use sched_bench::put_back;
 use std::alloc::AllocError;
 
 impl Net<'_> {

@@ -4,16 +4,15 @@ ghost use Rattle.blz_boxes.specs.Step.{nothing_kept};
 ghost use Rattle.topo_types.specs.View.{replicas_of};
 ghost use Rattle.inbox.specs.Events.{forget};
 ghost use Rattle.sched_run.specs.Forgetting.{ForgetAnswers, ForgetLeaves};
-ghost use Rattle.sched_run.specs.Net.{Runs};
-ghost use Rattle.sched_run.specs.Numbered.{component_number};
-ghost use Rattle.sched_run.specs.Code.Taking.{OneForgets};
+ghost use Rattle.sched_hear.specs.Net.{Runs};
+ghost use Rattle.sched_hear.specs.Numbered.{component_number};
+ghost use Rattle.sched_hear.specs.Code.Taking.{OneForgets};
 
 use crate::fault::ForgetFault;
 use crate::net::Net;
-use crate::numbered::component_of;
-use crate::seated::Seated;
 use blz_boxes::Component;
 use blz_value::Str;
+use sched_hear::{Seated, component_of};
 use topo_types::Valid;
 
 // Whether an instance is there.

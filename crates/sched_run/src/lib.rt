@@ -1,26 +1,17 @@
-//! The runner: what a topology does under a list of events, over given data and with boxed shells.
+//! The runner: what a topology does under events, over given data and with boxed shells, and what is read
+//! of it.
 #![tactic(auto)]
 
-mod applying;
-mod bench;
-mod books;
 mod closing;
 mod fault;
 mod forgetting;
-mod hearing;
-mod limits;
-mod making;
 mod net;
-mod numbered;
 mod opening;
-mod ordering;
-mod parts;
 mod reading;
 mod remaining;
-mod seated;
+mod seating;
 
-pub use applying::EventRefusal;
-pub use fault::{ForgetFault, MakeFault, OpenFault};
-pub use making::make;
+pub use fault::ForgetFault;
 pub use net::Net;
+pub use sched_bench::OpenFault;
 pub use sched_lists::EventFault;

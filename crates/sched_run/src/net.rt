@@ -1,11 +1,11 @@
 //! A topology at work: boxed shells beside the books of what was emitted, heard and logged.
-ghost use Rattle.std.specs.Prelude.{◌≡◌, map};
-ghost use Rattle.sched_run.specs.Net.{Runs, EventAnswers, EventLeaves};
-ghost use Rattle.sched_run.specs.Numbered.{numbered};
+ghost use Rattle.std.specs.Prelude.{◌≡◌, true, map};
+ghost use Rattle.topo_types.specs.Valid.{IsValid};
+ghost use Rattle.sched_hear.specs.Net.{Runs, EventAnswers, EventLeaves};
+ghost use Rattle.sched_hear.specs.Numbered.{numbered};
 
-use crate::books::Books;
-use crate::numbered::{component_of, part_of};
 use blz_boxes::Component;
+use sched_hear::{Books, component_of};
 use sched_lists::EventFault;
 use sched_text::Event;
 use std::alloc::Global;
@@ -21,7 +21,44 @@ pub struct Net<'a> {
     pub(crate) shells: Vec<Box<dyn Component>>,
 }
 
-impl Net<'_> {
+impl<'a> Net<'a> {
+    /// The allocator of the net.
+    pub fn alloc(&self) -> Global
+        ensures { result ≡ self.now.alloc }
+    {
+        self.alloc
+    }
+
+    /// The topology that is at work.
+    pub fn valid(&self) -> &'a Valid
+        ensures { result.now ≡ self.now.valid.now }
+    {
+        self.valid
+    }
+
+    /// What was emitted, heard and logged.
+    pub fn books(&self) -> &Books
+        ensures { result.now ≡ self.now.books }
+    {
+        &self.books
+    }
+
+    /// What holds of the topology; the call does nothing.
+    pub fn known(&self)
+        ensures { IsValid self.now.valid.now.view }
+    {
+        self.valid.known();
+    }
+
+    /// Ends the net, as a fault does.
+    pub fn end(&mut self)
+        ensures ended { self.new.books.ended ≡ true }
+        ensures valid { self.new.valid ≡ self.old.valid }
+        ensures shells { self.new.shells ≡ self.old.shells }
+    {
+        self.books.ended = true;
+    }
+
     /// Applies an event. NoInstance, NoMessage and NothingToTake say that it isn't legal now, and change
     /// nothing. TooManyRows comes where a step of it would have a set of more than 262,144 rows, and
     /// TooManyMessages where the emitted lists together would have more than 262,144 messages,
@@ -45,7 +82,15 @@ impl Net<'_> {
                 replica,
             } => {
                 let number = component_of(self.valid, component);
-                self.deliver(number, *replica, sent, port)
+                self.books.deliver(
+                    self.alloc,
+                    self.valid,
+                    &mut self.shells,
+                    number,
+                    *replica,
+                    sent,
+                    port,
+                )
             }
             Event::Batch {
                 component,
@@ -53,7 +98,14 @@ impl Net<'_> {
                 parts,
             } => {
                 let number = component_of(self.valid, component);
-                self.deliver_all(number, *replica, parts.as_slice())
+                self.books.deliver_all(
+                    self.alloc,
+                    self.valid,
+                    &mut self.shells,
+                    number,
+                    *replica,
+                    parts.as_slice(),
+                )
             }
             Event::Order {
                 sent,
@@ -61,11 +113,12 @@ impl Net<'_> {
                 port,
             } => {
                 let number = component_of(self.valid, component);
-                self.order(number, sent, port)
+                self.books.order(self.valid, number, sent, port)
             }
             Event::Take { component, replica } => {
                 let number = component_of(self.valid, component);
-                self.take(number, *replica)
+                self.books
+                    .take(self.alloc, self.valid, &mut self.shells, number, *replica)
             }
         }
     }

@@ -2,19 +2,18 @@
 ghost use Rattle.std.specs.Prelude.{◌≡◌, ◌++◌, ℕ, [], Err, IfOk, OnErr, map, replicate};
 ghost use Rattle.std.specs.List.Sorted.{IsPermutation};
 ghost use Rattle.topo_types.specs.Data.{IsData};
-ghost use Rattle.sched_run.specs.Bench.{fault_of_opening, OpensAs};
+ghost use Rattle.sched_bench.specs.Bench.{fault_of_opening, OpensAs};
 ghost use Rattle.sched_run.specs.Code.First.{StandFirst};
-ghost use Rattle.sched_run.specs.Net.{Stands};
-ghost use Rattle.sched_run.specs.declared.fault.OpenFault.TheVariants.{NoBody, NoShell};
+ghost use Rattle.sched_hear.specs.Net.{Stands};
+ghost use Rattle.sched_bench.specs.declared.fault.OpenFault.TheVariants.{NoBody, NoShell};
 
-use crate::bench::open_shells;
-use crate::books::Books;
-use crate::fault::OpenFault;
 use crate::net::Net;
-use crate::seated::first_seats;
+use crate::seating::first_seats;
 use blz_boxes::Component;
 use data_read::Data;
 use inbox::Log;
+use sched_bench::{OpenFault, open_shells};
+use sched_hear::Books;
 use sched_lists::{Places, first_lists};
 use std::alloc::{AllocError, Global};
 use topo_types::Valid;

@@ -12,17 +12,16 @@ ghost use Rattle.inbox.specs.Ids.{IsGiven, message_with_id};
 ghost use Rattle.inbox.specs.Wiring.{wiring_of};
 ghost use Rattle.sched_lists.specs.Limits.{all_messages};
 ghost use Rattle.sched_lists.specs.Lists.{read_list};
-ghost use Rattle.sched_run.specs.Net.{BooksRun};
-ghost use Rattle.sched_lists.specs.Places.{instance_place};
+ghost use Rattle.sched_hear.specs.Net.{BooksRun};
 ghost use Rattle.sched_run.specs.Reading.{IsRead, ReadEmitted, ReadInOrder};
-ghost use Rattle.sched_run.specs.Code.Seen.{list_seen, seat_seen, IsHeldBy};
+ghost use Rattle.sched_hear.specs.Seen.{list_seen, seat_seen, IsHeldBy};
 
 use crate::net::Net;
-use crate::seated::{Ear, Seated};
 use blz_pool::Pool;
 use blz_set::{RecordSet, SetFault};
 use blz_value::Record;
 use inbox::Message;
+use sched_hear::{Ear, Seated};
 use std::alloc::AllocError;
 
 // The set of some rows, of which not too many are distinct.
@@ -48,29 +47,15 @@ fn held_by(ear: &Ear) -> u64
 }
 
 impl Net<'_> {
-    // The messages of the emitted list of a sending replica of a stream, none where it isn't there.
-    pub(crate) fn messages(&self, stream: u32, replica: u32) -> &[Message]
-        requires { BooksRun self.now.valid.now.view self.now.books }
-        ensures list { result.now ≡ list_seen self.now.valid.now.view self.now.books.lists.lists stream replica }
-        ensures given { All (IsGiven self.now.books.lists.records) result.now }
-    {
-        if stream >= self.valid.stream_count() {
-            return &[];
-        }
-        if replica >= self.valid.stream_replicas(stream) {
-            return &[];
-        }
-        let place = self.books.places.list(self.valid, stream, replica);
-        self.books.lists.list(place)
-    }
-
     // The message at a place of an emitted list, None past its end.
     fn message_at(&self, stream: u32, replica: u32, index: u32) -> Option<&Message>
         requires { BooksRun self.now.valid.now.view self.now.books }
         ensures message { option_copied result ≡ slice_get (list_seen self.now.valid.now.view self.now.books.lists.lists stream replica) index }
         ensures given { IfSome result (λ message. IsGiven self.now.books.lists.records message.now) }
     {
-        self.messages(stream, replica).get(index as usize)
+        self.books
+            .messages(self.valid, stream, replica)
+            .get(index as usize)
     }
 
     // The record of a message, None where it is a seal.
@@ -107,17 +92,6 @@ impl Net<'_> {
         Ok(rows)
     }
 
-    // The books of an instance.
-    pub(crate) fn seat_at(&self, component: u32, replica: u32) -> &Seated
-        requires runs { BooksRun self.now.valid.now.view self.now.books }
-        requires component { component < length self.now.valid.now.view.components }
-        requires replica { replica < replicas_of self.now.valid.now.view component }
-        ensures { slice_get self.now.books.seats.items (instance_place self.now.valid.now.view component replica) ≡ Some result.now }
-    {
-        let place = self.books.places.instance(self.valid, component, replica);
-        &self.books.seats[place]
-    }
-
     // The books of an instance, None where it isn't there.
     fn seat(&self, component: u32, replica: u32) -> Option<&Seated>
         requires { BooksRun self.now.valid.now.view self.now.books }
@@ -129,7 +103,7 @@ impl Net<'_> {
         if replica >= self.valid.replicas(component) {
             return None;
         }
-        Some(self.seat_at(component, replica))
+        Some(self.books.seat_at(self.valid, component, replica))
     }
 
     /// The length of the emitted list of a sending replica of a stream; 0 where it isn't there.
@@ -139,7 +113,7 @@ impl Net<'_> {
         ensures past { stream_replicas self.now.valid.now.view stream ≤ replica → result ≡ 0 }
     {
         self.valid.known();
-        self.messages(stream, replica).len()
+        self.books.messages(self.valid, stream, replica).len()
     }
 
     /// The length of all emitted lists together.
@@ -176,7 +150,7 @@ impl Net<'_> {
     {
         self.valid.known();
         self.books.lists.known();
-        set_within(self.rows_of(self.messages(stream, replica))?)
+        set_within(self.rows_of(self.books.messages(self.valid, stream, replica))?)
     }
 
     /// The pool of the net: exactly the distinct records of all emitted lists, each once.

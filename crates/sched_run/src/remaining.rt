@@ -3,31 +3,22 @@
 //! An instance keeps the feed and the index of each message that it heard, and a log the ids of its
 //! records, so each message of a feed's list is looked up once.
 ghost use Rattle.std.specs.Prelude.{◌≡◌, ◌<◌, ◌≤◌, ◌-◌, ◌*◌, ℕ, length};
-ghost use Rattle.std.specs.List.{list_any};
 ghost use Rattle.topo_types.specs.Valid.{IsValid};
-ghost use Rattle.topo_types.specs.View.{component_at, is_order, replicas_of};
+ghost use Rattle.topo_types.specs.View.{component_at, replicas_of};
 ghost use Rattle.inbox.specs.Completeness.{left_at, left_count, left_of, left_out};
 ghost use Rattle.inbox.specs.Ids.{IsGiven};
-ghost use Rattle.inbox.specs.Log.{AreGiven, is_same_entry_id};
+ghost use Rattle.inbox.specs.Log.{AreGiven};
 ghost use Rattle.inbox.specs.Wiring.{wiring_of};
 ghost use Rattle.sched_lists.specs.Limits.{message_limit};
 ghost use Rattle.sched_lists.specs.Lists.{list_at};
-ghost use Rattle.sched_run.specs.Net.{BooksRun};
+ghost use Rattle.sched_hear.specs.Net.{BooksRun};
 ghost use Rattle.sched_run.specs.Reading.{IsRead, TellsComplete, holds_none_at, holds_none, is_complete};
 ghost use Rattle.sched_run.specs.Code.Remaining.{unknown_on, unknown_at, unknown_in, is_unlogged, unlogged_on, unlogged_in};
 
 use crate::net::Net;
-use crate::seated::Ear;
 use inbox::{Feed, Log, Message};
+use sched_hear::{Ear, is_known, is_order};
 use std::collections::BTreeSet;
-use topo_types::{Mode, Valid};
-
-/// Whether a message with an index was heard on a feed.
-pub(crate) fn is_known(known: &BTreeSet<(u32, u32)>, feed: u32, index: u32) -> bool
-    ensures { result ≡ list_any (is_same_entry_id (feed, index)) known.now.keys }
-{
-    known.contains(&(feed, index))
-}
 
 // How many of the first indexes of a list weren't heard on a feed.
 fn count_unknown(known: &BTreeSet<(u32, u32)>, feed: u32, count: u32) -> u64
@@ -43,20 +34,9 @@ fn count_unknown(known: &BTreeSet<(u32, u32)>, feed: u32, count: u32) -> u64
     unknown
 }
 
-/// Whether the mode of a component is Order.
-pub(crate) fn is_order(valid: &Valid, component: u32) -> bool
-    requires { component < length valid.now.view.components }
-    ensures { result ≡ is_order valid.now.view component }
-{
-    match valid.mode(component) {
-        Mode::Order => true,
-        Mode::Free | Mode::Pass(_) | Mode::Seal(_) => false,
-    }
-}
-
 impl Net<'_> {
-    /// How many parts there are at most; the call does nothing.
-    pub(crate) fn bounded(&self)
+    // How many parts there are at most; the call does nothing.
+    fn bounded(&self)
         ensures valid { IsValid self.now.valid.now.view }
         ensures ports { (c : ℕ) → c < length self.now.valid.now.view.components → length (component_at self.now.valid.now.view c).ports ≤ 8 }
     {
@@ -73,7 +53,7 @@ impl Net<'_> {
     {
         self.books.lists.known();
         let feed = feeds[number as usize];
-        let list = self.messages(feed.stream, feed.sender);
+        let list = self.books.messages(self.valid, feed.stream, feed.sender);
         count_unknown(known, number, list.len() as u32)
     }
 
@@ -113,7 +93,7 @@ impl Net<'_> {
     {
         self.books.lists.known();
         let mut left = 0;
-        for message in self.messages(feed.stream, feed.sender) {
+        for message in self.books.messages(self.valid, feed.stream, feed.sender) {
             if self.is_unlogged(log, feed.port, message) {
                 left += 1;
             }
@@ -159,7 +139,7 @@ impl Net<'_> {
         ensures few { result ≤ 4096 * message_limit }
     {
         self.bounded();
-        let seated = self.seat_at(component, replica);
+        let seated = self.books.seat_at(self.valid, component, replica);
         match &seated.ear {
             Ear::Hears(_, known) => self.undelivered(seated.feeds.as_slice(), known),
             Ear::Takes(taken) => self.untaken(component, *taken),
@@ -178,7 +158,13 @@ impl Net<'_> {
             return 0;
         }
         let log = &self.books.logs[component as usize];
-        self.unordered(log, self.seat_at(component, 0).feeds.as_slice())
+        self.unordered(
+            log,
+            self.books
+                .seat_at(self.valid, component, 0)
+                .feeds
+                .as_slice(),
+        )
     }
 
     // What is left at a component.

@@ -6,12 +6,11 @@ use Rattle.sched_text.specs.declared.event.Sent.{Sent}
 use Rattle.sched_text.specs.declared.event.Part.{Part}
 use Rattle.sched_text.specs.declared.event.Event.{Event}
 use Rattle.sched_text.specs.declared.event.Event.TheVariants as events
-use Rattle.sched_text.specs.declared.reading.TheConstants.{MAX_PARTS}
 use Rattle.sched_text.specs.Fields.{Field, Spot, name_of, number_of, spot_of, only_if, ◌>>=◌}
 
 -- the most groups of a batch
 abbrev pub part_limit : ℕ
-part_limit = MAX_PARTS
+part_limit = 64
 
 -- what stands at the front of some fields, and the fields behind it
 abbrev pub Front : Type 0 → Type 0

@@ -4,14 +4,13 @@ use Rattle.blz_value.specs.FirstPlace.{first_place}
 use Rattle.sched_text.specs.declared.event.Event.{Event}
 use Rattle.sched_text.specs.declared.fault.ScheduleFault.{ScheduleFault}
 use Rattle.sched_text.specs.declared.fault.ScheduleFault.TheVariants as faults
-use Rattle.sched_text.specs.declared.lines.TheConstants.{MAX_LINES}
 use Rattle.sched_text.specs.Fields.{Field, fields_of}
 use Rattle.sched_text.specs.Lines.{Line, lines_of, without_return}
 use Rattle.sched_text.specs.Kinds.{event_of}
 
 -- the most lines of a text
 abbrev pub line_limit : ℕ
-line_limit = MAX_LINES
+line_limit = 1000000
 
 -- a line is passed over, or stands for something, or is none that a schedule may have
 pub data LineReading (X : Type 0) : Type 0 where

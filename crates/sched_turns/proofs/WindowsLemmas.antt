@@ -5,9 +5,8 @@ use Rattle.std.proofs.lemmas.List.{take_all}
 use Rattle.std.proofs.lemmas.List.Elements.{filter-append}
 use Rattle.std.proofs.Math.Seq.{take-append_seam}
 use Rattle.blz_value.specs.Members.{Has}
-use Rattle.sched_turns.specs.Windows.{open_below, first_open, Looked, IsWindow, OthersAreOpen}
+use Rattle.sched_turns.specs.Windows.{window_size, open_below, first_open, Looked, IsWindow, OthersAreOpen}
 use Rattle.sched_turns.specs.declared.windows.Stale.TheVariants.{Nothing, Place}
-use Rattle.sched_turns.specs.declared.windows.TheConstants.{WINDOW}
 
 -- numbers after numbers
 range-append : (a n m : ℕ) → range_with_len a (n + m) ≡ range_with_len a n ++ range_with_len (a + n) m
@@ -43,13 +42,13 @@ open_stays p n is = sym (open-append p n 1 ∙ ap (λ (l : List ℕ). open_below
 pub window_shows : (p : ℕ → Bool) (count : ℕ) (w : Looked) → IsWindow p count w → w.places ≡ first_open p count
 window_shows p count w is = elim is.enough [
   | inl full ↦
-      sym (ap (take WINDOW) whole
+      sym (ap (take window_size) whole
       ∙ ap (λ n. take n (open_below p w.next ++ filter p (range_with_len w.next (count - w.next)))) (sym full ∙ ap (λ (l : List ℕ). length l) is.below)
       ∙ take-append_seam (open_below p w.next) (filter p (range_with_len w.next (count - w.next)))
       ∙ sym is.below)
   | inr all ↦
       is.below ∙ ap (open_below p) all
-      ∙ sym (take_all WINDOW (open_below p count) (omega (arith, is.few, ap (λ (l : List ℕ). length l) is.below, ap (λ n. length (open_below p n)) all)))
+      ∙ sym (take_all window_size (open_below p count) (omega (arith, is.few, ap (λ (l : List ℕ). length l) is.below, ap (λ n. length (open_below p n)) all)))
 ]
   where
     whole : open_below p count ≡ open_below p w.next ++ filter p (range_with_len w.next (count - w.next))

@@ -4,7 +4,10 @@ use Rattle.std.specs.List.{range_with_len}
 use Rattle.blz_value.specs.Members.{Has}
 use Rattle.sched_turns.specs.declared.windows.Stale.{Stale}
 use Rattle.sched_turns.specs.declared.windows.Stale.TheVariants.{Nothing, Place, Everything}
-use Rattle.sched_turns.specs.declared.windows.TheConstants.{WINDOW}
+
+-- the most places that a window shows
+abbrev pub window_size : ℕ
+window_size = 8
 
 -- the open places of those below a number
 abbrev pub open_below : (is_open : ℕ → Bool) → (count : ℕ) → List ℕ
@@ -12,7 +15,7 @@ open_below is_open count = filter is_open (range_with_len 0 count)
 
 -- the first open places of a list of so many
 abbrev pub first_open : (is_open : ℕ → Bool) → (count : ℕ) → List ℕ
-first_open is_open count = take WINDOW (open_below is_open count)
+first_open is_open count = take window_size (open_below is_open count)
 
 -- what a window keeps: open places, and at how many places of the list it looked
 pub record Looked : Type 0 where
@@ -23,8 +26,8 @@ pub record Looked : Type 0 where
 pub record IsWindow (is_open : ℕ → Bool) (count : ℕ) (window : Looked) : Type 0 where
   pub below : window.places ≡ open_below is_open window.next
   pub inside : window.next ≤ count
-  pub few : length window.places ≤ WINDOW
-  pub enough : (length window.places ≡ WINDOW) ⊎ (window.next ≡ count)
+  pub few : length window.places ≤ window_size
+  pub enough : (length window.places ≡ window_size) ⊎ (window.next ≡ count)
 
 -- of the places at which it looked only those that it has can be open
 abbrev pub MayShow : (is_open : ℕ → Bool) → Looked → Type 0

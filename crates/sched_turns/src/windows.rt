@@ -39,14 +39,13 @@ pub struct Window {
 
 impl Model for Window {
     ghost use Rattle.std.specs.Prelude.{◌≤◌, length};
-    ghost use Rattle.sched_turns.specs.Windows.{Looked};
-    ghost use Rattle.sched_turns.specs.declared.windows.TheConstants.{WINDOW};
+    ghost use Rattle.sched_turns.specs.Windows.{Looked, window_size};
 
     ghost Value = { Looked };
 
     ghost view = { λ window. record { places = window.places.items; next = window.next } };
 
-    ghost invariant = { λ window. length window.places.items ≤ WINDOW };
+    ghost invariant = { λ window. length window.places.items ≤ window_size };
 }
 
 impl Window {

@@ -9,12 +9,11 @@ use Rattle.blz_value.specs.FirstPlace.{first_place}
 use Rattle.blz_value.specs.Members.{Has}
 use Rattle.fd_closure.specs.Bits.{meets}
 use Rattle.fd_closure.specs.Closure.{closure}
-use Rattle.bloom_ast.specs.declared.checking.bounds.TheConstants.{MOST_LEVELS}
 use Rattle.bloom_ast.specs.declared.fault.ModuleFault.{ModuleFault}
 use Rattle.bloom_ast.specs.declared.fault.ModuleKind.{ModuleKind}
 use Rattle.bloom_ast.specs.declared.fault.ModuleKind.TheVariants as kind
 use Rattle.bloom_ast.specs.declared.module.Collection.{Collection}
-use Rattle.bloom_ast.specs.Bounds.{query_levels, formulas_of, is_long, passes_bounds}
+use Rattle.bloom_ast.specs.Bounds.{most_levels, query_levels, formulas_of, is_long, passes_bounds}
 use Rattle.bloom_ast.specs.Checks.{IsChecked}
 use Rattle.bloom_ast.specs.Columns.{columns_of, joined_columns}
 use Rattle.bloom_ast.specs.Faults.{bad_collection, at_places, later_kinds}
@@ -154,12 +153,12 @@ module _ (cs : List Collection) (column : Name) (test : Formula) (is : IsTestOf 
   -- a rule within the bounds whose copy isn't too deep
   record IsKept (r : RuleForm) : Type 0 where
     bounded : passes_bounds r.1 ≡ false
-    shallow : nat_lt MOST_LEVELS (query_levels (over_bucket cs test r.1)) ≡ false
+    shallow : nat_lt most_levels (query_levels (over_bucket cs test r.1)) ≡ false
 
   copy_bounded : (r : RuleForm) → IsKept r → passes_bounds (over_bucket cs test r.1) ≡ false
   copy_bounded r k =
-      let n = neither (nat_lt MOST_LEVELS (query_levels r.1)) (list_any is_long (formulas_of r.1)) k.bounded in
-      both_no (nat_lt MOST_LEVELS (query_levels (over_bucket cs test r.1))) (list_any is_long (formulas_of (over_bucket cs test r.1))) k.shallow (no_longer r.1 n.1)
+      let n = neither (nat_lt most_levels (query_levels r.1)) (list_any is_long (formulas_of r.1)) k.bounded in
+      both_no (nat_lt most_levels (query_levels (over_bucket cs test r.1))) (list_any is_long (formulas_of (over_bucket cs test r.1))) k.shallow (no_longer r.1 n.1)
 
   -- ---- faults
 
@@ -183,15 +182,15 @@ module _ (cs : List Collection) (column : Name) (test : Formula) (is : IsTestOf 
     same_among [] kept = refl
     same_among (k ∷ kinds) kept = λ i. option_or (at_places k (first_place (bad_collection k cs) 0 cs) (same_place k 0 rules kept i)) (same_among kinds kept i)
 
-    kept_rules : ((r : RuleForm) → Has r rules → passes_bounds r.1 ≡ false) → list_any (λ (r : RuleForm). nat_lt MOST_LEVELS (query_levels r.1)) (map (copied_rule cs test) rules) ≡ false
+    kept_rules : ((r : RuleForm) → Has r rules → passes_bounds r.1 ≡ false) → list_any (λ (r : RuleForm). nat_lt most_levels (query_levels r.1)) (map (copied_rule cs test) rules) ≡ false
         → (r : RuleForm) → Has r rules → IsKept r
-    kept_rules least levels r h = record { bounded = least r h; shallow = any_none (λ (s : RuleForm). nat_lt MOST_LEVELS (query_levels (over_bucket cs test s.1))) rules (go rules levels) r h }
+    kept_rules least levels r h = record { bounded = least r h; shallow = any_none (λ (s : RuleForm). nat_lt most_levels (query_levels (over_bucket cs test s.1))) rules (go rules levels) r h }
       where
-        go : (some : List RuleForm) → list_any (λ (s : RuleForm). nat_lt MOST_LEVELS (query_levels s.1)) (map (copied_rule cs test) some) ≡ false
-            → list_any (λ (s : RuleForm). nat_lt MOST_LEVELS (query_levels (over_bucket cs test s.1))) some ≡ false
+        go : (some : List RuleForm) → list_any (λ (s : RuleForm). nat_lt most_levels (query_levels s.1)) (map (copied_rule cs test) some) ≡ false
+            → list_any (λ (s : RuleForm). nat_lt most_levels (query_levels (over_bucket cs test s.1))) some ≡ false
         go [] e = refl
-        go (s ∷ some) e = let n = neither (nat_lt MOST_LEVELS (query_levels (over_bucket cs test s.1))) (list_any (λ (t : RuleForm). nat_lt MOST_LEVELS (query_levels t.1)) (map (copied_rule cs test) some)) e in
-            both_no (nat_lt MOST_LEVELS (query_levels (over_bucket cs test s.1))) (list_any (λ (t : RuleForm). nat_lt MOST_LEVELS (query_levels (over_bucket cs test t.1))) some) n.0 (go some n.1)
+        go (s ∷ some) e = let n = neither (nat_lt most_levels (query_levels (over_bucket cs test s.1))) (list_any (λ (t : RuleForm). nat_lt most_levels (query_levels t.1)) (map (copied_rule cs test) some)) e in
+            both_no (nat_lt most_levels (query_levels (over_bucket cs test s.1))) (list_any (λ (t : RuleForm). nat_lt most_levels (query_levels (over_bucket cs test t.1))) some) n.0 (go some n.1)
 
 -- ---- a checked module
 
@@ -209,5 +208,5 @@ module _ (m : Form) (heads : List ℕ) (checked : IsChecked m heads) (column : N
 
 -- a module without a fault isn't too deep
 pub not_deep : (m : Form) (heads : List ℕ) → IsChecked m heads → is_too_deep m ≡ false
-not_deep m heads checked = none_any (λ (r : RuleForm). nat_lt MOST_LEVELS (query_levels r.1)) m.rules
-    (λ r h. (neither (nat_lt MOST_LEVELS (query_levels r.1)) (list_any is_long (formulas_of r.1)) ((checked.rules r h).bounded)).0)
+not_deep m heads checked = none_any (λ (r : RuleForm). nat_lt most_levels (query_levels r.1)) m.rules
+    (λ r h. (neither (nat_lt most_levels (query_levels r.1)) (list_any is_long (formulas_of r.1)) ((checked.rules r h).bounded)).0)

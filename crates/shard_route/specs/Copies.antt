@@ -1,9 +1,8 @@
 -- Copies of a module: one for each bucket of a column, with every port under the bucket's test.
 use Rattle.std.specs.Prelude.{ℤ, ◌&&◌, not, Bool, nat_lt, List, map}
 use Rattle.std.specs.List.{list_any}
-use Rattle.bloom_ast.specs.declared.checking.bounds.TheConstants.{MOST_LEVELS}
 use Rattle.bloom_ast.specs.declared.module.Collection.{Collection}
-use Rattle.bloom_ast.specs.Bounds.{query_levels}
+use Rattle.bloom_ast.specs.Bounds.{most_levels, query_levels}
 use Rattle.bloom_ast.specs.Fits.{has_name}
 use Rattle.bloom_ast.specs.Form.{Form, Accepted}
 use Rattle.bloom_ast.specs.HeadOrder.{heads_of}
@@ -26,7 +25,7 @@ copies_of a column bounds = map (copy_of a) (bucket_tests column bounds)
 
 -- a rule of a module has too many open levels
 abbrev pub is_too_deep : Form → Bool
-is_too_deep m = list_any (λ r. nat_lt MOST_LEVELS (query_levels r.1)) m.rules
+is_too_deep m = list_any (λ r. nat_lt most_levels (query_levels r.1)) m.rules
 
 -- a rule of some copy has
 abbrev pub has_deep_copy : Form → List Formula → Bool

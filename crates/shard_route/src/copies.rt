@@ -10,7 +10,8 @@ ghost use Rattle.shard_route.specs.Copies as spec;
 
 use crate::expressions::copied_module;
 use crate::fault::ShardFault;
-use bloom_ast::{CheckFault, Checked, Collection, Kind, Pred, check};
+use bloom_ast::{CheckFault, Checked, Collection, Kind, Pred};
+use bloom_check::check;
 use blz_value::{Items, Str};
 use std::alloc::Global;
 

@@ -7,7 +7,7 @@ ghost use Rattle.shard_route.specs.Sharding as spec;
 
 use bloom_ast::Program;
 use blz_value::Str;
-use path_annotate::gate_of;
+use path_trace::gate_of;
 use std::alloc::{AllocError, Global};
 use topo_types::{AttrNames, Attrs, Valid};
 

@@ -29,7 +29,8 @@ use bloom_ast::{Checked, Pred, Program};
 use blz_value::{Items, Str};
 use label_walk::cycle_of;
 use std::alloc::{AllocError, Global};
-use topo_types::{Topology, Valid, ValidFault, validate};
+use topo_check::validate;
+use topo_types::{Topology, Valid, ValidFault};
 
 // What is asked for: the component of a topology, the column and the bounds by which it is split.
 #[derive(Drop)]

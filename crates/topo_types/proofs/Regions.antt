@@ -6,6 +6,3 @@ pub mod RegionOrder
 pub mod Lower
 pub mod OrderAlone
 pub mod RegionSets
-pub mod Feeding
-pub mod FeedingRegions
-pub mod RegionsFound

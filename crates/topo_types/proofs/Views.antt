@@ -9,4 +9,3 @@ pub mod ViewRuns
 pub mod ValidViews
 pub mod GivenModules
 pub mod ViewBounds
-pub mod ValidEnds

@@ -1,5 +1,4 @@
 -- Worked topologies.
 pub mod WordCount
 pub mod Gossip
-pub mod Refusals
 pub mod WorkedFeeds

@@ -4,8 +4,8 @@ use crate::modules::{CAMPAIGN, COMMIT, COUNT};
 use crate::reading::{checked_of, fault_of, module_of};
 use bloom_ast::{
     Collection, Expr, Kind, Module, ModuleFault, ModuleKind, ModulePlace, Pred, Rule, Term,
-    has_own_names,
 };
+use bloom_check::has_own_names;
 use blz_value::{Items, Op, Str, Value};
 use std::alloc::{AllocError, Global};
 use std::process::Abort;

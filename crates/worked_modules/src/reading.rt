@@ -4,7 +4,8 @@ ghost use Rattle.bloom_ast.specs.Form.{form_of};
 ghost use Rattle.bloom_ast.specs.Program.{IsStock};
 ghost use Rattle.bloom_ast.specs.Reserved.{HasOwnNames};
 
-use bloom_ast::{CheckFault, Checked, Module, ModuleFault, Program, check};
+use bloom_ast::{CheckFault, Checked, Module, ModuleFault, Program};
+use bloom_check::check;
 use bloom_parse::{ParseFault, parse};
 use std::alloc::{AllocError, Global};
 use std::process::Abort;

@@ -1,18 +1,18 @@
 -- What the functions of `make` return.
 use Rattle.std.specs.Prelude.{◌≡◌, List, Result, Ok, Err}
 use Rattle.topo_types.specs.View.{View}
-use Rattle.sched_run.specs.Applying.{Line}
-use Rattle.sched_run.specs.declared.books.Books.{Books}
-use Rattle.sched_run.specs.declared.fault.MakeFault.{MakeFault}
+use Rattle.sched_make.specs.Applying.{Line}
+use Rattle.sched_hear.specs.declared.books.Books.{Books}
+use Rattle.sched_make.specs.declared.fault.MakeFault.{MakeFault}
 use Rattle.sched_text.specs.Reading.{ReadsAs, event_reading}
 use Rattle.sched_text.specs.Text.{schedule_text}
 use Rattle.blazes_commands.specs.Checks.{make_refusal}
-use Rattle.blazes_commands.specs.Commands.{Answer}
-use Rattle.blazes_commands.specs.Code.Ran.{answer_of, IsStopAt}
+use Rattle.command_files.specs.Reply.{Answer}
+use Rattle.command_files.specs.Ran.{answer_of, IsStopAt}
 use Rattle.blazes_commands.specs.Code.Runs.{TellsStatus}
-use Rattle.blazes_commands.specs.declared.reply.Reply.{Reply}
-use Rattle.blazes_commands.specs.declared.stop.Stop.{Stop}
-use Rattle.blazes_commands.specs.declared.stop.Stop.TheVariants.{NoMemory}
+use Rattle.command_files.specs.declared.reply.Reply.{Reply}
+use Rattle.command_files.specs.declared.stop.Stop.{Stop}
+use Rattle.command_files.specs.declared.stop.Stop.TheVariants.{NoMemory}
 
 -- the text of these lines, under the status of whatever execution the books stand for
 pub record PrintsBooks (v : View) (b : Books) (lines : List Line) (answer : Answer) : Type 0 where

@@ -3,21 +3,23 @@ use Rattle.std.specs.Prelude.{◌≡◌, List, Result, Ok, Err}
 use Rattle.topo_types.specs.Data.{Data}
 use Rattle.topo_types.specs.View.{View}
 use Rattle.inbox.specs.Events.{Step}
-use Rattle.sched_run.specs.Net.{BooksStand, execution_in}
-use Rattle.sched_run.specs.declared.books.Books.{Books}
+use Rattle.sched_hear.specs.Net.{BooksStand, execution_in}
+use Rattle.sched_hear.specs.declared.books.Books.{Books}
 use Rattle.blazes_commands.specs.Bench.{BenchStates, HasSameKinds}
-use Rattle.sched_run.specs.declared.applying.EventRefusal.{EventRefusal}
+use Rattle.sched_make.specs.declared.applying.EventRefusal.{EventRefusal}
 use Rattle.blz_boxes.specs.declared.kind.ProgramKind.{ProgramKind}
 use Rattle.blazes_commands.specs.Checks as check
 use Rattle.blazes_commands.specs.Checks.{event_refusal}
-use Rattle.blazes_commands.specs.Commands.{Answer, HasContents, IsStatusOf, Work, running}
-use Rattle.blazes_commands.specs.Script.{Bytes, Script, ◌>>=◌}
-use Rattle.blazes_commands.specs.Ends.{Source, files_states}
-use Rattle.blazes_commands.specs.Code.Ran.{answer_of, IsStopAt, Replies}
-use Rattle.blazes_commands.specs.declared.reply.Reply.{Reply}
-use Rattle.blazes_commands.specs.declared.status.Status.{Status}
-use Rattle.blazes_commands.specs.declared.stop.Stop.{Stop}
-use Rattle.blazes_commands.specs.declared.stop.Stop.TheVariants.{Refused, Failed, NoMemory}
+use Rattle.command_files.specs.Reply.{Answer}
+use Rattle.blazes_commands.specs.Commands.{HasContents, IsStatusOf, Work, running}
+use Rattle.command_files.specs.Script.{Bytes, Script, ◌>>=◌}
+use Rattle.command_files.specs.Ends.{Source, files_states}
+use Rattle.command_files.specs.Ran.{answer_of, IsStopAt}
+use Rattle.blazes_commands.specs.Code.Ran.{Replies}
+use Rattle.command_files.specs.declared.reply.Reply.{Reply}
+use Rattle.command_files.specs.declared.status.Status.{Status}
+use Rattle.command_files.specs.declared.stop.Stop.{Stop}
+use Rattle.command_files.specs.declared.stop.Stop.TheVariants.{Refused, Failed, NoMemory}
 
 -- the status of whatever execution the books stand for
 abbrev pub TellsStatus : View → Books → Status → Type 0

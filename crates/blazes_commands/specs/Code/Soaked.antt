@@ -3,14 +3,15 @@ use Rattle.std.specs.Prelude.{ℕ, List, Result}
 use Rattle.topo_types.specs.Data.{Data}
 use Rattle.topo_types.specs.View.{View}
 use Rattle.inbox.specs.Events.{Step}
-use Rattle.sched_run.specs.Applying.{Line}
-use Rattle.sched_run.specs.Net.{BooksStand, execution_in}
-use Rattle.sched_run.specs.declared.books.Books.{Books}
-use Rattle.sched_run.specs.declared.fault.MakeFault.{MakeFault}
-use Rattle.blazes_commands.specs.Commands.{Answer, HasSummary}
+use Rattle.sched_make.specs.Applying.{Line}
+use Rattle.sched_hear.specs.Net.{BooksStand, execution_in}
+use Rattle.sched_hear.specs.declared.books.Books.{Books}
+use Rattle.sched_make.specs.declared.fault.MakeFault.{MakeFault}
+use Rattle.command_files.specs.Reply.{Answer}
+use Rattle.blazes_commands.specs.Commands.{HasSummary}
 use Rattle.blazes_commands.specs.Code.Made.{IsMade}
-use Rattle.blazes_commands.specs.declared.reply.Reply.{Reply}
-use Rattle.blazes_commands.specs.declared.stop.Stop.{Stop}
+use Rattle.command_files.specs.declared.reply.Reply.{Reply}
+use Rattle.command_files.specs.declared.stop.Stop.{Stop}
 
 -- the summary of whatever execution the books stand for
 abbrev pub SumsBooks : (batches : ℕ) → View → Books → Answer → Type 0

@@ -2,7 +2,7 @@
 use Rattle.std.specs.Prelude.{◌≡◌, ◌≤◌, List, length}
 use Rattle.bloom_ast.specs.declared.module.Collection.{Collection}
 use Rattle.bloom_ast.specs.declared.numbering.NumberedPart.{NumberedPart}
-use Rattle.bloom_ast.specs.Code.Borrowed.{names_in}
+use Rattle.bloom_ast.specs.Borrowed.{names_in}
 use Rattle.bloom_ast.specs.Columns.{columns_of}
 use Rattle.bloom_ast.specs.Lookup.{declared}
 use Rattle.bloom_ast.specs.Numbered.{IsNumbered}

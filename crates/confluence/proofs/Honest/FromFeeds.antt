@@ -15,7 +15,7 @@ use Rattle.inbox.specs.Timesteps.{is_whole}
 use Rattle.inbox.specs.Wiring.{Wiring}
 use Rattle.inbox.specs.Executions.{Execution, emitted_list}
 use Rattle.inbox.specs.Growth.{feed_numbered, ComesFrom}
-use Rattle.inbox.proofs.MessagesLemmas.{is_same_row-itself}
+use Rattle.messages.proofs.MessagesLemmas.{is_same_row-itself}
 use Rattle.inbox.proofs.TimestepLemmas.Entries.{heard_entry}
 use Rattle.confluence.specs.Honest.{IsHonest}
 use Rattle.confluence.specs.Partitions.{IsFed}

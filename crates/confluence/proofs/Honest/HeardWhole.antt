@@ -19,7 +19,7 @@ use Rattle.inbox.specs.Timesteps.{is_whole, from_feed}
 use Rattle.inbox.specs.Wiring.{Wiring}
 use Rattle.inbox.specs.Executions.{Execution, emitted_list}
 use Rattle.inbox.specs.Growth.{feed_numbered, ComesFrom}
-use Rattle.inbox.proofs.MessagesLemmas.{is_same_row-itself}
+use Rattle.messages.proofs.MessagesLemmas.{is_same_row-itself}
 use Rattle.inbox.proofs.TimestepLemmas.Whole.{whole-seal}
 use Rattle.inbox.proofs.TimestepLemmas.UnderSeal.{of_key-is}
 use Rattle.inbox.proofs.TimestepLemmas.Entries.{entry_heard, heard_entry, Has-rows_in, Has-from_rows_in}

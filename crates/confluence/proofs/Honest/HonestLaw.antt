@@ -26,7 +26,7 @@ use Rattle.inbox.specs.Executions.{Execution, list_from, emitted_list}
 use Rattle.inbox.specs.Growth.{feed_numbered, NoRepeats}
 use Rattle.inbox.proofs.Lists.Repeats.{no_repeats-emitted_by}
 use Rattle.inbox.proofs.Lists.Rows.{life_rows, rows_of_list}
-use Rattle.inbox.proofs.MessagesLemmas.{is_same_row-is}
+use Rattle.messages.proofs.MessagesLemmas.{is_same_row-is}
 use Rattle.inbox.proofs.WiringLemmas.{instance-wired, stream-wired, instance-feeds, length-below, port_of-feed}
 use Rattle.stream_deps.specs.Sent.{IsHistory}
 use Rattle.stream_deps.proofs.Streams.CarriedKeys.{carries-from, key_of_source, may_carry-is, carried_output, carried_at, not_ordered, comes_lower, output_places, port_places}

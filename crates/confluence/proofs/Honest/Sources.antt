@@ -13,7 +13,7 @@ use Rattle.topo_types.specs.View.{Stream}
 use Rattle.inbox.specs.Growth.{NoRepeats, is_repeat_of}
 use Rattle.inbox.proofs.Lists.Repeats.{no_repeats-after, no_repeats-source}
 use Rattle.inbox.proofs.Lists.Rows.{rows_in-append}
-use Rattle.inbox.proofs.MessagesLemmas.{is_same_row-itself}
+use Rattle.messages.proofs.MessagesLemmas.{is_same_row-itself}
 use Rattle.confluence.specs.Honest.{IsHonest}
 
 -- ---- lists without repeats

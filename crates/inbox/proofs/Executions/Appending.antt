@@ -6,7 +6,7 @@ use Rattle.std.proofs.lemmas.List.{map-append}
 use Rattle.std.proofs.lemmas.List.Sums.{fold-append}
 use Rattle.std.proofs.lemmas.Grind.{flat_map-append}
 use Rattle.std.proofs.Math.Seq.{take-suc}
-use Rattle.inbox.specs.Messages.{Pair, Batch, Entry, all_pairs}
+use Rattle.messages.specs.Messages.{Pair, Batch, Entry, all_pairs}
 use Rattle.topo_types.specs.View.{is_order_mode}
 use Rattle.inbox.specs.Instances.{Instance}
 use Rattle.inbox.specs.Timesteps.{SetOff, set_off, each_after, each_set_off, timesteps}

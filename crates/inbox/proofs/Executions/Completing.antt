@@ -14,12 +14,12 @@ use Rattle.topo_types.specs.Data.{Data}
 use Rattle.topo_types.specs.Feeds.{Feed, no_feed}
 use Rattle.topo_types.specs.View.{is_order_mode}
 use Rattle.topo_types.specs.Messages.{Message, rows_in}
-use Rattle.inbox.specs.Messages.{Pair, is_same_pair, is_same_entry, all_pairs}
+use Rattle.messages.specs.Messages.{Pair, is_same_pair, is_same_entry, all_pairs}
 use Rattle.inbox.specs.Wiring.{Wiring, instances_at, instance_at, is_there, is_sequencer}
 use Rattle.inbox.specs.Executions.{Execution, emitted_list}
 use Rattle.inbox.specs.Completeness.{unheard, undelivered, unordered, untaken, left_of, left_out, left_at, IsComplete}
 use Rattle.inbox.specs.Growth.{feed_numbered}
-use Rattle.inbox.proofs.MessagesLemmas.{is_same_pair-is, is_same_pair-itself, is_same_entry-is, is_same_entry-itself, same-from_any}
+use Rattle.messages.proofs.MessagesLemmas.{is_same_pair-is, is_same_pair-itself, is_same_entry-is, is_same_entry-itself, same-from_any}
 
 -- ---- sums that are 0
 

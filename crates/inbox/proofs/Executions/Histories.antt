@@ -3,7 +3,7 @@ use Rattle.std.proofs.Common.{◌≡◌, refl, subst, ℕ, ◌&&◌, nat_lt, tru
 use Rattle.std.specs.Prelude.{Result, Ok, Err}
 use Rattle.std.specs.List.{fold}
 use Rattle.topo_types.specs.Data.{Data}
-use Rattle.inbox.specs.Messages.{Pair}
+use Rattle.messages.specs.Messages.{Pair}
 use Rattle.topo_types.specs.View.{is_order_mode}
 use Rattle.inbox.specs.Lives.{hear_batch, take_entry, forget_all}
 use Rattle.inbox.specs.Wiring.{Wiring, instance_at, is_there, is_sequencer}

@@ -9,7 +9,7 @@ use Rattle.blz_value.specs.Members.{Has}
 use Rattle.blz_value.proofs.Membership.{Has-append_left, Has-append_right, Has-append_cases}
 use Rattle.topo_types.specs.Data.{Data}
 use Rattle.topo_types.specs.Messages.{Message, row, seal}
-use Rattle.inbox.specs.Messages.{Batch, Entry, is_same_entry, with_new, all_pairs}
+use Rattle.messages.specs.Messages.{Batch, Entry, is_same_entry, with_new, all_pairs}
 use Rattle.topo_types.specs.View.{is_order_mode, Stream}
 use Rattle.inbox.specs.Instances.{Instance}
 use Rattle.inbox.specs.Timesteps.{each_set_off, set_off}

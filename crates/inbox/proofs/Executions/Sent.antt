@@ -9,7 +9,7 @@ use Rattle.blz_value.proofs.Membership.{Has-append_left, Has-append_right, Has-a
 use Rattle.topo_types.specs.Data.{Data}
 use Rattle.topo_types.specs.Feeds.{Feed, no_feed}
 use Rattle.topo_types.specs.Messages.{Message, row, seal}
-use Rattle.inbox.specs.Messages.{Pair, Batch, Entry, is_same_entry, with_new}
+use Rattle.messages.specs.Messages.{Pair, Batch, Entry, is_same_entry, with_new}
 use Rattle.inbox.specs.Instances.{Instance}
 use Rattle.inbox.specs.Lives.{Life, Lives, empty_life, all_lives, hear_batch, take_entry, forget_all}
 use Rattle.inbox.specs.Wiring.{Wiring, instance_at}
@@ -17,7 +17,7 @@ use Rattle.inbox.specs.Executions.{Execution, first_execution, with_lives, emitt
 use Rattle.inbox.specs.Growth.{Continues, IsExtendedBy, TakesWithinLogs, feed_numbered, ComesFrom, HearsWhatIsSent, EntryComesFrom, WasSentBefore}
 use Rattle.inbox.specs.Laws.{IsSent, AllWasSentBefore}
 use Rattle.inbox.specs.Events.{Part, Step}
-use Rattle.inbox.proofs.MessagesLemmas.{is_same_entry-is, is_same_entry-itself, Has-from_with_new}
+use Rattle.messages.proofs.MessagesLemmas.{is_same_entry-is, is_same_entry-itself, Has-from_with_new}
 use Rattle.inbox.proofs.Executions.Results.{Ok_same, and_then_Ok}
 use Rattle.inbox.proofs.Executions.Histories.{Changes, hears, logs, takes, forgets, step_changes, by_history}
 use Rattle.inbox.proofs.Executions.Lengthening.{same_numbers, with_logged-lives, step_takes, begun_takes, step_grows}

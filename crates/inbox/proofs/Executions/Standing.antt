@@ -5,7 +5,7 @@ use Rattle.std.specs.List.{fold}
 use Rattle.topo_types.specs.Data.{Data}
 use Rattle.topo_types.specs.View.{is_order_mode, Stream}
 use Rattle.topo_types.specs.Messages.{Message}
-use Rattle.inbox.specs.Messages.{Batch, Entry, all_pairs}
+use Rattle.messages.specs.Messages.{Batch, Entry, all_pairs}
 use Rattle.inbox.specs.Instances.{Instance}
 use Rattle.inbox.specs.Timesteps.{set_off}
 use Rattle.inbox.specs.Emission.{list_of, emit, begin_life, nothing_emitted}

@@ -13,21 +13,21 @@ use Rattle.blz_value.proofs.Membership.{Has-append_cases, any_from_Has}
 use Rattle.blz_value.proofs.SetLaws.{Has-set_of, Has-from_set_of}
 use Rattle.topo_types.specs.Messages.{Message, row, seal, is_same_row, row_in}
 use Rattle.topo_types.proofs.Regions.Spreading.{same_truth}
-use Rattle.inbox.specs.Messages.{Pair, Batch, Entry}
+use Rattle.messages.specs.Messages.{Pair, Batch, Entry}
 use Rattle.inbox.specs.Instances.{Instance, port_of_feed, entries_of, key_of_entry}
 use Rattle.inbox.specs.Timesteps.{is_whole, is_due}
-use Rattle.inbox.specs.Log.{EntryId, is_same_entry_id, row_with_id}
-use Rattle.inbox.specs.Code.Feeds.{feed_count, port_in, key_in, HearsSeal, IsOneChanged}
+use Rattle.messages.specs.Log.{EntryId, is_same_entry_id, row_with_id}
+use Rattle.messages.specs.Feeds.{feed_count, port_in, key_in, HearsSeal, IsOneChanged}
 use Rattle.inbox.specs.Code.Batches.{open_key, is_open, HearsIf, HearsRecord, WaitsWith, AllWaitWith}
 use Rattle.inbox.specs.Code.Heard.{FeedsHeard, WaitingHeard, IsIdle}
 use Rattle.inbox.specs.Code.Waiting.{KeepsEntry}
 use Rattle.inbox.specs.Inbox.{Keeps, IsFrom}
-use Rattle.inbox.specs.declared.hearing.feed.Feed.{Feed}
-use Rattle.inbox.specs.declared.hearing.feeds.Feeds.{Feeds}
-use Rattle.inbox.specs.declared.hearing.waiting.Waiting.{Waiting}
+use Rattle.messages.specs.declared.feed.Feed.{Feed}
+use Rattle.messages.specs.declared.feeds.Feeds.{Feeds}
+use Rattle.inbox.specs.declared.waiting.Waiting.{Waiting}
 use Rattle.inbox.specs.declared.inbox.Inbox.{Inbox}
-use Rattle.inbox.proofs.LogLemmas.{one_id, is_same_entry_id-is, is_same_entry_id-itself}
-use Rattle.inbox.proofs.MessagesLemmas.{Has-from_with_new, is_same_row-is, is_same_row-itself, any-from_same, same-from_any}
+use Rattle.messages.proofs.LogLemmas.{one_id, is_same_entry_id-is, is_same_entry_id-itself}
+use Rattle.messages.proofs.MessagesLemmas.{Has-from_with_new, is_same_row-is, is_same_row-itself, any-from_same, same-from_any}
 use Rattle.inbox.proofs.TimestepLemmas.Touching.{is_touching}
 use Rattle.inbox.proofs.TimestepLemmas.UnderSeal.{is-of_key}
 use Rattle.inbox.proofs.TimestepLemmas.Whole.{entries_of-append}

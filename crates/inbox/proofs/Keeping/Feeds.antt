@@ -21,19 +21,19 @@ use Rattle.blz_value.proofs.RowSets.{set_of-push, set_of-push_present, length-in
 use Rattle.blz_value.proofs.SetLaws.{Has-from_set_of}
 use Rattle.topo_types.specs.Messages.{Message, row, seal, is_same_row}
 use Rattle.topo_types.proofs.Regions.Spreading.{same_truth}
-use Rattle.inbox.specs.Messages.{Pair, Entry}
+use Rattle.messages.specs.Messages.{Pair, Entry}
 use Rattle.inbox.specs.Instances.{PortKey, Instance, port_of_feed, is_carrying, entries_of, key_of_entry, is_of_key}
 use Rattle.inbox.specs.Timesteps.{is_seal_within, from_feed}
-use Rattle.inbox.specs.Log.{row_with_id}
-use Rattle.inbox.specs.Code.Counts.{is_met}
-use Rattle.inbox.specs.Code.Ports.{port_keys}
-use Rattle.inbox.specs.Code.Feeds.{feed_count, port_in, key_in, carries_in, FeedHearsRow, FeedHearsSeal, HearsRow, HearsSeal, IsOneChanged}
+use Rattle.messages.specs.Log.{row_with_id}
+use Rattle.messages.specs.Counts.{is_met}
+use Rattle.messages.specs.Ports.{port_keys}
+use Rattle.messages.specs.Feeds.{feed_count, port_in, key_in, carries_in, FeedHearsRow, FeedHearsSeal, HearsRow, HearsSeal, IsOneChanged}
 use Rattle.inbox.specs.Code.Heard.{keyed_rows, count_sent, FeedHeard, FeedsHeard}
-use Rattle.inbox.specs.declared.hearing.feed.Feed.{Feed}
-use Rattle.inbox.specs.declared.hearing.feeds.Feeds.{Feeds}
-use Rattle.inbox.specs.declared.hearing.port.Port.{Port}
-use Rattle.inbox.proofs.LogLemmas.{IsOneId, same_row-same_id}
-use Rattle.inbox.proofs.MessagesLemmas.{is_same_row-is, is_same_row-itself, any-from_same, same-from_any}
+use Rattle.messages.specs.declared.feed.Feed.{Feed}
+use Rattle.messages.specs.declared.feeds.Feeds.{Feeds}
+use Rattle.messages.specs.declared.port.Port.{Port}
+use Rattle.messages.proofs.LogLemmas.{IsOneId, same_row-same_id}
+use Rattle.messages.proofs.MessagesLemmas.{is_same_row-is, is_same_row-itself, any-from_same, same-from_any}
 use Rattle.inbox.proofs.TimestepLemmas.Entries.{heard_entry}
 use Rattle.inbox.proofs.TimestepLemmas.UnderSeal.{of_key-is, is-of_key}
 use Rattle.inbox.proofs.TimestepLemmas.Whole.{entries_of-append}

@@ -1,28 +1,25 @@
 -- An inbox that heard nothing, or forgot all of it, stands for no batches.
-use Rattle.std.proofs.Common.{◌≡◌, ◌≢◌, refl, ap, sym, subst, set, ◌∙◌, ℕ, zero, suc, ◌+◌, ◌<◌, ◌≤◌, ◌||◌, Bool, true, false, not, cond, List, [], ◌∷◌, ◌++◌, length, map, filter, arith, inl, inr, get_or}
-use Rattle.std.specs.List.{flat_map, list_any, range_with_len, slice_get}
-use Rattle.std.proofs.lemmas.List.{map-append}
+use Rattle.std.proofs.Common.{◌≡◌, refl, ap, sym, subst, ◌∙◌, ℕ, zero, suc, ◌+◌, ◌<◌, ◌||◌, Bool, true, false, not, cond, List, [], ◌∷◌, length, map, filter, arith, get_or}
+use Rattle.std.specs.List.{list_any, range_with_len, slice_get}
 use Rattle.std.specs.Option.{option_map_or}
-use Rattle.std.proofs.lemmas.Bool.Decides.{eqb_tells}
-use Rattle.std.proofs.lemmas.List.{get_or-set_same, get_or-set_other}
 use Rattle.blz_value.specs.Members.{Has}
 use Rattle.blz_value.specs.Record.{Row}
 use Rattle.blz_value.proofs.Membership.{Has-get_or}
-use Rattle.topo_types.specs.Feeds.{Feed as TopoFeed, feeds, feeds_at, feeds_from, paired_senders, log_feeds, no_feed}
-use Rattle.topo_types.specs.View.{View, streams_to, is_order, is_order_mode, mode_of, mode_key, port_numbers}
-use Rattle.inbox.specs.Messages.{Pair, Batch, Entry, all_pairs}
+use Rattle.topo_types.specs.Feeds.{Feed as TopoFeed, feeds, log_feeds, no_feed}
+use Rattle.topo_types.specs.View.{View, is_order, is_order_mode, mode_of, mode_key, port_numbers}
+use Rattle.messages.specs.Messages.{Pair, Batch, Entry, all_pairs}
 use Rattle.inbox.specs.Instances.{Instance, PortKey, port_of_feed, is_carrying}
 use Rattle.inbox.specs.Timesteps.{is_some_feed, is_due}
 use Rattle.inbox.specs.Wiring.{instance_for, port_for}
-use Rattle.inbox.specs.Log.{EntryId, entries_with_ids}
-use Rattle.inbox.specs.Code.Ports.{port_keys}
+use Rattle.messages.specs.Log.{EntryId, entries_with_ids}
+use Rattle.messages.specs.Ports.{port_keys}
 use Rattle.inbox.specs.Code.Places.{places_of}
-use Rattle.inbox.specs.Code.Feeds.{feed_count, IsFreshFeed, carries_at, IsFresh, IsCleared}
+use Rattle.messages.specs.Feeds.{feed_count, IsFreshFeed, carries_at, IsFresh, IsCleared}
 use Rattle.inbox.specs.Code.Heard.{FeedHeard, FeedsHeard, WaitingHeard, is_sealing}
 use Rattle.inbox.specs.Inbox.{Keeps, HasHeard}
-use Rattle.inbox.specs.declared.hearing.feed.Feed.{Feed}
-use Rattle.inbox.specs.declared.hearing.feeds.Feeds.{Feeds}
-use Rattle.inbox.specs.declared.hearing.waiting.Waiting.{Waiting}
+use Rattle.messages.specs.declared.feed.Feed.{Feed}
+use Rattle.messages.specs.declared.feeds.Feeds.{Feeds}
+use Rattle.inbox.specs.declared.waiting.Waiting.{Waiting}
 use Rattle.inbox.specs.declared.inbox.Inbox.{Inbox}
 use Rattle.inbox.proofs.WiringLemmas.{instance-feeds, instance-ports, port_of-feed}
 
@@ -146,29 +143,3 @@ has_none v c j records x hears mode ports feed_ports ports_are feeds_are fresh l
     let into = instance-feeds v c j (get_or i.feeds feed no_feed) (Has-get_or i.feeds feed no_feed within) in
     subst (λ n. n < length i.ports) (sym (port_of-feed i feed within)) (subst (λ n. (get_or i.feeds feed no_feed).port < n) (sym (instance-ports v c j)) into.port)))
     log places held
-
--- ---- feeds cleared one by one
-
-pub cleared_more : (first now : List Feed) (n : ℕ) (was f : Feed) → n < length now → was ≡ get_or now n was → IsFreshFeed was.port was.carries f
-    → ((k : ℕ) (d : Feed) → k < n → IsFreshFeed (get_or first k d).port (get_or first k d).carries (get_or now k d))
-    → ((k : ℕ) (d : Feed) → n ≤ k → get_or now k d ≡ get_or first k d)
-    → (k : ℕ) (d : Feed) → k < n + 1 → IsFreshFeed (get_or first k d).port (get_or first k d).carries (get_or (set now n f) k d)
-cleared_more first now n was f within is fresh before others k d below = elim (eqb_tells n k) [
-  | inl one ↦
-      let e : n ≡ k = one.1 in
-      let at : get_or first n d ≡ was = sym (others n d (omega arith)) ∙ same_default now n d was within ∙ sym is in
-      subst (λ (m : ℕ). IsFreshFeed (get_or first m d).port (get_or first m d).carries (get_or (set now n f) m d)) e
-      (subst (λ (x : Feed). IsFreshFeed x.port x.carries (get_or (set now n f) n d)) (sym at)
-      (subst (λ (x : Feed). IsFreshFeed was.port was.carries x) (sym (get_or-set_same now n f d within)) fresh))
-  | inr apart ↦
-      let less : k < n = (let no_one : n ≢ k = apart.1 in omega arith) in
-      subst (λ (x : Feed). IsFreshFeed (get_or first k d).port (get_or first k d).carries x) (sym (get_or-set_other now n k f d (λ e. apart.1 (sym e)))) (before k d less)
-]
-  where
-    same_default : (xs : List Feed) (k : ℕ) (c d : Feed) → k < length xs → get_or xs k c ≡ get_or xs k d
-    same_default [] k c d less = absurd (omega arith)
-    same_default (x ∷ xs) zero c d less = refl
-    same_default (x ∷ xs) (suc k) c d less = same_default xs k c d (omega arith)
-
-pub others_more : (first now : List Feed) (n : ℕ) (f : Feed) → ((k : ℕ) (d : Feed) → n ≤ k → get_or now k d ≡ get_or first k d) → (k : ℕ) (d : Feed) → n + 1 ≤ k → get_or (set now n f) k d ≡ get_or first k d
-others_more first now n f others k d above = get_or-set_other now n k f d (let apart : k ≢ n = omega arith in apart) ∙ others k d (omega arith)

@@ -17,26 +17,26 @@ use Rattle.topo_types.specs.declared.mode.Mode.TheVariants as mode
 use Rattle.topo_types.specs.Messages.{row_in}
 use Rattle.topo_types.specs.View.{is_order_mode}
 use Rattle.topo_types.proofs.Regions.Spreading.{same_truth}
-use Rattle.inbox.specs.Messages.{Pair, Batch, Entry, is_same_entry, all_pairs, firsts}
+use Rattle.messages.specs.Messages.{Pair, Batch, Entry, is_same_entry, all_pairs, firsts}
 use Rattle.inbox.specs.Instances.{Instance, port_of_feed, is_carrying, entry_of, entries_of}
 use Rattle.inbox.specs.Timesteps.{is_due, is_of_some, timestep_of, one_timestep, one_by_one, first_part, second_part, newly_whole, steps_in, held_count}
-use Rattle.inbox.specs.Ids.{message_with_id, pair_with_id, batch_with_ids, IsGiven}
-use Rattle.inbox.specs.Log.{EntryId, AreGiven, is_same_entry_id, row_with_id, entry_with_id, entries_with_ids}
-use Rattle.inbox.specs.Code.Feeds.{feed_count, port_count, port_in, key_in, carries_in, is_whole_in, is_due_in}
+use Rattle.messages.specs.Ids.{message_with_id, pair_with_id, batch_with_ids, IsGiven}
+use Rattle.messages.specs.Log.{EntryId, AreGiven, is_same_entry_id, row_with_id, entry_with_id, entries_with_ids}
+use Rattle.messages.specs.Feeds.{feed_count, port_count, port_in, key_in, carries_in, is_whole_in, is_due_in}
 use Rattle.inbox.specs.Code.Batches.{AllWaitWith, id_in, entry_ids_of, goes_in, open_key, steps_released, Releases}
 use Rattle.inbox.specs.Code.Heard.{FeedsHeard, WaitingHeard, IsIdle, is_sealing, is_place_of}
-use Rattle.inbox.specs.Code.Ports.{port_keys}
+use Rattle.messages.specs.Ports.{port_keys}
 use Rattle.inbox.specs.Code.Places.{places_of}
 use Rattle.inbox.specs.Code.Waiting.{released_of}
 use Rattle.inbox.specs.Inbox.{Keeps, HasHeard}
-use Rattle.inbox.specs.declared.message.Message.{Message as IdMessage}
-use Rattle.inbox.specs.declared.message.Message.TheVariants.{Row, Seal}
-use Rattle.inbox.specs.declared.hearing.feeds.Feeds.{Feeds}
-use Rattle.inbox.specs.declared.hearing.port.Port.{Port}
-use Rattle.inbox.specs.declared.hearing.waiting.Waiting.{Waiting}
+use Rattle.messages.specs.declared.message.Message.{Message as IdMessage}
+use Rattle.messages.specs.declared.message.Message.TheVariants.{Row, Seal}
+use Rattle.messages.specs.declared.feeds.Feeds.{Feeds}
+use Rattle.messages.specs.declared.port.Port.{Port}
+use Rattle.inbox.specs.declared.waiting.Waiting.{Waiting}
 use Rattle.inbox.specs.declared.inbox.Inbox.{Inbox}
-use Rattle.inbox.proofs.LogLemmas.{one_id, any-with_ids}
-use Rattle.inbox.proofs.MessagesLemmas.{is_same_entry-is, is_same_entry-itself, any-from_same, same-from_any, Has-firsts, Has-from_firsts}
+use Rattle.messages.proofs.LogLemmas.{one_id, any-with_ids}
+use Rattle.messages.proofs.MessagesLemmas.{is_same_entry-is, is_same_entry-itself, any-from_same, same-from_any, Has-firsts, Has-from_firsts}
 use Rattle.inbox.proofs.TimestepLemmas.AtOnce.{GoesAtOnce}
 use Rattle.inbox.proofs.TimestepLemmas.Held.{filter_same, seal_held, at_once_held}
 use Rattle.inbox.proofs.TimestepLemmas.UnderSeal.{all_pairs-more}

@@ -12,19 +12,19 @@ use Rattle.blz_value.specs.Record.{Row}
 use Rattle.blz_value.proofs.Membership.{Has-get_or}
 use Rattle.topo_types.specs.Messages.{is_same_row}
 use Rattle.topo_types.proofs.Regions.Spreading.{same_truth}
-use Rattle.inbox.specs.Messages.{Pair, Entry, all_pairs}
+use Rattle.messages.specs.Messages.{Pair, Entry, all_pairs}
 use Rattle.inbox.specs.Instances.{Instance, is_of_key}
 use Rattle.inbox.specs.Timesteps.{from_feed}
-use Rattle.inbox.specs.Log.{EntryId, AreGiven, row_with_id, entry_with_id, entries_with_ids}
+use Rattle.messages.specs.Log.{EntryId, AreGiven, row_with_id, entry_with_id, entries_with_ids}
 use Rattle.inbox.specs.Code.Heard.{keyed_rows, FeedHeard, FeedsHeard, WaitingHeard, is_place_of}
 use Rattle.inbox.specs.Inbox.{Keeps}
 use Rattle.inbox.specs.Pools.{IsLater, PlacedIsLater, LaterInSteps, StandsLater, KeepsLater, GivenLater, ReadsLater}
-use Rattle.inbox.specs.declared.hearing.feed.Feed.{Feed}
-use Rattle.inbox.specs.declared.hearing.feeds.Feeds.{Feeds}
-use Rattle.inbox.specs.declared.hearing.waiting.Waiting.{Waiting}
+use Rattle.messages.specs.declared.feed.Feed.{Feed}
+use Rattle.messages.specs.declared.feeds.Feeds.{Feeds}
+use Rattle.inbox.specs.declared.waiting.Waiting.{Waiting}
 use Rattle.inbox.specs.declared.inbox.Inbox.{Inbox}
-use Rattle.inbox.proofs.LogLemmas.{one_id}
-use Rattle.inbox.proofs.MessagesLemmas.{is_same_row-is, is_same_row-itself, same-from_any}
+use Rattle.messages.proofs.LogLemmas.{one_id}
+use Rattle.messages.proofs.MessagesLemmas.{is_same_row-is, is_same_row-itself, same-from_any}
 
 -- the id of a record that the pool has
 id_in_pool : (records : List Row) (r : Row) → Has r records → (id : ℕ) × (id < length records) × (get_or records id [] ≡ r)

@@ -14,15 +14,15 @@ use Rattle.bloom_ast.specs.Step.{Sets}
 use Rattle.blz_value.proofs.RowSets.{set_of-push}
 use Rattle.path_annotate.specs.Roots.{are_same}
 use Rattle.topo_types.specs.Data.{place_of_attribute}
-use Rattle.inbox.specs.Ids.{pair_with_id, batch_with_ids}
-use Rattle.inbox.specs.Messages.{Pair}
-use Rattle.inbox.specs.Log.{EntryId, AreGiven}
+use Rattle.messages.specs.Ids.{pair_with_id, batch_with_ids}
+use Rattle.messages.specs.Messages.{Pair}
+use Rattle.messages.specs.Log.{EntryId, AreGiven}
 use Rattle.inbox.specs.Code.Places.{places_of}
 use Rattle.inbox.specs.Code.Waiting.{released_of}
 use Rattle.inbox.specs.Code.Batches.{open_key, with_key, entry_id_of, entry_ids_of, steps_released, Releases}
-use Rattle.inbox.specs.declared.message.Message.{Message}
-use Rattle.inbox.specs.declared.hearing.feeds.Feeds.{Feeds}
-use Rattle.inbox.specs.declared.hearing.waiting.Waiting.{Waiting}
+use Rattle.messages.specs.declared.message.Message.{Message}
+use Rattle.messages.specs.declared.feeds.Feeds.{Feeds}
+use Rattle.inbox.specs.declared.waiting.Waiting.{Waiting}
 use Rattle.inbox.specs.declared.inbox.Inbox.{Inbox}
 use Rattle.inbox.proofs.TimestepLemmas.Whole.{Has-from_filter_map}
 

@@ -10,15 +10,15 @@ use Rattle.blz_value.specs.Members.{Has}
 use Rattle.blz_value.specs.Record.{Row}
 use Rattle.blz_value.proofs.Membership.{Has-append_left, Has-append_right, Has-append_cases}
 use Rattle.topo_types.specs.Messages.{row, seal, is_same_row}
-use Rattle.inbox.specs.Messages.{Pair, Entry, is_same_entry, with_new, firsts}
+use Rattle.messages.specs.Messages.{Pair, Entry, is_same_entry, with_new, firsts}
 use Rattle.inbox.specs.Instances.{Instance, port_of_feed, entries_of, key_of_entry, is_of_key}
-use Rattle.inbox.specs.Log.{EntryId, AreGiven, is_same_entry_id, row_with_id, entry_with_id, entries_with_ids}
+use Rattle.messages.specs.Log.{EntryId, AreGiven, is_same_entry_id, row_with_id, entry_with_id, entries_with_ids}
 use Rattle.inbox.specs.Code.Places.{places_of}
 use Rattle.inbox.specs.Code.Waiting.{KeepsEntry, has_key}
 use Rattle.inbox.specs.Code.Heard.{WaitingHeard, is_place_of}
-use Rattle.inbox.specs.declared.hearing.waiting.Waiting.{Waiting}
-use Rattle.inbox.proofs.LogLemmas.{IsOneId, is_same_entry_id-is, is_same_entry_id-itself, with_new-with_ids}
-use Rattle.inbox.proofs.MessagesLemmas.{Has-from_with_new, firsts-more, is_same_entry-is, is_same_entry-itself}
+use Rattle.inbox.specs.declared.waiting.Waiting.{Waiting}
+use Rattle.messages.proofs.LogLemmas.{IsOneId, is_same_entry_id-is, is_same_entry_id-itself, with_new-with_ids}
+use Rattle.messages.proofs.MessagesLemmas.{Has-from_with_new, firsts-more, is_same_entry-is, is_same_entry-itself}
 use Rattle.inbox.proofs.TimestepLemmas.Whole.{entries_of-append}
 use Rattle.inbox.proofs.Keeping.Feeds.{same_row-turned}
 

@@ -18,15 +18,15 @@ use Rattle.blz_value.proofs.Membership.{Has-filter, Has-from_filter, Has-flat_ma
 use Rattle.blz_value.proofs.RowSets.{same_set_of}
 use Rattle.blz_value.proofs.SetLemmas.{sorted_set_by, Has-from_set_by, Has-set_by, same_sorted}
 use Rattle.topo_types.specs.Messages.{is_same_row}
-use Rattle.inbox.specs.Messages.{Pair, Batch, Entry, is_same_entry, with_new, firsts}
+use Rattle.messages.specs.Messages.{Pair, Batch, Entry, is_same_entry, with_new, firsts}
 use Rattle.inbox.specs.Instances.{Instance, is_carrying, key_of_entry, is_of_key}
 use Rattle.inbox.specs.Timesteps.{is_whole, is_due, is_of_some, timestep_of, one_by_one, released_steps, newly_whole}
-use Rattle.inbox.specs.Log.{EntryId, entry_with_id, entries_with_ids}
+use Rattle.messages.specs.Log.{EntryId, entry_with_id, entries_with_ids}
 use Rattle.inbox.specs.Code.Places.{places_of}
 use Rattle.inbox.specs.Code.Waiting.{released_of}
 use Rattle.inbox.specs.Code.Heard.{WaitingHeard}
-use Rattle.inbox.specs.declared.hearing.waiting.Waiting.{Waiting}
-use Rattle.inbox.proofs.MessagesLemmas.{is_same_entry-is, is_same_entry-itself, Has-firsts, Has-from_firsts}
+use Rattle.inbox.specs.declared.waiting.Waiting.{Waiting}
+use Rattle.messages.proofs.MessagesLemmas.{is_same_entry-is, is_same_entry-itself, Has-firsts, Has-from_firsts}
 use Rattle.inbox.proofs.TimestepLemmas.Whole.{BecomesWhole, newly-becomes, becomes-newly, whole-more}
 use Rattle.inbox.proofs.TimestepLemmas.UnderSeal.{of_key-is, is-of_key}
 

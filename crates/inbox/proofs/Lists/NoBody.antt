@@ -3,7 +3,7 @@ use Rattle.std.proofs.Common.{◌≡◌, refl, ap, ◌∙◌, ℕ, zero, suc, Li
 use Rattle.std.specs.List.{fold}
 use Rattle.bloom_ast.specs.declared.program.Program.{Program}
 use Rattle.topo_types.specs.Messages.{Message}
-use Rattle.inbox.specs.Messages.{Entry}
+use Rattle.messages.specs.Messages.{Entry}
 use Rattle.inbox.specs.Instances.{Instance}
 use Rattle.inbox.specs.Timesteps.{SetOff}
 use Rattle.inbox.specs.Emission.{Kept, emit_of, emit, begin_life, nothing_emitted}

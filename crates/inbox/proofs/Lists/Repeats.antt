@@ -21,7 +21,7 @@ use Rattle.path_annotate.specs.Roots.{Roots}
 use Rattle.topo_types.specs.Data.{Data, SourceData, source_data, key_value, rows_with_key}
 use Rattle.topo_types.specs.Messages.{Message, row, seal, is_same_row, distinct_rows, partitions, source_seals, source_messages}
 use Rattle.topo_types.specs.View.{Stream, End}
-use Rattle.inbox.specs.Messages.{Entry, is_same_message, sealed_in, key_sealed}
+use Rattle.messages.specs.Messages.{Entry, is_same_message, sealed_in, key_sealed}
 use Rattle.inbox.specs.Instances.{Instance}
 use Rattle.inbox.specs.Timesteps.{SetOff}
 use Rattle.inbox.specs.Emission.{Kept, each_by_place, has_seal, count_in, with_row, with_rows, with_seal, with_seals, output_key, emit_step, emit_of, emit, begin_life, nothing_emitted}
@@ -29,7 +29,7 @@ use Rattle.inbox.specs.Lives.{Life, Lives, all_lives, life_sets_off, after_life,
 use Rattle.inbox.specs.Wiring.{Wiring, instance_at}
 use Rattle.inbox.specs.Executions.{Execution, list_from, emitted_list}
 use Rattle.inbox.specs.Growth.{is_repeat_of, NoRepeats}
-use Rattle.inbox.proofs.MessagesLemmas.{is_same_row-is, is_same_row-itself, is_same_message-is, is_same_message-itself, any-from_same}
+use Rattle.messages.proofs.MessagesLemmas.{is_same_row-is, is_same_row-itself, is_same_message-is, is_same_message-itself, any-from_same}
 use Rattle.inbox.proofs.Lists.Growing.{length-each_by_place, get_or-each_by_place}
 use Rattle.inbox.proofs.TimestepLemmas.Whole.{Has-filter_map}
 

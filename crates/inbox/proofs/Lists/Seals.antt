@@ -12,7 +12,7 @@ use Rattle.bloom_ast.specs.ProgramStep.{tables_after_step, outputs_of_step, empt
 use Rattle.bloom_ast.specs.Step.{Sets, set_at}
 use Rattle.topo_types.specs.Messages.{Message, row, seal, rows_in}
 use Rattle.topo_types.specs.View.{is_order_mode}
-use Rattle.inbox.specs.Messages.{Batch, Entry, is_same_message, all_pairs}
+use Rattle.messages.specs.Messages.{Batch, Entry, is_same_message, all_pairs}
 use Rattle.inbox.specs.Instances.{Instance}
 use Rattle.inbox.specs.Timesteps.{SetOff, is_whole, set_off, each_set_off, timesteps}
 use Rattle.inbox.specs.Emission.{Kept, list_of, has_seal, count_in, with_row, with_rows, with_seal, with_seals, output_key, emit_step, emit_of, emit, first_tables, begin_life, nothing_emitted}

@@ -13,7 +13,7 @@ use Rattle.bloom_ast.specs.ProgramStep.{tables_after_step, empty_tables}
 use Rattle.bloom_ast.specs.Step.{Sets}
 use Rattle.topo_types.specs.View.{is_order_mode}
 use Rattle.topo_types.specs.Messages.{rows_in}
-use Rattle.inbox.specs.Messages.{Entry}
+use Rattle.messages.specs.Messages.{Entry}
 use Rattle.inbox.specs.Instances.{Instance}
 use Rattle.inbox.specs.Timesteps.{timestep_of, one_by_one}
 use Rattle.inbox.specs.Lives.{Life, Lives, all_lives, emitted_by}

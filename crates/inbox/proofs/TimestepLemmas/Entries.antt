@@ -4,7 +4,7 @@ use Rattle.std.specs.Option.{option_map, unwrap_or}
 use Rattle.blz_value.specs.Members.{Has}
 use Rattle.blz_value.specs.Record.{Row}
 use Rattle.topo_types.specs.Messages.{Message, row, seal, row_in, rows_in}
-use Rattle.inbox.specs.Messages.{Pair, Entry}
+use Rattle.messages.specs.Messages.{Pair, Entry}
 use Rattle.inbox.specs.Instances.{Instance, port_of_feed, entry_of, entries_of}
 use Rattle.inbox.proofs.TimestepLemmas.Whole.{Has-filter_map, Has-from_filter_map}
 

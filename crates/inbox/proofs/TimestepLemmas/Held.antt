@@ -9,10 +9,10 @@ use Rattle.fd_closure.specs.declared.attrs.Attrs.{Attrs}
 use Rattle.topo_types.specs.declared.mode.Mode.TheVariants.{Seal}
 use Rattle.topo_types.specs.Messages.{is_same_row}
 use Rattle.topo_types.proofs.Regions.Spreading.{same_truth}
-use Rattle.inbox.specs.Messages.{Batch, Entry, is_same_entry, all_pairs, firsts}
+use Rattle.messages.specs.Messages.{Batch, Entry, is_same_entry, all_pairs, firsts}
 use Rattle.inbox.specs.Instances.{Instance, entries_of}
 use Rattle.inbox.specs.Timesteps.{is_due, timesteps, is_in_some, held_entries, held_count}
-use Rattle.inbox.proofs.MessagesLemmas.{is_same_row-is, is_same_row-itself, is_same_entry-is, is_same_entry-itself, any-from_same, same-from_any, Has-from_firsts, Has-firsts}
+use Rattle.messages.proofs.MessagesLemmas.{is_same_row-is, is_same_row-itself, is_same_entry-is, is_same_entry-itself, any-from_same, same-from_any, Has-from_firsts, Has-firsts}
 use Rattle.inbox.specs.Timesteps.{Stands}
 use Rattle.inbox.proofs.TimestepLemmas.UnderSeal.{seal_timesteps-go, seal_timesteps-stand}
 use Rattle.inbox.proofs.TimestepLemmas.AtOnce.{GoesAtOnce, at_once_timesteps-stand}

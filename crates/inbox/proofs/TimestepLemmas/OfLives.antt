@@ -10,7 +10,7 @@ use Rattle.bloom_ast.specs.Step.{Sets, set_at}
 use Rattle.topo_types.specs.declared.mode.Mode.{Mode}
 use Rattle.topo_types.specs.declared.mode.Mode.TheVariants.{Free, Pass, Seal, Order}
 use Rattle.topo_types.specs.View.{is_order_mode}
-use Rattle.inbox.specs.Messages.{Batch, Entry, all_pairs}
+use Rattle.messages.specs.Messages.{Batch, Entry, all_pairs}
 use Rattle.inbox.specs.Instances.{Instance, entries_of}
 use Rattle.inbox.specs.Timesteps.{SetOff, timestep_of, one_by_one, each_set_off, timesteps, Stands}
 use Rattle.inbox.specs.Lives.{Life, of_entry, life_timesteps}

@@ -10,10 +10,10 @@ use Rattle.blz_value.proofs.Membership.{Has-append_left, Has-append_cases, Has-f
 use Rattle.bloom_ast.specs.Step.{Sets, set_at}
 use Rattle.fd_closure.specs.declared.attrs.Attrs.{Attrs}
 use Rattle.topo_types.specs.declared.mode.Mode.TheVariants.{Seal}
-use Rattle.inbox.specs.Messages.{Pair, Batch, Entry, is_same_entry, all_pairs, firsts}
+use Rattle.messages.specs.Messages.{Pair, Batch, Entry, is_same_entry, all_pairs, firsts}
 use Rattle.inbox.specs.Instances.{Instance, is_carrying, entries_of, key_of_entry, is_of_key}
 use Rattle.inbox.specs.Timesteps.{is_whole, is_due, is_of_some, newly_whole, released_steps, first_part, second_part, set_off, each_after, each_set_off, timestep_of, one_by_one, timesteps}
-use Rattle.inbox.proofs.MessagesLemmas.{is_same_entry-is, is_same_entry-itself, Has-from_firsts}
+use Rattle.messages.proofs.MessagesLemmas.{is_same_entry-is, is_same_entry-itself, Has-from_firsts}
 use Rattle.inbox.specs.Timesteps.{Stands}
 use Rattle.inbox.proofs.TimestepLemmas.Arriving.{Has-arrivals, Has-from_arrivals, Stands-from_together, Stands-from_one_by_one}
 use Rattle.inbox.proofs.TimestepLemmas.Whole.{entries_of-append, whole-more, whole-sealed, BecomesWhole, becomes-newly}

@@ -11,10 +11,10 @@ use Rattle.bloom_ast.specs.Step.{Sets, set_at}
 use Rattle.topo_types.specs.declared.mode.Mode.TheVariants.{Seal}
 use Rattle.fd_closure.specs.declared.attrs.Attrs.{Attrs}
 use Rattle.topo_types.specs.Messages.{is_same_row}
-use Rattle.inbox.specs.Messages.{Pair, Batch, Entry, is_same_entry, all_pairs, firsts}
+use Rattle.messages.specs.Messages.{Pair, Batch, Entry, is_same_entry, all_pairs, firsts}
 use Rattle.inbox.specs.Instances.{Instance, is_carrying, entries_of, key_of_entry, is_of_key}
 use Rattle.inbox.specs.Timesteps.{is_whole, is_due, is_of_some, newly_whole, released_steps, first_part, second_part, steps_in, set_off, timestep_of, timesteps}
-use Rattle.inbox.proofs.MessagesLemmas.{is_same_row-is, is_same_row-itself, is_same_entry-is, is_same_entry-itself, Has-firsts, Has-from_firsts, any-from_same, same-from_any}
+use Rattle.messages.proofs.MessagesLemmas.{is_same_row-is, is_same_row-itself, is_same_entry-is, is_same_entry-itself, Has-firsts, Has-from_firsts, any-from_same, same-from_any}
 use Rattle.inbox.specs.Timesteps.{Stands, Goes}
 use Rattle.inbox.proofs.TimestepLemmas.Arriving.{Has-arrivals, Has-from_arrivals, Stands-together, Stands-from_together, Stands-one_by_one, Stands-from_one_by_one}
 use Rattle.inbox.proofs.TimestepLemmas.Whole.{entries_of-append, due-more, BecomesWhole, newly-becomes, becomes-newly}

@@ -1,7 +1,6 @@
 -- A whole partition stays whole, and from each carrying feed a seal of it was heard and as many records as it counts.
-use Rattle.std.proofs.Common.{◌≡◌, refl, ap, sym, subst, ◌∙◌, ℕ, ◌≤◌, ◌==◌, ◌&&◌, nat_le, Bool, true, false, not, List, [], ◌∷◌, ◌++◌, length, map, filter, arith, inl, inr, ◌⊎◌, Option, None, Some}
-use Rattle.std.specs.List.{list_all, filter_map, cons_option}
-use Rattle.std.specs.Option.{unwrap_or}
+use Rattle.std.proofs.Common.{◌≡◌, refl, ap, sym, subst, ◌∙◌, ℕ, ◌≤◌, ◌==◌, ◌&&◌, nat_le, Bool, true, false, not, List, [], ◌∷◌, ◌++◌, length, map, filter, arith, inl, Option, None, Some}
+use Rattle.std.specs.List.{list_all}
 use Rattle.std.specs.Option.{option_map_or}
 use Rattle.std.proofs.lemmas.Bool.{eqb-true, leb-true, le-leb, not-true, not_from_false, and_parts, and_from}
 use Rattle.std.proofs.lemmas.List.{map-append}
@@ -13,39 +12,11 @@ use Rattle.blz_value.proofs.Membership.{Has-append_left, Has-map, Has-filter, Ha
 use Rattle.blz_value.proofs.SetLaws.{Has-set_of}
 use Rattle.blz_value.proofs.RowSets.{length-set_of-append_left}
 use Rattle.topo_types.specs.Messages.{Message, row, seal, is_same_row}
-use Rattle.inbox.specs.Messages.{Pair, Batch, Entry, key_sealed, sealed_in}
+use Rattle.messages.specs.Messages.{Pair, Batch, Entry, key_sealed, sealed_in}
 use Rattle.inbox.specs.Instances.{Instance, carrying_feeds, entries_of, key_of_entry, is_of_key}
 use Rattle.inbox.specs.Timesteps.{is_seal_within, from_feed, count_heard_from, is_whole_from, is_some_feed, is_whole, is_due, sealed_keys, newly_whole}
-use Rattle.inbox.proofs.MessagesLemmas.{is_same_row-is}
-
--- ---- lists of those that pass
-
-module _ {Y : Type 0} where
-  cons_option-left : (y z : Y) (o : Option Y) (ys : List Y) → o ≡ Some y → Has y (cons_option o ys)
-  cons_option-left y z None ys e = cc
-  cons_option-left y z (Some x) ys e = inl (ap (λ o. unwrap_or o z) e)
-
-  cons_option-right : (y : Y) (o : Option Y) (ys : List Y) → Has y ys → Has y (cons_option o ys)
-  cons_option-right y None ys h = h
-  cons_option-right y (Some x) ys h = inr h
-
-  cons_option-cases : (y : Y) (o : Option Y) (ys : List Y) → Has y (cons_option o ys) → (o ≡ Some y) ⊎ Has y ys
-  cons_option-cases y None ys h = inr h
-  cons_option-cases y (Some x) ys (inl e) = inl (ap Some e)
-  cons_option-cases y (Some x) ys (inr h) = inr h
-
-module _ {X Y : Type 0} where
-  pub Has-filter_map : (f : X → Option Y) (x : X) (y : Y) (xs : List X) → Has x xs → f x ≡ Some y → Has y (filter_map f xs)
-  Has-filter_map f x y [] h e = absurd h
-  Has-filter_map f x y (z ∷ xs) (inl s) e = cons_option-left y y (f z) (filter_map f xs) (ap f s ∙ e)
-  Has-filter_map f x y (z ∷ xs) (inr h) e = cons_option-right y (f z) (filter_map f xs) (Has-filter_map f x y xs h e)
-
-  pub Has-from_filter_map : (f : X → Option Y) (y : Y) (xs : List X) → Has y (filter_map f xs) → (x : X) × Has x xs × (f x ≡ Some y)
-  Has-from_filter_map f y [] h = absurd h
-  Has-from_filter_map f y (x ∷ xs) h = elim (cons_option-cases y (f x) (filter_map f xs) h) [
-    | inl e ↦ (x, inl refl, e)
-    | inr rest ↦ let m = Has-from_filter_map f y xs rest in (m.0, inr m.1, m.2)
-  ]
+use Rattle.messages.proofs.MessagesLemmas.{is_same_row-is}
+pub use Rattle.messages.proofs.Passing.{Has-filter_map, Has-from_filter_map}
 
 -- ---- more that is heard
 

@@ -7,7 +7,7 @@ use Rattle.blz_value.proofs.Membership.{Has-append_cases, Has-from_map, Has-from
 use Rattle.bloom_ast.specs.Step.{Sets}
 use Rattle.topo_types.specs.declared.mode.Mode.{Mode}
 use Rattle.topo_types.specs.declared.mode.Mode.TheVariants.{Free, Pass, Seal, Order}
-use Rattle.inbox.specs.Messages.{Pair, Batch, Entry, is_same_entry, firsts}
+use Rattle.messages.specs.Messages.{Pair, Batch, Entry, is_same_entry, firsts}
 use Rattle.inbox.specs.Instances.{Instance, is_carrying, entries_of}
 use Rattle.inbox.specs.Timesteps.{SetOff, timestep_of, one_timestep, one_by_one, released_steps, is_of_some, first_part, second_part, newly_whole, steps_in, each_after, timesteps}
 use Rattle.inbox.proofs.TimestepLemmas.Arriving.{at_port}

@@ -8,14 +8,14 @@ use Rattle.blz_value.specs.Members.{Has}
 use Rattle.bloom_ast.specs.Step.{Sets}
 use Rattle.topo_types.specs.Messages.{Message, row, seal}
 use Rattle.inbox.specs.Instances.{Instance, entry_of, key_of_entry}
-use Rattle.inbox.specs.Messages.{Pair, Batch, Entry}
-use Rattle.inbox.specs.Log.{EntryId, entry_with_id, entries_with_ids, is_same_entry_id}
+use Rattle.messages.specs.Messages.{Pair, Batch, Entry}
+use Rattle.messages.specs.Log.{EntryId, entry_with_id, entries_with_ids, is_same_entry_id}
 use Rattle.inbox.specs.Timesteps.{timestep_of, one_by_one}
-use Rattle.inbox.specs.Code.Feeds.{port_count, port_in, key_in, carries_in, is_whole_in, is_due_in, HearsRow}
+use Rattle.messages.specs.Feeds.{port_count, port_in, key_in, carries_in, is_whole_in, is_due_in, HearsRow}
 use Rattle.inbox.specs.Code.Waiting.{KeepsEntry, released_of}
-use Rattle.inbox.specs.declared.message.Message.{Message as IdMessage}
-use Rattle.inbox.specs.declared.message.Message.TheVariants.{Row, Seal}
-use Rattle.inbox.specs.declared.hearing.feeds.Feeds.{Feeds}
+use Rattle.messages.specs.declared.message.Message.{Message as IdMessage}
+use Rattle.messages.specs.declared.message.Message.TheVariants.{Row, Seal}
+use Rattle.messages.specs.declared.feeds.Feeds.{Feeds}
 use Rattle.inbox.specs.declared.inbox.Inbox.{Inbox}
 
 -- ---- partitions

@@ -6,10 +6,10 @@ use Rattle.std.specs.Ordering.{nat_cmp}
 use Rattle.blz_value.specs.Record.{Row}
 use Rattle.blz_value.specs.Sets.{set_by}
 use Rattle.topo_types.specs.Messages.{is_same_row}
-use Rattle.inbox.specs.Log.{EntryId, is_same_entry_id}
-use Rattle.inbox.specs.Messages.{with_new}
+use Rattle.messages.specs.Log.{EntryId, is_same_entry_id}
+use Rattle.messages.specs.Messages.{with_new}
 use Rattle.inbox.specs.Code.Places.{places_of}
-use Rattle.inbox.specs.declared.hearing.waiting.Waiting.{Waiting}
+use Rattle.inbox.specs.declared.waiting.Waiting.{Waiting}
 
 -- the entries of some partitions, in the order of the log
 abbrev pub released_of : Waiting → List Row → List EntryId

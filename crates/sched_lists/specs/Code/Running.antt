@@ -16,7 +16,7 @@ use Rattle.inbox.specs.Instances.{Instance}
 use Rattle.inbox.specs.Timesteps.{SetOff}
 use Rattle.inbox.specs.Emission.{Kept, list_of, output_key, emit_step, emit}
 use Rattle.sched_lists.specs.Limits.{Limit, message_limit, limit_in, limit_of}
-use Rattle.sched_lists.specs.Lists.{total}
+use Rattle.emitted.specs.Lists.{total}
 use Rattle.sched_lists.specs.Outlets.{emit_outlets, AreApart, ShowsOutlets, own_messages}
 use Rattle.sched_lists.specs.declared.outlets.Outlet.{Outlet}
 

@@ -3,7 +3,7 @@ use Rattle.std.specs.Prelude.{◌≡◌, ◌<◌, ◌≤◌, ℕ, List, [], leng
 use Rattle.topo_types.specs.Data.{Data}
 use Rattle.topo_types.specs.Messages.{Message, emitted_of_source}
 use Rattle.topo_types.specs.View.{View, stream_replicas}
-use Rattle.sched_lists.specs.Lists.{list_at}
+use Rattle.emitted.specs.Lists.{list_at}
 use Rattle.sched_lists.specs.Places.{list_place, list_count}
 
 -- the first so many sources emitted what they hold

@@ -6,13 +6,13 @@ use Rattle.topo_types.specs.View.{View, program_of, replicas_of}
 use Rattle.inbox.specs.Emission.{nothing_emitted}
 use Rattle.inbox.specs.Standing.{Seat}
 use Rattle.inbox.specs.Wiring.{wiring_of, instance_at}
-use Rattle.sched_run.specs.Bench.{instance_components}
+use Rattle.sched_bench.specs.Bench.{instance_components}
 use Rattle.sched_lists.specs.Lists.{Listed}
-use Rattle.sched_run.specs.Net.{ShowsEar, ShowsSeat, BooksStand}
+use Rattle.sched_hear.specs.Net.{ShowsEar, ShowsSeat, BooksStand}
 use Rattle.sched_lists.specs.Places.{instance_place}
-use Rattle.sched_run.specs.declared.books.Books.{Books}
-use Rattle.sched_run.specs.declared.seated.Ear.{Ear}
-use Rattle.sched_run.specs.declared.seated.Seated.{Seated}
+use Rattle.sched_hear.specs.declared.books.Books.{Books}
+use Rattle.sched_hear.specs.declared.seated.Ear.{Ear}
+use Rattle.sched_hear.specs.declared.seated.Seated.{Seated}
 
 -- the seat of an instance at the start
 abbrev pub first_seat : View → (component replica : ℕ) → Seat

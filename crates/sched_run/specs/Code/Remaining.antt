@@ -10,8 +10,8 @@ use Rattle.topo_types.specs.View.{View}
 use Rattle.inbox.specs.Ids.{message_with_id}
 use Rattle.inbox.specs.Log.{EntryId, is_same_entry_id, entries_with_ids}
 use Rattle.inbox.specs.Messages.{is_same_entry}
-use Rattle.inbox.specs.declared.message.Message.{Message as IdMessage}
-use Rattle.sched_run.specs.Code.Seen.{list_seen}
+use Rattle.messages.specs.declared.message.Message.{Message as IdMessage}
+use Rattle.sched_hear.specs.Seen.{list_seen}
 
 -- how many of the first indexes of a list aren't known on a feed
 abbrev pub unknown_on : (known : List (ℕ × ℕ)) → (feed count : ℕ) → ℕ

@@ -27,7 +27,7 @@ use Rattle.topo_types.specs.Valid.{IsValid}
 use Rattle.topo_types.specs.View.{View, port_at, stream_at, port_attrs, stream_attrs, has_stream, streams_into, goes_to, program_of}
 use Rattle.topo_types.proofs.Regions.Spreading.{in_below}
 use Rattle.inbox.specs.Executions.{Execution}
-use Rattle.inbox.proofs.MessagesLemmas.{is_same_row-is, is_same_row-itself}
+use Rattle.messages.proofs.MessagesLemmas.{is_same_row-is, is_same_row-itself}
 use Rattle.stream_deps.specs.Agreement.{port_roots, value_at, HaveSameValues, IsTraced}
 use Rattle.stream_deps.specs.Sent.{IsHistory, IsSentTo}
 use Rattle.stream_deps.specs.Laws.{WholeLaw, ClosureLaw, JointLaw, KeyedLaw}

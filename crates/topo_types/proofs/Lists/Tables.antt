@@ -1,11 +1,11 @@
 -- Tables of the numbers below a count.
-use Rattle.std.proofs.Common.{◌≡◌, ◌<◌, ◌≤◌, ◌+◌, inl, inr, ℕ, zero, suc, Bool, true, List, [], ◌∷◌, map, length, get_or, refl, arith, subst, ◌++◌}
+use Rattle.std.proofs.Common.{◌≡◌, ◌<◌, ◌≤◌, ◌+◌, inl, inr, ℕ, zero, suc, Bool, true, List, [], ◌∷◌, map, filter, length, get_or, refl, arith, subst, ◌++◌}
 use Rattle.std.specs.List.{enumerate_from, list_all, range_with_len}
+use Rattle.std.proofs.lemmas.Bool.{cases_Bool}
 use Rattle.std.proofs.lemmas.List.FromFn.{get_or-map-range_with_len, map-range_with_len_more}
 use Rattle.fd_closure.specs.Bits.{bit_of, meets}
 use Rattle.blz_value.specs.Members.{Has}
 use Rattle.bloom_ast.proofs.Collections.Chosen.{in_chosen, from_chosen}
-use Rattle.path_annotate.proofs.ByNumber.NumbersLemmas.{map-places}
 use Rattle.topo_types.specs.Sets.{below, set_where}
 use Rattle.topo_types.proofs.Regions.Spreading.{in_below, same_truth}
 
@@ -58,10 +58,24 @@ pub map_twice : {X Y Z : Type 0} (g : Y → Z) (f : X → Y) (xs : List X) → m
 map_twice g f [] = refl
 map_twice g f (x ∷ xs) = let more = map_twice g f xs in λ i. g (f x) ∷ more i
 
--- a list by its places
-pub table_places : {X Y : Type 0} (f : X → Y) (d : X) (xs : List X) → map (λ k. f (get_or xs k d)) (range_with_len 0 (length xs)) ≡ map f xs
-table_places f d xs = map-places f d xs (length xs) refl
-
 -- what is the same everywhere is the same of all
 pub map_same : {X Y : Type 0} (f g : X → Y) → ((x : X) → f x ≡ g x) → (xs : List X) → map f xs ≡ map g xs
 map_same f g same xs = map_on f g xs (λ x has. same x)
+
+shifted : {X : Type 0} (test : ℕ → Bool) (d : X) (x : X) (xs all : List X) (at n : ℕ) → ((k : ℕ) → get_or all (at + k) d ≡ get_or xs k d)
+    → n ≡ length xs → map (λ (p : ℕ × X). p.1) (filter (λ p. test p.0) (enumerate_from at xs)) ≡ map (λ k. get_or all k d) (filter test (range_with_len at n))
+shifted test d x [] all at zero same e = refl
+shifted test d x [] all at (suc n) same e = absurd (omega (arith, e))
+shifted test d x (y ∷ xs) all at zero same e = absurd (omega (arith, e))
+shifted test d x (y ∷ xs) all at (suc n) same e =
+    let more = shifted test d x xs all (at + 1) n (λ k. let one : at + 1 + k ≡ at + suc k = omega arith in rw one (same (suc k))) (omega (arith, e)) in
+    let here : get_or all at d ≡ y = let z : at + 0 ≡ at = omega arith in subst (λ (m : ℕ). get_or all m d ≡ y) z (same 0) in
+    elim (cases_Bool (test at)) [
+      | inl t ↦ rw (t, here) (λ i. y ∷ more i)
+      | inr f ↦ rw f more
+    ]
+
+-- the columns whose numbers pass, in their order
+pub chosen_columns : {X : Type 0} (test : ℕ → Bool) (d : X) (xs : List X)
+    → map (λ (p : ℕ × X). p.1) (filter (λ p. test p.0) (enumerate_from 0 xs)) ≡ map (λ k. get_or xs k d) (filter test (range_with_len 0 (length xs)))
+chosen_columns test d xs = shifted test d d xs xs 0 (length xs) (λ k. let z : 0 + k ≡ k = omega arith in rw z refl) refl

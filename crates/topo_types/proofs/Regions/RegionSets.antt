@@ -4,8 +4,8 @@ use Rattle.blz_value.specs.Members.{Has}
 use Rattle.fd_closure.specs.declared.attrs.Fd.{Fd}
 use Rattle.fd_closure.proofs.Members.{member_small}
 use Rattle.bloom_ast.proofs.Collections.Chosen.{from_chosen}
-use Rattle.topo_types.specs.declared.graph.found.Found.{Found}
-use Rattle.topo_types.specs.Code.Found.{found_of}
+use Rattle.topo_types.specs.declared.graph_facts.GraphFacts.{GraphFacts}
+use Rattle.topo_types.specs.Found.{found_of}
 use Rattle.topo_types.specs.Graph.{Edge, arrows, is_in, together, region, is_next, next, regions_from}
 use Rattle.topo_types.specs.Regions.{edges, region_set, regions}
 use Rattle.topo_types.specs.Sets.{below}
@@ -83,5 +83,5 @@ unfolding regions
 few_regions v = few_from (edges v) (arrows (edges v)) (length v.components) (length v.components) 0
 
 -- the regions that are found are those of the view
-pub regions_found : (f : Found) (v : View) → f ≡ found_of v → f.regions ≡ regions v
-regions_found f v is = ap (λ (x : Found). x.regions) is
+pub regions_found : (f : GraphFacts) (v : View) → f ≡ found_of v → f.regions ≡ regions v
+regions_found f v is = ap (λ (x : GraphFacts). x.regions) is

@@ -1,5 +1,5 @@
 -- Sets that spread: one level.
-use Rattle.std.proofs.Common.{◌≡◌, ◌<◌, ◌≤◌, ◌+◌, ◌⊎◌, inl, inr, ℕ, zero, suc, Bool, true, false, ◌&&◌, ◌||◌, bit_or, List, [], ◌∷◌, map, refl, arith, ap, sym, subst, ◌∙◌}
+use Rattle.std.proofs.Common.{◌≡◌, ◌<◌, ◌≤◌, ◌+◌, ◌⊎◌, inl, inr, ℕ, zero, suc, nat_eq, Bool, true, false, ◌&&◌, ◌||◌, bit_or, List, [], ◌∷◌, map, refl, arith, rules, ap, sym, subst, ◌∙◌}
 use Rattle.std.specs.List.{list_all, range_with_len}
 use Rattle.std.proofs.lemmas.Bool.{cases_Bool, cases_eq, or_cases, true≢false}
 use Rattle.std.proofs.Math.Bool.{and-true}
@@ -35,6 +35,9 @@ from_below count k h = let both = from_range 0 count k h in omega (arith, both.1
 
 pub in_below : (count k : ℕ) → k < count → Has k (below count)
 in_below count k lt = in_range 0 count k (omega arith) (omega (arith, lt))
+
+pub same_number : (a b : ℕ) → nat_eq a b ≡ true → a ≡ b
+same_number a b e = search rules
 
 -- ---- truth values
 

@@ -23,7 +23,7 @@ use Rattle.topo_types.specs.declared.topology.FdEntry.{FdEntry}
 use Rattle.topo_types.specs.declared.topology.Side.{Side}
 use Rattle.topo_types.specs.declared.topology.Spot.{Spot}
 use Rattle.topo_types.specs.declared.topology.Topology.{Topology}
-use Rattle.topo_types.specs.Code.Bounded.{IsBounded}
+use Rattle.topo_types.specs.Bounded.{IsBounded}
 use Rattle.topo_types.specs.Sites.{Site, no_site, site_at, site_number, side_at, side_number, side, port_of, output_of, port_end, output_end}
 use Rattle.topo_types.specs.Validity.{written, bad_source, bad_component, bad_stream, bad_fd, fault_of, kind_fault, kinds_in_order}
 use Rattle.topo_types.specs.Validity.TooMany.{is_wide, has_wide, are_many, is_replica_count}
@@ -31,7 +31,7 @@ use Rattle.topo_types.specs.Validity.Twice.{has_source, has_stream, has_start, n
 use Rattle.topo_types.specs.Validity.Unknown.{misses_port}
 use Rattle.topo_types.specs.View.{Component, stream_at, ends_of, component_at}
 use Rattle.topo_types.specs.ViewOf.{view_of, component_view, port_view, output_view, fd_view, output_columns_at}
-use Rattle.topo_types.proofs.Regions.Feeding.{same_number}
+use Rattle.topo_types.proofs.Regions.Spreading.{same_number}
 use Rattle.topo_types.proofs.Faults.NoFault.{no_places, none_in, above, at_most, not_false, no_source, no_written, source_fine, site_fine, stream_fine, few_components}
 use Rattle.topo_types.proofs.Regions.Numbering.{any-none}
 use Rattle.topo_types.proofs.Views.ViewParts.{sites, attributes, seen, at_component, each_stream, located}

@@ -6,8 +6,7 @@ use Rattle.blz_value.specs.declared.value.Value.{Value}
 use Rattle.blz_value.specs.declared.value.Value.TheVariants.{Int, Text}
 use Rattle.topo_types.specs.Data.{Data}
 use Rattle.topo_types.specs.Feeds.{feeds}
-use Rattle.topo_types.specs.Messages.{emitted_of_source}
-use Rattle.topo_types.specs.Messages.Message.{row, seal}
+use Rattle.topo_types.specs.Messages.{row, seal, emitted_of_source}
 use Rattle.topo_types.proofs.Worked.WordCount.{word_count_with, free_at}
 
 -- each replica of count hears the one sender of words, and each replica of commit its own count

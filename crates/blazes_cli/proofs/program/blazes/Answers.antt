@@ -1,11 +1,11 @@
 use Rattle.std.proofs.Common.{◌≡◌, ◌≢◌, None, map, string_bytes, subst}
 use Rattle.blz_outside.specs.Counts.{Rose}
 use Rattle.blazes_commands.specs.Bench.{bench_states}
-use Rattle.blazes_commands.specs.Code.Ran.{answer_of}
-use Rattle.blazes_commands.specs.Ends.{files_states, source}
+use Rattle.command_files.specs.Ran.{answer_of}
+use Rattle.command_files.specs.Ends.{files_states, source}
 use Rattle.blazes_cli.specs.Outcome.{sink_states, IsSaid, IsUsageOrLost, IsReadFaultOrLost, Misses}
 use Rattle.blazes_words.specs.Words.{request_of}
-use Rattle.blazes_commands.specs.declared.status.Status.TheVariants.{Usage, ReadFault}
+use Rattle.command_files.specs.declared.status.Status.TheVariants.{Usage, ReadFault}
 use Rattle.blazes_cli.proofs.ReplyLemmas as lem
 use Rattle.blazes_cli.proofs.program.blazes.Goals as goal
 

@@ -2,37 +2,41 @@ use Rattle.std.proofs.Common.{map, subst, sym}
 use Rattle.std.proofs.lemmas.List.Sorted.{IsPermutation-refl}
 use Rattle.blazes_commands.specs.Bench.{bench_states}
 use Rattle.blazes_commands.specs.Code.Ran.{RepliesTo}
-use Rattle.blazes_words.specs.Requests.{asked_by}
+use Rattle.blazes_words.specs.Requests.{asked_by, shard_shown}
 use Rattle.blazes_commands.specs.Ends.{files_states, source}
 use Rattle.blazes_words.specs.Words.{IsWithin}
 use Rattle.blazes_words.specs.declared.words.Request.{Request}
 use Rattle.blazes_commands.proofs.CommandLemmas.{kept_anyway}
+use Rattle.blazes_commands.proofs.LabelLemmas.{derive_replies, label_replies, plan_replies, shard_replies}
 use Rattle.blazes_commands.proofs.commands.outcome_of.Goals as goal
 
 pub returns-in-Label : goal.returns-in-Label
 returns-in-Label g c =
     let bench = bench_states (map (λ b. (goal.Component-dyn g (b.vtable, b.value)).kind b.value) c.args.bench.now.items) (map (λ b. (goal.Component-dyn g (b.vtable, b.value)).kind b.value) c.args.bench.now.items) (map (λ b. (goal.Component-dyn g (b.vtable, b.value)).loaded b.value) c.args.bench.now.items) (map (λ b. (goal.Component-dyn g (b.vtable, b.value)).kept b.value) c.args.bench.now.items) in
-    let files = files_states (source (g.F.Files.held c.args.files.now) (g.F.Files.steady c.args.files.now) (g.F.Files.faults c.args.files.now)) (source (g.F.Files.held c.label.new.files) (g.F.Files.steady c.label.new.files) (g.F.Files.faults c.label.new.files)) in
+    let a = source (g.F.Files.held c.args.files.now) (g.F.Files.steady c.args.files.now) (g.F.Files.faults c.args.files.now) in
+    let b = source (g.F.Files.held c.label.new.files) (g.F.Files.steady c.label.new.files) (g.F.Files.faults c.label.new.files) in
     record {
-      replies = subst (λ (request : Request). RepliesTo (asked_by request) files bench c.label.result) (sym c.in-Label.is) (c.label.ensures bench);
+      replies = subst (λ (request : Request). RepliesTo (asked_by request) (files_states a b) bench c.label.result) (sym c.in-Label.is) (label_replies a b bench c.label.result c.in-Label.topology.now c.label.ensures);
       kinds = kept_anyway bench c.label.result (IsPermutation-refl bench.kinds);
     }
 
 pub returns-in-Derive : goal.returns-in-Derive
 returns-in-Derive g c =
     let bench = bench_states (map (λ b. (goal.Component-dyn g (b.vtable, b.value)).kind b.value) c.args.bench.now.items) (map (λ b. (goal.Component-dyn g (b.vtable, b.value)).kind b.value) c.args.bench.now.items) (map (λ b. (goal.Component-dyn g (b.vtable, b.value)).loaded b.value) c.args.bench.now.items) (map (λ b. (goal.Component-dyn g (b.vtable, b.value)).kept b.value) c.args.bench.now.items) in
-    let files = files_states (source (g.F.Files.held c.args.files.now) (g.F.Files.steady c.args.files.now) (g.F.Files.faults c.args.files.now)) (source (g.F.Files.held c.derive.new.files) (g.F.Files.steady c.derive.new.files) (g.F.Files.faults c.derive.new.files)) in
+    let a = source (g.F.Files.held c.args.files.now) (g.F.Files.steady c.args.files.now) (g.F.Files.faults c.args.files.now) in
+    let b = source (g.F.Files.held c.derive.new.files) (g.F.Files.steady c.derive.new.files) (g.F.Files.faults c.derive.new.files) in
     record {
-      replies = subst (λ (request : Request). RepliesTo (asked_by request) files bench c.derive.result) (sym c.in-Derive.is) (c.derive.ensures bench);
+      replies = subst (λ (request : Request). RepliesTo (asked_by request) (files_states a b) bench c.derive.result) (sym c.in-Derive.is) (derive_replies a b bench c.derive.result c.in-Derive.topology.now c.derive.ensures);
       kinds = kept_anyway bench c.derive.result (IsPermutation-refl bench.kinds);
     }
 
 pub returns-in-Plan : goal.returns-in-Plan
 returns-in-Plan g c =
     let bench = bench_states (map (λ b. (goal.Component-dyn g (b.vtable, b.value)).kind b.value) c.args.bench.now.items) (map (λ b. (goal.Component-dyn g (b.vtable, b.value)).kind b.value) c.args.bench.now.items) (map (λ b. (goal.Component-dyn g (b.vtable, b.value)).loaded b.value) c.args.bench.now.items) (map (λ b. (goal.Component-dyn g (b.vtable, b.value)).kept b.value) c.args.bench.now.items) in
-    let files = files_states (source (g.F.Files.held c.args.files.now) (g.F.Files.steady c.args.files.now) (g.F.Files.faults c.args.files.now)) (source (g.F.Files.held c.plan.new.files) (g.F.Files.steady c.plan.new.files) (g.F.Files.faults c.plan.new.files)) in
+    let a = source (g.F.Files.held c.args.files.now) (g.F.Files.steady c.args.files.now) (g.F.Files.faults c.args.files.now) in
+    let b = source (g.F.Files.held c.plan.new.files) (g.F.Files.steady c.plan.new.files) (g.F.Files.faults c.plan.new.files) in
     record {
-      replies = subst (λ (request : Request). RepliesTo (asked_by request) files bench c.plan.result) (sym c.in-Plan.is) (c.plan.ensures bench);
+      replies = subst (λ (request : Request). RepliesTo (asked_by request) (files_states a b) bench c.plan.result) (sym c.in-Plan.is) (plan_replies a b bench c.plan.result c.in-Plan.topology.now c.plan.ensures);
       kinds = kept_anyway bench c.plan.result (IsPermutation-refl bench.kinds);
     }
 
@@ -66,9 +70,10 @@ returns-in-Soak g c =
 pub returns-in-Shard : goal.returns-in-Shard
 returns-in-Shard g c =
     let bench = bench_states (map (λ b. (goal.Component-dyn g (b.vtable, b.value)).kind b.value) c.args.bench.now.items) (map (λ b. (goal.Component-dyn g (b.vtable, b.value)).kind b.value) c.args.bench.now.items) (map (λ b. (goal.Component-dyn g (b.vtable, b.value)).loaded b.value) c.args.bench.now.items) (map (λ b. (goal.Component-dyn g (b.vtable, b.value)).kept b.value) c.args.bench.now.items) in
-    let files = files_states (source (g.F.Files.held c.args.files.now) (g.F.Files.steady c.args.files.now) (g.F.Files.faults c.args.files.now)) (source (g.F.Files.held c.shard.new.files) (g.F.Files.steady c.shard.new.files) (g.F.Files.faults c.shard.new.files)) in
+    let a = source (g.F.Files.held c.args.files.now) (g.F.Files.steady c.args.files.now) (g.F.Files.faults c.args.files.now) in
+    let b = source (g.F.Files.held c.shard.new.files) (g.F.Files.steady c.shard.new.files) (g.F.Files.faults c.shard.new.files) in
     record {
-      replies = subst (λ (request : Request). RepliesTo (asked_by request) files bench c.shard.result) (sym c.in-Shard.is) (c.shard.ensures bench);
+      replies = subst (λ (request : Request). RepliesTo (asked_by request) (files_states a b) bench c.shard.result) (sym c.in-Shard.is) (shard_replies a b bench c.shard.result (shard_shown c.in-Shard.words) c.shard.ensures);
       kinds = kept_anyway bench c.shard.result (IsPermutation-refl bench.kinds);
     }
 

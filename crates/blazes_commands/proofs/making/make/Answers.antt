@@ -2,7 +2,7 @@ use Rattle.std.proofs.Common.{map}
 use Rattle.std.proofs.lemmas.List.Sorted.{IsPermutation-refl}
 use Rattle.blazes_commands.specs.Bench.{bench_states}
 use Rattle.blazes_commands.specs.Commands.{making}
-use Rattle.blazes_commands.specs.Ends.{source, files_states}
+use Rattle.command_files.specs.Ends.{source, files_states}
 use Rattle.blazes_commands.proofs.CommandFiles.{topology_stops, data_stops, files_then}
 use Rattle.blazes_commands.proofs.CommandLemmas.{kept_anyway}
 use Rattle.blazes_commands.proofs.making.make.Goals as goal

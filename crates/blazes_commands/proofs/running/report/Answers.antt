@@ -1,6 +1,6 @@
 use Rattle.std.proofs.Common.{subst}
 use Rattle.topo_types.specs.View.{View}
-use Rattle.sched_run.specs.Net.{execution_in}
+use Rattle.sched_hear.specs.Net.{execution_in}
 use Rattle.blazes_commands.specs.Code.Runs.{TellsStatus}
 use Rattle.blazes_commands.proofs.RunLemmas.{order_replicas}
 use Rattle.blazes_commands.proofs.running.report.Goals as goal

@@ -1,13 +1,13 @@
 -- A schedule stops the run, or its lines are run.
 use Rattle.std.proofs.Common.{List, map, subst}
 use Rattle.std.proofs.lemmas.List.Sorted.{IsPermutation-refl}
-use Rattle.sched_run.specs.Applying.{Line}
+use Rattle.sched_make.specs.Applying.{Line}
 use Rattle.blazes_words.specs.Words.{RunFiles}
 use Rattle.blazes_commands.specs.Bench.{bench_states}
 use Rattle.blazes_commands.specs.Code.Runs.{RepliesAtOnce}
 use Rattle.blazes_commands.specs.Commands.{running}
-use Rattle.blazes_commands.specs.Ends.{source, files_states}
-use Rattle.blazes_commands.specs.Script.{Bytes}
+use Rattle.command_files.specs.Ends.{source}
+use Rattle.command_files.specs.Script.{Bytes}
 use Rattle.blazes_commands.proofs.CommandLemmas.{kept_anyway}
 use Rattle.blazes_commands.proofs.RunLemmas.{schedule_stops, schedule_then}
 use Rattle.blazes_commands.proofs.running.run_file.Goals as goal

@@ -1,11 +1,11 @@
 use Rattle.std.proofs.Common.{[], ap, map, subst, sym, ◌∙◌}
 use Rattle.topo_types.specs.Valid.{Validated}
 use Rattle.topo_types.specs.View.{View}
-use Rattle.sched_run.specs.Net.{Stands}
+use Rattle.sched_hear.specs.Net.{Stands}
 use Rattle.blazes_commands.specs.Bench.{bench_states}
 use Rattle.blazes_commands.specs.Checks as check
 use Rattle.blazes_commands.specs.Commands.{Work}
-use Rattle.blazes_commands.specs.Script.{Script, ◌>>=◌}
+use Rattle.command_files.specs.Script.{Script, ◌>>=◌}
 use Rattle.blazes_commands.proofs.CommandLemmas.{kept_anyway}
 use Rattle.blazes_commands.proofs.OpeningLemmas.{opening_stops}
 use Rattle.blazes_commands.proofs.RunLemmas.{bench_replies, bench_keeps, runs_after}
@@ -26,7 +26,7 @@ apply-applied-requires g c =
 pub outcome_of-outcome-requires : goal.outcome_of-outcome-requires
 outcome_of-outcome-requires g c =
     let net = c.in_ok-net.net in
-    let after = c.apply-applied.new.self in
+    let after = c.apply-applied.new.net in
     let same = ap (λ (t : Validated). t.view) c.in_ok-net.ensures.valid in
     record {
       same = ap (λ valid. valid.now.view) c.apply-applied.ensures.valid ∙ same;
@@ -47,7 +47,7 @@ returns-in_err-net g c =
 pub returns : goal.returns
 returns g c =
     let net = c.in_ok-net.net in
-    let after = c.apply-applied.new.self in
+    let after = c.apply-applied.new.net in
     let all = c.close.new.bench.items in
     let put = c.in_ok-close.ensures.ok in
     let bench = bench_states (map (λ b. (goal.Component-dyn g (b.vtable, b.value)).kind b.value) c.args.bench.now.items) (map (λ b. (goal.Component-dyn g (b.vtable, b.value)).kind b.value) all) (map (λ b. (goal.Component-dyn g (b.vtable, b.value)).loaded b.value) all) (map (λ b. (goal.Component-dyn g (b.vtable, b.value)).kept b.value) all) in

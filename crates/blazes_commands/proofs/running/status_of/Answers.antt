@@ -1,4 +1,4 @@
-use Rattle.sched_run.specs.Net.{execution_in}
+use Rattle.sched_hear.specs.Net.{execution_in}
 use Rattle.blazes_commands.proofs.RunLemmas.{complete_status, left_status}
 use Rattle.blazes_commands.proofs.running.status_of.Goals as goal
 

@@ -3,7 +3,7 @@ use Rattle.topo_types.specs.Valid.{Validated}
 use Rattle.blazes_commands.specs.Bench.{bench_states}
 use Rattle.blazes_commands.specs.Checks as check
 use Rattle.blazes_commands.specs.Commands.{Work}
-use Rattle.blazes_commands.specs.Script.{Script, ◌>>=◌}
+use Rattle.command_files.specs.Script.{Script, ◌>>=◌}
 use Rattle.blazes_commands.proofs.CommandLemmas.{kept_anyway}
 use Rattle.blazes_commands.proofs.MakeLemmas.{runs_first}
 use Rattle.blazes_commands.proofs.OpeningLemmas.{opening_stops}

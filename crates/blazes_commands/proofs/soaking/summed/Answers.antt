@@ -1,7 +1,7 @@
 use Rattle.std.proofs.Common.{◌∙◌, ap}
-use Rattle.blazes_commands.specs.Commands.{Answer}
-use Rattle.blazes_commands.specs.Script.{Bytes}
-use Rattle.blazes_commands.specs.declared.status.Status.TheVariants.{Done}
+use Rattle.command_files.specs.Reply.{Answer}
+use Rattle.command_files.specs.Script.{Bytes}
+use Rattle.command_files.specs.declared.status.Status.TheVariants.{Done}
 use Rattle.blazes_commands.proofs.soaking.summed.Goals as goal
 
 pub returns : goal.returns

@@ -1,6 +1,6 @@
 -- the numbers so far
 use Rattle.std.proofs.Common.{◌≡◌, take}
-use Rattle.bloom_ast.specs.Code.Borrowed.{names_in}
+use Rattle.bloom_ast.specs.Borrowed.{names_in}
 use Rattle.bloom_ast.specs.Rows.{column_numbers}
 use Rattle.bloom_ast.proofs.numbering.column_numbers.Given as goal
 

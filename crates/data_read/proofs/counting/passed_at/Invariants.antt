@@ -1,8 +1,7 @@
 use Rattle.std.proofs.Common.{◌≡◌, ◌≤◌, drop}
-use Rattle.data_read.specs.Counting.{passed_at}
-use Rattle.data_read.specs.declared.counting.TheConstants.{MAX_ROWS}
+use Rattle.data_read.specs.Counting.{source_limit, passed_at}
 use Rattle.data_read.proofs.counting.passed_at.Given as goal
 
 -- the place from here on, after so many rows and parts, is that of all
 abbrev pub invariant-loop-place : goal.invariant-loop-place
-invariant-loop-place l = (passed_at l.so_far l.place (drop l.place l.sources) ≡ passed_at 0 0 l.sources) × (l.so_far ≤ MAX_ROWS)
+invariant-loop-place l = (passed_at l.so_far l.place (drop l.place l.sources) ≡ passed_at 0 0 l.sources) × (l.so_far ≤ source_limit)

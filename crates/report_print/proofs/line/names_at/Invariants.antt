@@ -1,6 +1,6 @@
 -- the names of the attributes so far
 use Rattle.std.proofs.Common.{◌≡◌, [], map, take, get_or}
-use Rattle.report_print.specs.Code.Lines.{shown}
+use Rattle.report_print.specs.Lines.{shown}
 use Rattle.report_print.proofs.line.names_at.Given as goal
 
 abbrev pub invariant-loop-attribute : goal.invariant-loop-attribute

@@ -1,6 +1,6 @@
 -- the words so far
 use Rattle.std.proofs.Common.{◌≡◌, ◌++◌, map, take}
-use Rattle.report_print.specs.Code.Lines.{word_text, later_text}
+use Rattle.report_print.specs.Lines.{word_text, later_text}
 use Rattle.report_print.proofs.line.push_each.Given as goal
 
 abbrev pub invariant-loop-word : goal.invariant-loop-word

@@ -1,7 +1,7 @@
 -- the names so far
 use Rattle.std.proofs.Common.{◌≡◌, ◌++◌, take, codes}
 use Rattle.std.specs.List.{flat_map}
-use Rattle.report_print.specs.Code.Lines.{shown}
+use Rattle.report_print.specs.Lines.{shown}
 use Rattle.report_print.proofs.line.push_later_names.Given as goal
 
 abbrev pub invariant-loop-name : goal.invariant-loop-name

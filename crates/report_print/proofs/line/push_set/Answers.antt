@@ -1,7 +1,7 @@
 -- The names are those at the members of the set.
 use Rattle.std.proofs.Common.{◌≡◌, ◌++◌, ℕ, List, [], OnOk, map, get_or, ap, subst, ◌∙◌}
 use Rattle.topo_types.specs.Modes.{names_in}
-use Rattle.report_print.specs.Code.Lines.{shown}
+use Rattle.report_print.specs.Lines.{shown}
 use Rattle.report_print.specs.Words.{Text, names_text, set_text}
 use Rattle.report_print.proofs.line.push_set.Goals as goal
 

@@ -1,4 +1,4 @@
-use Rattle.sched_lists.proofs.Ids.{sets_all}
+use Rattle.sched_lists.proofs.OutputSets.{sets_all}
 use Rattle.sched_lists.proofs.outlets.are_sets.Goals as goal
 
 pub returns : goal.returns

@@ -1,4 +1,4 @@
-use Rattle.sched_lists.proofs.ListLoops.{becomes_none}
+use Rattle.sched_lists.proofs.OutletLoops.{becomes_none}
 use Rattle.sched_lists.proofs.outlets.emit_output.Goals as goal
 
 pub returns-in-None-clause-ok : goal.returns-in-None-clause-ok

@@ -1,11 +1,11 @@
 use Rattle.std.proofs.Common.{◌∙◌}
 use Rattle.inbox.proofs.Lists.Growing.{continues_on}
-use Rattle.sched_lists.specs.Lists.{read_lists}
+use Rattle.emitted.specs.Lists.{read_lists}
 use Rattle.sched_lists.specs.Outlets.{emit_outlets}
-use Rattle.sched_lists.specs.declared.fault.EventFault.TheVariants.{TooManyMessages}
-use Rattle.sched_lists.proofs.FaultLemmas.{came_from}
-use Rattle.sched_lists.proofs.ListLoops.{emitted_more, emitted_over, outlet_within, outlets_within}
-use Rattle.sched_lists.proofs.ListsLemmas.{same_count}
+use Rattle.emitted.specs.declared.fault.EventFault.TheVariants.{TooManyMessages}
+use Rattle.emitted.proofs.FaultLemmas.{came_from}
+use Rattle.sched_lists.proofs.OutletLoops.{emitted_more, emitted_over, outlet_within, outlets_within}
+use Rattle.emitted.proofs.ListsLemmas.{same_count}
 use Rattle.sched_lists.proofs.outlets.emit_outputs.Goals as goal
 
 pub emit_output-requires-clause-place : goal.emit_output-requires-clause-place

@@ -1,7 +1,7 @@
 use Rattle.std.proofs.Common.{◌≡◌, ◌≤◌, drop, length}
 use Rattle.inbox.specs.Growth.{Continues}
-use Rattle.sched_lists.specs.Limits.{message_limit}
-use Rattle.sched_lists.specs.Lists.{IsExact, read_lists, total}
+use Rattle.emitted.specs.Lists.{message_limit}
+use Rattle.emitted.specs.Lists.{IsExact, read_lists, total}
 use Rattle.sched_lists.specs.Outlets.{seal_outlets}
 use Rattle.sched_lists.proofs.outlets.emit_seals.Given as goal
 

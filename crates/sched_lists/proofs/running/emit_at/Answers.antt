@@ -1,5 +1,5 @@
 use Rattle.std.proofs.Math.Seq.{map-set_same}
-use Rattle.sched_lists.specs.Lists.{read_lists}
+use Rattle.emitted.specs.Lists.{read_lists}
 use Rattle.sched_lists.proofs.EmittingPlaces.{emits_there}
 use Rattle.sched_lists.proofs.running.emit_at.Goals as goal
 

@@ -1,9 +1,9 @@
 use Rattle.inbox.proofs.Lists.Growing.{continues_on}
 use Rattle.sched_lists.specs.Limits.{too_many_rows, too_many_messages}
-use Rattle.sched_lists.specs.Lists.{read_lists}
-use Rattle.sched_lists.specs.declared.fault.EventFault.TheVariants.{TooManyRows, TooManyMessages}
-use Rattle.sched_lists.proofs.FaultLemmas.{came_from}
-use Rattle.sched_lists.proofs.ListsLemmas.{few_read}
+use Rattle.emitted.specs.Lists.{read_lists}
+use Rattle.emitted.specs.declared.fault.EventFault.TheVariants.{TooManyRows, TooManyMessages}
+use Rattle.emitted.proofs.FaultLemmas.{came_from}
+use Rattle.emitted.proofs.ListsLemmas.{few_read}
 use Rattle.sched_lists.proofs.OutletsLemmas.{others_stay_on, others_are_sealed}
 use Rattle.sched_lists.proofs.SettingOff.{emits_all, seals_meet, steps_meet}
 use Rattle.sched_lists.proofs.running.emit_set_off.Goals as goal

@@ -1,11 +1,11 @@
 use Rattle.std.proofs.Common.{◌∙◌, refl}
 use Rattle.inbox.proofs.Lists.Growing.{continues_itself, continues_on}
-use Rattle.sched_lists.specs.Lists.{read_lists}
-use Rattle.sched_lists.specs.declared.fault.EventFault.TheVariants.{TooManyRows, TooManyMessages}
+use Rattle.emitted.specs.Lists.{read_lists}
+use Rattle.emitted.specs.declared.fault.EventFault.TheVariants.{TooManyRows, TooManyMessages}
 use Rattle.sched_lists.proofs.OutletsLemmas.{others_itself, others_stay_on}
-use Rattle.sched_lists.proofs.FaultLemmas.{came_from}
+use Rattle.emitted.proofs.FaultLemmas.{came_from}
 use Rattle.sched_lists.proofs.RunningLemmas.{goes_none, goes_one_more, goes_all, meets_rows, meets_messages}
-use Rattle.sched_lists.proofs.ListsLemmas.{few_read}
+use Rattle.emitted.proofs.ListsLemmas.{few_read}
 use Rattle.sched_lists.proofs.running.go_through.Goals as goal
 
 pub returns-in_err-step_once-clause-rows : goal.returns-in_err-step_once-clause-rows

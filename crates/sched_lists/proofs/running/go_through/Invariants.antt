@@ -1,7 +1,7 @@
 use Rattle.std.proofs.Common.{◌≡◌, ◌≤◌, take, length}
 use Rattle.inbox.specs.Growth.{Continues}
-use Rattle.sched_lists.specs.Limits.{message_limit}
-use Rattle.sched_lists.specs.Lists.{IsExact, read_lists, total}
+use Rattle.emitted.specs.Lists.{message_limit}
+use Rattle.emitted.specs.Lists.{IsExact, read_lists, total}
 use Rattle.sched_lists.specs.Outlets.{OthersStay}
 use Rattle.sched_lists.specs.Code.Running.{GoesOn}
 use Rattle.sched_lists.proofs.running.go_through.Given as goal

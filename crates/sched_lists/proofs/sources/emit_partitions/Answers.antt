@@ -4,8 +4,8 @@ use Rattle.blz_value.specs.Sets.{set_of}
 use Rattle.topo_types.specs.Data.{source_data}
 use Rattle.topo_types.specs.Messages.{Message}
 use Rattle.topo_types.specs.View.{stream_at}
-use Rattle.sched_lists.specs.Lists.{OneListBecomes}
-use Rattle.sched_lists.specs.Code.Counts.{seals_of}
+use Rattle.emitted.specs.Lists.{OneListBecomes}
+use Rattle.emitted.specs.Counts.{seals_of}
 use Rattle.sched_lists.proofs.SourceMessages.{keys_are, few_keys, all_messages_are}
 use Rattle.sched_lists.proofs.sources.emit_partitions.Goals as goal
 

@@ -1,6 +1,6 @@
 use Rattle.std.proofs.Common.{Err, subst, ap, ◌∙◌}
 use Rattle.inbox.specs.Emission.{with_rows}
-use Rattle.sched_lists.specs.Lists.{OneListBecomes}
+use Rattle.emitted.specs.Lists.{OneListBecomes}
 use Rattle.sched_lists.proofs.SourceLists.{no_overflow}
 use Rattle.sched_lists.proofs.SourceMessages.{all_rows}
 use Rattle.sched_lists.proofs.sources.emit_records.Goals as goal

@@ -2,7 +2,7 @@ use Rattle.std.proofs.Common.{◌≡◌, ◌<◌, [], arith, length, subst, sym}
 use Rattle.topo_types.specs.Messages.{emitted_of_source}
 use Rattle.topo_types.specs.View.{source_count}
 use Rattle.data_read.proofs.KeyOfSource.{source_stream}
-use Rattle.sched_lists.specs.Lists.{OneListBecomes, read_lists, list_at}
+use Rattle.emitted.specs.Lists.{OneListBecomes, read_lists, list_at}
 use Rattle.sched_lists.specs.Places.{list_place}
 use Rattle.sched_lists.proofs.SourceLists.{none_emitted, no_messages, place_there, place_empty, next_emitted, room_more}
 use Rattle.sched_lists.proofs.sources.first_lists.Goals as goal

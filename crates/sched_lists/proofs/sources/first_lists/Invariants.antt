@@ -2,7 +2,7 @@
 use Rattle.std.proofs.Common.{◌≤◌, ◌*◌, take}
 use Rattle.std.specs.List.{sum_by}
 use Rattle.data_read.specs.Counting.{count_of}
-use Rattle.sched_lists.specs.Lists.{IsExact, read_lists, total}
+use Rattle.emitted.specs.Lists.{IsExact, read_lists, total}
 use Rattle.sched_lists.specs.Code.Sources.{SourcesEmitted}
 use Rattle.sched_lists.proofs.sources.first_lists.Given as goal
 

@@ -1,5 +1,5 @@
 use Rattle.std.proofs.Math.Seq.{map-set_same}
-use Rattle.sched_run.proofs.ShellsLemmas.{cleared_at}
+use Rattle.sched_hear.proofs.ShellsLemmas.{cleared_at}
 use Rattle.sched_run.proofs.forgetting.clear_at.Goals as goal
 
 pub returns-clause-kinds : goal.returns-clause-kinds

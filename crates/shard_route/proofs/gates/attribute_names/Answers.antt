@@ -2,7 +2,7 @@
 use Rattle.std.proofs.Common.{◌≡◌, ◌∙◌, [], ap}
 use Rattle.std.proofs.lemmas.Result.{IfOk-weaker}
 use Rattle.topo_types.specs.Attributes.{with_columns}
-use Rattle.topo_types.proofs.Modes.Remoding.{copied_names}
+use Rattle.topo_copy.proofs.CopiedNames.{copied_names}
 use Rattle.shard_route.proofs.gates.attribute_names.Goals as goal
 
 pub returns : goal.returns

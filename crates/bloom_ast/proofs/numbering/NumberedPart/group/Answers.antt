@@ -1,7 +1,7 @@
 use Rattle.std.proofs.Common.{◌≡◌, ◌∙◌, ap, sym, subst, length, arith}
 use Rattle.std.proofs.lemmas.List.{length-map}
 use Rattle.bloom_ast.specs.declared.numbered.NumberedExpr.{NumberedExpr}
-use Rattle.bloom_ast.specs.Code.Borrowed.{names_in}
+use Rattle.bloom_ast.specs.Borrowed.{names_in}
 use Rattle.bloom_ast.specs.Columns.{columns_of}
 use Rattle.bloom_ast.specs.Lookup.{declared}
 use Rattle.bloom_ast.specs.Numbered.{IsNumbered}

@@ -1,6 +1,6 @@
 use Rattle.std.proofs.Common.{◌≡◌, ◌∙◌, ap, sym, subst}
 use Rattle.bloom_ast.specs.declared.numbered.NumberedExpr.{NumberedExpr}
-use Rattle.bloom_ast.specs.Code.Borrowed.{names_in}
+use Rattle.bloom_ast.specs.Borrowed.{names_in}
 use Rattle.bloom_ast.specs.Columns.{columns_of, pair_numbers}
 use Rattle.bloom_ast.specs.Lookup.{declared}
 use Rattle.bloom_ast.specs.Numbered.{IsNumbered}

@@ -5,15 +5,15 @@ use Rattle.blz_value.specs.Record.{Row}
 use Rattle.blz_value.specs.Sets.{set_of}
 use Rattle.blz_value.proofs.Membership.{All-of_member}
 use Rattle.bloom_ast.specs.Step.{Sets}
-use Rattle.inbox.specs.Ids.{IsGiven, batch_with_ids}
+use Rattle.messages.specs.Ids.{IsGiven, batch_with_ids}
 use Rattle.inbox.specs.Inbox.{Keeps, HasHeard}
 use Rattle.inbox.specs.Instances.{Instance}
-use Rattle.inbox.specs.Log.{EntryId, entries_with_ids}
-use Rattle.inbox.specs.Messages.{Batch}
+use Rattle.messages.specs.Log.{EntryId, entries_with_ids}
+use Rattle.messages.specs.Messages.{Batch}
 use Rattle.inbox.specs.Timesteps.{one_timestep}
 use Rattle.inbox.specs.Code.Batches.{AllWaitWith, open_key, goes_in, entry_ids_of, Releases}
-use Rattle.inbox.specs.Code.Feeds.{feed_count, port_count}
-use Rattle.inbox.specs.declared.message.Message.{Message}
+use Rattle.messages.specs.Feeds.{feed_count, port_count}
+use Rattle.messages.specs.declared.message.Message.{Message}
 use Rattle.inbox.proofs.Keeping.Hears.{Heard, HearsBatch, hears_all, given_going}
 use Rattle.inbox.proofs.inbox.Inbox.hear.Goals.{In_ok-push_going}
 use Rattle.inbox.proofs.inbox.Inbox.hear.Goals as goal

@@ -1,8 +1,8 @@
 use Rattle.std.proofs.Common.{◌∙◌, ◌++◌, ℕ, List, subst, take}
-use Rattle.inbox.specs.Ids.{pair_with_id, batch_with_ids}
+use Rattle.messages.specs.Ids.{pair_with_id, batch_with_ids}
 use Rattle.inbox.specs.Inbox.{Keeps}
-use Rattle.inbox.specs.Messages.{Pair}
-use Rattle.inbox.specs.declared.message.Message.{Message}
+use Rattle.messages.specs.Messages.{Pair}
+use Rattle.messages.specs.declared.message.Message.{Message}
 use Rattle.inbox.proofs.Keeping.Loops.{heard_more, item_there, take_whole}
 use Rattle.inbox.proofs.inbox.Inbox.hear_all.Goals as goal
 

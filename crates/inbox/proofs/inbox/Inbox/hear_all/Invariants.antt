@@ -1,10 +1,10 @@
 -- the messages so far are heard
 use Rattle.std.proofs.Common.{◌≡◌, ◌++◌, Bool, List, take}
-use Rattle.inbox.specs.Ids.{batch_with_ids}
+use Rattle.messages.specs.Ids.{batch_with_ids}
 use Rattle.inbox.specs.Code.Batches.{AllWaitWith}
 use Rattle.inbox.specs.Inbox.{Keeps, IsFrom, feeds_in}
 use Rattle.inbox.specs.Instances.{Instance}
-use Rattle.inbox.specs.Messages.{Pair, Entry}
+use Rattle.messages.specs.Messages.{Pair, Entry}
 use Rattle.inbox.proofs.inbox.Inbox.hear_all.Given as goal
 
 abbrev pub invariant-loop-feed : goal.invariant-loop-feed

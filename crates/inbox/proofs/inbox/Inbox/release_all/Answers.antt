@@ -1,6 +1,6 @@
 use Rattle.std.proofs.Common.{rules, ◌≡◌, ◌<◌, ◌-◌, ◌∙◌, ◌++◌, ◌∷◌, ap, refl, sym, subst, length, ℕ, List}
 use Rattle.std.specs.List.{All}
-use Rattle.inbox.specs.Log.{EntryId}
+use Rattle.messages.specs.Log.{EntryId}
 use Rattle.inbox.specs.Code.Batches.{steps_released}
 use Rattle.inbox.proofs.Keeping.Loops.{given_released, releases_some}
 use Rattle.inbox.proofs.inbox.Inbox.release_all.Goals as goal

@@ -1,5 +1,5 @@
 use Rattle.std.proofs.Common.{◌∙◌, ap, length, List, arith}
-use Rattle.inbox.specs.declared.message.Message.{Message}
+use Rattle.messages.specs.declared.message.Message.{Message}
 use Rattle.sched_run.proofs.EmittedSeen.{few_read_rows, seen_within, seen_contents, seen_in_order, if_ok_so}
 use Rattle.sched_run.proofs.net.Net.contents.Goals as goal
 

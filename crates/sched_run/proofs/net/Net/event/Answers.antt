@@ -1,7 +1,7 @@
 use Rattle.std.proofs.Common.{ℕ, map, ap, sym, subst, ◌∙◌}
 use Rattle.inbox.specs.Events.{Event, deliver, batch, order, take_one}
-use Rattle.sched_run.specs.Net.{EventAnswers, EventLeaves}
-use Rattle.sched_run.specs.Numbered.{numbered, numbered_part, numbered_parts}
+use Rattle.sched_hear.specs.Net.{EventAnswers, EventLeaves}
+use Rattle.sched_hear.specs.Numbered.{numbered, numbered_part, numbered_parts}
 use Rattle.sched_run.proofs.net.Net.event.Goals as goal
 
 pub returns-in-Deliver-clause-answer : goal.returns-in-Deliver-clause-answer
@@ -12,7 +12,7 @@ returns-in-Deliver-clause-answer g c =
 
 pub returns-in-Deliver-clause-leaves : goal.returns-in-Deliver-clause-leaves
 returns-in-Deliver-clause-leaves g c =
-    subst (λ (e : Event). EventLeaves c.args.self.now.valid.now.view (map (λ b. (goal.Component-dyn g (b.vtable, b.value)).loaded b.value) c.args.self.now.shells.items) (map (λ b. (goal.Component-dyn g (b.vtable, b.value)).kept b.value) c.args.self.now.shells.items) (map (λ b. (goal.Component-dyn g (b.vtable, b.value)).kept b.value) c.deliver.new.self.shells.items) c.args.self.now.books c.deliver.new.self.books e c.deliver.result)
+    subst (λ (e : Event). EventLeaves c.args.self.now.valid.now.view (map (λ b. (goal.Component-dyn g (b.vtable, b.value)).loaded b.value) c.args.self.now.shells.items) (map (λ b. (goal.Component-dyn g (b.vtable, b.value)).kept b.value) c.args.self.now.shells.items) (map (λ b. (goal.Component-dyn g (b.vtable, b.value)).kept b.value) c.deliver.new.shells.items) c.args.self.now.books c.deliver.new.self e c.deliver.result)
     (ap (λ (n : ℕ). deliver (numbered_part c.args.self.now.valid.now.view n c.in-Deliver.sent c.in-Deliver.port) n c.in-Deliver.replica) c.component_of-number.ensures ∙ sym (ap (numbered c.args.self.now.valid.now.view) c.in-Deliver.is))
     c.deliver.ensures.leaves
 
@@ -24,7 +24,7 @@ returns-in-Batch-clause-answer g c =
 
 pub returns-in-Batch-clause-leaves : goal.returns-in-Batch-clause-leaves
 returns-in-Batch-clause-leaves g c =
-    subst (λ (e : Event). EventLeaves c.args.self.now.valid.now.view (map (λ b. (goal.Component-dyn g (b.vtable, b.value)).loaded b.value) c.args.self.now.shells.items) (map (λ b. (goal.Component-dyn g (b.vtable, b.value)).kept b.value) c.args.self.now.shells.items) (map (λ b. (goal.Component-dyn g (b.vtable, b.value)).kept b.value) c.deliver_all.new.self.shells.items) c.args.self.now.books c.deliver_all.new.self.books e c.deliver_all.result)
+    subst (λ (e : Event). EventLeaves c.args.self.now.valid.now.view (map (λ b. (goal.Component-dyn g (b.vtable, b.value)).loaded b.value) c.args.self.now.shells.items) (map (λ b. (goal.Component-dyn g (b.vtable, b.value)).kept b.value) c.args.self.now.shells.items) (map (λ b. (goal.Component-dyn g (b.vtable, b.value)).kept b.value) c.deliver_all.new.shells.items) c.args.self.now.books c.deliver_all.new.self e c.deliver_all.result)
     (ap (λ parts. batch (numbered_parts c.args.self.now.valid.now.view c.component_of-number-in-Batch.result parts) c.component_of-number-in-Batch.result c.in-Batch.replica) c.as_slice.ensures ∙ ap (λ (n : ℕ). batch (numbered_parts c.args.self.now.valid.now.view n c.in-Batch.parts) n c.in-Batch.replica) c.component_of-number-in-Batch.ensures ∙ sym (ap (numbered c.args.self.now.valid.now.view) c.in-Batch.is))
     c.deliver_all.ensures.leaves
 
@@ -32,13 +32,13 @@ pub returns-in-Order-clause-answer : goal.returns-in-Order-clause-answer
 returns-in-Order-clause-answer g c =
     subst (λ (e : Event). EventAnswers c.args.self.now.valid.now.view (map (λ b. (goal.Component-dyn g (b.vtable, b.value)).loaded b.value) c.args.self.now.shells.items) (map (λ b. (goal.Component-dyn g (b.vtable, b.value)).kept b.value) c.args.self.now.shells.items) c.args.self.now.books e c.order.result)
     (ap (λ (n : ℕ). order (numbered_part c.args.self.now.valid.now.view n c.in-Order.sent c.in-Order.port) n) c.component_of-number-in-Order.ensures ∙ sym (ap (numbered c.args.self.now.valid.now.view) c.in-Order.is))
-    c.order.ensures.answer
+    (c.order.ensures.answer (map (λ b. (goal.Component-dyn g (b.vtable, b.value)).loaded b.value) c.args.self.now.shells.items) (map (λ b. (goal.Component-dyn g (b.vtable, b.value)).kept b.value) c.args.self.now.shells.items))
 
 pub returns-in-Order-clause-leaves : goal.returns-in-Order-clause-leaves
 returns-in-Order-clause-leaves g c =
-    subst (λ (e : Event). EventLeaves c.args.self.now.valid.now.view (map (λ b. (goal.Component-dyn g (b.vtable, b.value)).loaded b.value) c.args.self.now.shells.items) (map (λ b. (goal.Component-dyn g (b.vtable, b.value)).kept b.value) c.args.self.now.shells.items) (map (λ b. (goal.Component-dyn g (b.vtable, b.value)).kept b.value) c.order.new.self.shells.items) c.args.self.now.books c.order.new.self.books e c.order.result)
+    subst (λ (e : Event). EventLeaves c.args.self.now.valid.now.view (map (λ b. (goal.Component-dyn g (b.vtable, b.value)).loaded b.value) c.args.self.now.shells.items) (map (λ b. (goal.Component-dyn g (b.vtable, b.value)).kept b.value) c.args.self.now.shells.items) (map (λ b. (goal.Component-dyn g (b.vtable, b.value)).kept b.value) c.args.self.now.shells.items) c.args.self.now.books c.order.new.self e c.order.result)
     (ap (λ (n : ℕ). order (numbered_part c.args.self.now.valid.now.view n c.in-Order.sent c.in-Order.port) n) c.component_of-number-in-Order.ensures ∙ sym (ap (numbered c.args.self.now.valid.now.view) c.in-Order.is))
-    c.order.ensures.leaves
+    (c.order.ensures.leaves (map (λ b. (goal.Component-dyn g (b.vtable, b.value)).loaded b.value) c.args.self.now.shells.items) (map (λ b. (goal.Component-dyn g (b.vtable, b.value)).kept b.value) c.args.self.now.shells.items))
 
 pub returns-in-Take-clause-answer : goal.returns-in-Take-clause-answer
 returns-in-Take-clause-answer g c =
@@ -48,6 +48,6 @@ returns-in-Take-clause-answer g c =
 
 pub returns-in-Take-clause-leaves : goal.returns-in-Take-clause-leaves
 returns-in-Take-clause-leaves g c =
-    subst (λ (e : Event). EventLeaves c.args.self.now.valid.now.view (map (λ b. (goal.Component-dyn g (b.vtable, b.value)).loaded b.value) c.args.self.now.shells.items) (map (λ b. (goal.Component-dyn g (b.vtable, b.value)).kept b.value) c.args.self.now.shells.items) (map (λ b. (goal.Component-dyn g (b.vtable, b.value)).kept b.value) c.take.new.self.shells.items) c.args.self.now.books c.take.new.self.books e c.take.result)
+    subst (λ (e : Event). EventLeaves c.args.self.now.valid.now.view (map (λ b. (goal.Component-dyn g (b.vtable, b.value)).loaded b.value) c.args.self.now.shells.items) (map (λ b. (goal.Component-dyn g (b.vtable, b.value)).kept b.value) c.args.self.now.shells.items) (map (λ b. (goal.Component-dyn g (b.vtable, b.value)).kept b.value) c.take.new.shells.items) c.args.self.now.books c.take.new.self e c.take.result)
     (ap (λ (n : ℕ). take_one n c.in-Take.replica) c.component_of-number-in-Take.ensures ∙ sym (ap (numbered c.args.self.now.valid.now.view) c.in-Take.is))
     c.take.ensures.leaves

@@ -1,6 +1,6 @@
 use Rattle.std.proofs.Common.{◌∙◌, sym, map, refl, arith}
 use Rattle.std.proofs.lemmas.List.{length-map}
-use Rattle.sched_run.specs.Numbered.{component_number}
+use Rattle.sched_hear.specs.Numbered.{component_number}
 use Rattle.sched_run.proofs.ForgettingLemmas.{answers_gone, answers_forgotten, leaves_forgotten, forgets_inside, shell_forgets}
 use Rattle.sched_run.proofs.net.Net.forget.Goals as goal
 

@@ -1,6 +1,6 @@
 use Rattle.std.proofs.Common.{◌≡◌, ◌∙◌, true, length, sym, arith}
 use Rattle.inbox.proofs.Ranges.{all_below, not_all_below}
-use Rattle.sched_run.specs.Net.{execution_in}
+use Rattle.sched_hear.specs.Net.{execution_in}
 use Rattle.sched_run.specs.Reading.{holds_none_at}
 use Rattle.sched_run.proofs.LeftSeen.{more_numbers}
 use Rattle.sched_run.proofs.net.Net.holds_none.Goals as goal

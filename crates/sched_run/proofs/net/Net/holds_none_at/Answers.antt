@@ -1,7 +1,7 @@
 use Rattle.std.proofs.Common.{◌≡◌, ◌∙◌, sym, arith}
 use Rattle.inbox.specs.Completeness.{held_count_at}
 use Rattle.inbox.specs.Wiring.{wiring_of}
-use Rattle.sched_run.specs.Net.{execution_in}
+use Rattle.sched_hear.specs.Net.{execution_in}
 use Rattle.sched_run.proofs.LeftSeen.{more_numbers, some_held, none_held}
 use Rattle.sched_run.proofs.net.Net.holds_none_at.Goals as goal
 

@@ -1,6 +1,6 @@
 use Rattle.std.proofs.Common.{◌==◌, ◌∙◌, arith}
 use Rattle.std.proofs.lemmas.Bool.{ne_eqb}
-use Rattle.sched_run.specs.Net.{execution_in}
+use Rattle.sched_hear.specs.Net.{execution_in}
 use Rattle.sched_run.proofs.LeftSeen.{complete_test, incomplete_test, tells_complete}
 use Rattle.sched_run.proofs.net.Net.is_complete.Goals as goal
 

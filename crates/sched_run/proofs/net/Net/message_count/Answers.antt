@@ -1,8 +1,8 @@
 use Rattle.std.proofs.Common.{◌∙◌, sym}
 use Rattle.sched_lists.specs.Lists.{read_lists}
-use Rattle.sched_run.specs.Net.{execution_in}
-use Rattle.sched_lists.proofs.ListsLemmas.{total-read}
-use Rattle.sched_run.proofs.Showing.{all_shown}
+use Rattle.sched_hear.specs.Net.{execution_in}
+use Rattle.emitted.proofs.ListsLemmas.{total-read}
+use Rattle.sched_hear.proofs.Showing.{all_shown}
 use Rattle.sched_run.proofs.net.Net.message_count.Goals as goal
 
 pub returns : goal.returns

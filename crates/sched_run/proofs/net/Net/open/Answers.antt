@@ -1,4 +1,4 @@
-use Rattle.sched_run.specs.Bench.{instance_components}
+use Rattle.sched_bench.specs.Bench.{instance_components}
 use Rattle.sched_run.proofs.FirstBooks.{bodies_there, net_stands, kinds_stay}
 use Rattle.sched_run.proofs.net.Net.open.Goals as goal
 

@@ -1,6 +1,6 @@
 use Rattle.std.proofs.Common.{subst}
 use Rattle.sched_run.specs.Reading.{AreEmitted}
-use Rattle.sched_run.specs.Net.{execution_in}
+use Rattle.sched_hear.specs.Net.{execution_in}
 use Rattle.sched_run.proofs.net.Net.placed.Goals as goal
 
 pub returns-clause-records : goal.returns-clause-records

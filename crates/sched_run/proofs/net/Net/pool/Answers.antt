@@ -1,7 +1,7 @@
 use Rattle.std.proofs.Common.{sym, subst}
 use Rattle.sched_run.proofs.EmittedSeen.{seen_records}
 use Rattle.sched_run.specs.Reading.{AreEmitted}
-use Rattle.sched_run.specs.Net.{execution_in}
+use Rattle.sched_hear.specs.Net.{execution_in}
 use Rattle.sched_run.proofs.net.Net.pool.Goals as goal
 
 pub returns-clause-records : goal.returns-clause-records

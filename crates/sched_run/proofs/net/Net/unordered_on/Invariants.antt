@@ -1,7 +1,7 @@
 -- those of the messages so far
 use Rattle.std.proofs.Common.{◌≡◌, take}
 use Rattle.std.specs.List.{count_by}
-use Rattle.sched_run.specs.Code.Seen.{list_seen}
+use Rattle.sched_hear.specs.Seen.{list_seen}
 use Rattle.sched_run.specs.Code.Remaining.{is_unlogged}
 use Rattle.sched_run.proofs.net.Net.unordered_on.Given as goal
 

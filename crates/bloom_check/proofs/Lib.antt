@@ -1,0 +1,5 @@
+mod Heights
+mod Fitting
+mod FaultPlaces
+mod FirstFaultLemmas
+mod WholeCheck

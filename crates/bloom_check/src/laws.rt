@@ -1,0 +1,12 @@
+//! The law of the first fault, the contract of a function that does nothing.
+ghost use Rattle.std.specs.Prelude.{◌≡◌};
+ghost use Rattle.bloom_ast.specs.Faults.{fault_of};
+ghost use Rattle.bloom_ast.specs.FirstFault.{first_fault};
+ghost use Rattle.bloom_ast.specs.Form.{Form};
+
+/// The first fault of a module, which the check finds by arrows and sets of bits, is that by what is
+/// read: an expression is momentary where it reads a port, directly or through scratches, and a rule
+/// is recursive where its head is in the cone of its body.
+pub fn fault_law()
+    ensures { (m : Form) → fault_of m ≡ first_fault m }
+{}

@@ -1,0 +1,6 @@
+-- the names of the attributes so far
+use Rattle.std.proofs.Common.{◌≡◌, [], map, take, get_or}
+use Rattle.command_checks.proofs.given_data.names_at.Given as goal
+
+abbrev pub invariant-loop-attribute : goal.invariant-loop-attribute
+invariant-loop-attribute l = l.held.items ≡ map (λ attribute. get_or l.names attribute []) (take l.attribute-index l.attributes)

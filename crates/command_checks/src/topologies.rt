@@ -1,0 +1,65 @@
+//! A topology with its modules, validated.
+ghost use Rattle.std.specs.Prelude.{◌≡◌, IfOk, length};
+ghost use Rattle.std.specs.List.{filter_map};
+ghost use Rattle.topo_types.specs.Allowed.{IsAllowed};
+ghost use Rattle.topo_types.specs.Valid.{needs_module};
+ghost use Rattle.topo_types.specs.Validity.{fault_of};
+ghost use Rattle.command_checks.specs.Checks as check;
+ghost use Rattle.command_checks.specs.Found.{HasModules, found_shown};
+ghost use Rattle.command_files.specs.Ran.{Gives, Ran};
+ghost use Rattle.command_files.specs.Ends.{files_states, source};
+
+use crate::module_file::module_files;
+use crate::topology_file::topology_file;
+use bloom_ast::Checked;
+use blz_outside::Files;
+use command_files::{Stop, refused};
+use report_print::Refusal;
+use std::alloc::Global;
+use topo_check::validate;
+use topo_types::{Topology, Valid, ValidFault};
+
+/// A valid topology, and the modules that it names, in written order.
+#[derive(Drop)]
+pub struct WithModules {
+    pub valid: Valid,
+    pub modules: Vec<Checked>,
+}
+
+// The topology, where it is valid with these modules.
+fn validated(alloc: Global, topology: &Topology, modules: &[Checked]) -> Result<Valid, Stop>
+    requires each { length modules.now ≡ length (filter_map needs_module topology.now.components) }
+    requires allowed { IsAllowed topology.now }
+    ensures { Gives (λ valid. valid) result (check.valid_with topology.now modules.now (fault_of topology.now modules.now)) }
+{
+    match validate(alloc, topology, modules) {
+        Ok(valid) => Ok(valid),
+        Err(ValidFault::Bad(fault)) => Err(refused(alloc, &Refusal::Topology(fault))),
+        Err(ValidFault::NoMemory) => Err(Stop::NoMemory),
+    }
+}
+
+/// The topology in the file of this name, and the modules that it names, each in a file of its own.
+pub fn with_modules<F: Files>(alloc: Global, name: &str, files: &mut F) -> Result<WithModules, Stop>
+    ensures ran { Ran found_shown
+        (files_states (source (F.held files.old) (F.steady files.old) (F.faults files.old))
+        (source (F.held files.new) (F.steady files.new) (F.faults files.new)))
+        result (check.with_modules name.now) }
+    ensures modules { IfOk result (λ found. HasModules (found_shown found)) }
+{
+    let topology = topology_file(alloc, name, files)?;
+    let modules = module_files(alloc, topology.components.as_slice(), files)?;
+    let valid = validated(alloc, &topology, &modules)?;
+    Ok(WithModules { valid, modules })
+}
+
+/// The same for a command that needs no module.
+pub fn valid_topology<F: Files>(alloc: Global, name: &str, files: &mut F) -> Result<Valid, Stop>
+    ensures { Ran (λ valid. valid)
+        (files_states (source (F.held files.old) (F.steady files.old) (F.faults files.old))
+        (source (F.held files.new) (F.steady files.new) (F.faults files.new)))
+        result (check.valid_topology name.now) }
+{
+    let found = with_modules(alloc, name, files)?;
+    Ok(found.valid)
+}

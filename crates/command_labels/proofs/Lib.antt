@@ -1,0 +1,3 @@
+pub mod RepliesLemmas
+pub mod ShardLemmas
+pub mod BuiltInLemmas

@@ -1,0 +1,5 @@
+pub mod Replies
+pub mod Shards
+pub mod ShardText
+pub mod Answers
+pub mod BuiltIn

@@ -1,8 +1,0 @@
--- the feeds so far
-use Rattle.std.proofs.Common.{take}
-use Rattle.inbox.specs.Code.Feeds.{AreFresh}
-use Rattle.inbox.specs.Code.Ports.{port_keys}
-use Rattle.inbox.proofs.hearing.feeds.fresh_feeds.Given as goal
-
-abbrev pub invariant-loop-port : goal.invariant-loop-port
-invariant-loop-port l = AreFresh (port_keys l.ports) (take l.port-index l.feed_ports) l.feeds.items

@@ -1,8 +1,0 @@
-use Rattle.std.proofs.Common.{◌≡◌, ◌++◌}
-use Rattle.blz_value.specs.Operators.{unpaired}
-use Rattle.path_annotate.specs.Roots.{no_roots}
-use Rattle.path_annotate.proofs.Copies.RootsLemmas.{unpaired_from}
-use Rattle.path_annotate.proofs.tracing.add_unpaired.Given as goal
-
-abbrev pub invariant-loop-i : goal.invariant-loop-i
-invariant-loop-i l = l.roots.items ++ unpaired_from l.pairs l.i l.right ≡ l.initial.roots.items ++ no_roots (unpaired l.pairs l.right)

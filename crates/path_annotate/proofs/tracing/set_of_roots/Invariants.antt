@@ -1,7 +1,0 @@
-use Rattle.std.proofs.Common.{◌≡◌, map, drop}
-use Rattle.bloom_ast.specs.Reads.{with_all}
-use Rattle.path_annotate.specs.Gates.{root_set, set_of_roots}
-use Rattle.path_annotate.proofs.tracing.set_of_roots.Given as goal
-
-abbrev pub invariant-loop-root : goal.invariant-loop-root
-invariant-loop-root l = with_all l.set.bits (map root_set (drop l.root-index l.roots)) ≡ set_of_roots l.roots

@@ -1,0 +1,2 @@
+pub mod GatesLemmas
+pub mod RootsLemmas

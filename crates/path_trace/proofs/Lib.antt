@@ -1,0 +1,6 @@
+mod Lists
+mod ByNumberLemmas
+mod ByNumberCorrect
+mod ReadingsCorrect
+mod UsesLemmas
+mod AnnotationCorrect

@@ -1,0 +1,2 @@
+pub mod DeriveText
+pub mod Code

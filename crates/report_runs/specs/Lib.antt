@@ -1,0 +1,3 @@
+pub mod RunText
+pub mod SoakText
+pub mod Code

@@ -1,0 +1,4 @@
+-- What private functions give.
+pub mod Parts
+pub mod Taking
+pub mod Hearing

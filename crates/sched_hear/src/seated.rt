@@ -1,0 +1,71 @@
+//! The books of one instance.
+ghost use Rattle.std.specs.Prelude.{◌≡◌, ◌+◌, ◌<◌, ◌^◌};
+ghost use Rattle.std.specs.List.{list_any};
+ghost use Rattle.inbox.specs.Log.{is_same_entry_id};
+ghost use Rattle.sched_hear.specs.Code.Taking.{taken_in, took_one, EarForgets};
+
+use blz_value::Items;
+use inbox::{Feed, Inbox};
+use sched_lists::Outlet;
+use std::collections::BTreeSet;
+
+/// What an instance hears: an inbox, with the feed and the index of each message that was heard in
+/// this life; or of an Order component how many entries it took in this life.
+#[derive(Drop)]
+pub enum Ear {
+    /// Messages are heard.
+    Hears(Inbox, BTreeSet<(u32, u32)>),
+    /// So many entries of a log were taken.
+    Takes(usize),
+}
+
+/// Whether a message with an index was heard on a feed.
+pub fn is_known(known: &BTreeSet<(u32, u32)>, feed: u32, index: u32) -> bool
+    ensures { result ≡ list_any (is_same_entry_id (feed, index)) known.now.keys }
+{
+    known.contains(&(feed, index))
+}
+
+impl Ear {
+    /// How many entries were taken in this life; none where messages are heard.
+    pub fn taken(&self) -> usize
+        ensures { result ≡ taken_in self.now }
+    {
+        match self {
+            Ear::Hears(..) => 0,
+            Ear::Takes(taken) => *taken,
+        }
+    }
+
+    /// An entry more is taken.
+    pub fn take_one(&mut self)
+        requires { taken_in self.old + 1 < 2 ^ 64 }
+        ensures { self.new ≡ took_one self.old }
+    {
+        *self = Ear::Takes(self.taken() + 1);
+    }
+
+    /// A life begins. It takes no memory.
+    pub fn forget(&mut self)
+        ensures { EarForgets self.old self.new }
+    {
+        match self {
+            Ear::Hears(inbox, known) => {
+                inbox.clear();
+                known.clear();
+            }
+            Ear::Takes(taken) => *taken = 0,
+        }
+    }
+}
+
+/// An instance: where it emits, on which feeds messages come to it, and what it heard.
+#[derive(Drop)]
+pub struct Seated {
+    /// The lists to which it emits.
+    pub outlets: Items<Outlet>,
+    /// The feeds on which messages come to it.
+    pub feeds: Items<Feed>,
+    /// What it heard or took.
+    pub ear: Ear,
+}

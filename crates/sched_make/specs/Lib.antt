@@ -1,0 +1,4 @@
+pub mod Applying
+pub mod Made
+pub mod Making
+pub mod Code

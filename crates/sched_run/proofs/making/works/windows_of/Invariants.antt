@@ -1,6 +1,0 @@
--- the windows on the lanes so far
-use Rattle.sched_run.proofs.WorksLemmas.{WindowsBelow}
-use Rattle.sched_run.proofs.making.works.windows_of.Given as goal
-
-abbrev pub invariant-loop-lane : goal.invariant-loop-lane
-invariant-loop-lane g l = WindowsBelow l.net.valid.now.view l.net.books l.lanes l.windows.items l.lane-index

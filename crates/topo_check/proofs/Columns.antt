@@ -1,0 +1,3 @@
+-- Columns, and the attributes that they name.
+pub mod Growing
+pub mod BodyColumns

@@ -1,0 +1,3 @@
+-- Lists and their elements.
+pub mod Distinct
+pub mod Positions

@@ -1,0 +1,2 @@
+-- Worked topologies with faults.
+pub mod Refusals

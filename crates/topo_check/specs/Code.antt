@@ -1,0 +1,5 @@
+pub mod Built
+pub mod Chosen
+pub mod Named
+pub mod OfView
+pub mod Validating

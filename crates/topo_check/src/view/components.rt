@@ -1,0 +1,288 @@
+//! Components by numbers: ports, outputs with roots and gates, and notes.
+ghost use Rattle.std.specs.Prelude.{◌≡◌, ◌≤◌, ◌<◌, map, length, option_map, IfOk, All};
+ghost use Rattle.std.specs.List.{enumerate_from};
+ghost use Rattle.path_annotate.specs.Annotation.{notes_of};
+ghost use Rattle.path_annotate.specs.Roots.{no_roots as no_roots_of};
+ghost use Rattle.topo_types.specs.ViewOf as spec;
+ghost use Rattle.topo_types.specs.Kept.{component_kept, output_kept, port_kept};
+ghost use Rattle.topo_check.specs.Code.Built.{site_seen, sites_seen, IsBuilt};
+
+use crate::view::numbers::{attributes_of, mode_from, note_from, numbers_of};
+use crate::view::sites::Site;
+use bloom_ast::Program;
+use blz_value::{Items, Str};
+use fd_closure::{AttrNames, Attrs};
+use path_annotate::{Note, Notes};
+use path_trace::{annotate, gate_of, roots};
+use std::alloc::{AllocError, Global};
+use topo_copy::copy_program;
+use topo_types::{Declared, KeptComponent, KeptOutput, KeptPort, Side};
+
+// ---- ports and outputs
+
+fn port_of(alloc: Global, names: &AttrNames, port: &Side) -> Result<KeptPort, AllocError>
+    ensures { IfOk result (λ kept. port_kept kept ≡ spec.port_view names.now port.now) }
+{
+    let name = port.name.copy()?;
+    let columns = Items::from_vec(numbers_of(alloc, names, port.columns.as_slice())?);
+    Ok(KeptPort { name, columns })
+}
+
+fn ports_of(alloc: Global, names: &AttrNames, ports: &[Side]) -> Result<Items<KeptPort>, AllocError>
+    ensures { IfOk result (λ kept. map port_kept kept ≡ map (spec.port_view names.now) ports.now) }
+{
+    let mut kept = Vec::new(alloc);
+    for port in ports {
+        kept.push(port_of(alloc, names, port)?)?;
+    }
+    Ok(Items::from_vec(kept))
+}
+
+// No root for each of these columns.
+fn no_roots(alloc: Global, columns: &[Str]) -> Result<Vec<Option<u8>>, AllocError>
+    ensures { IfOk result (λ roots. roots.items ≡ no_roots_of columns.now) }
+{
+    columns.iter().map(|_| None).collect(alloc)
+}
+
+// The roots of the columns of an output.
+#[tactic(auto, using(crate::proofs::Faults::BuiltSites::output_within, crate::proofs::Faults::BuiltSites::stock_of))]
+fn roots_with(
+    alloc: Global,
+    names: &AttrNames,
+    site: &Site<'_>,
+    number: usize,
+    output: &Side,
+) -> Result<Vec<Option<u8>>, AllocError>
+    requires built { IsBuilt (site_seen site.now) }
+    requires within { number < length site.now.outputs }
+    ensures { IfOk result (λ roots. roots.items ≡ spec.roots_with names.now site.now.program (number, output.now)) }
+{
+    match &site.program {
+        Some(program) => roots(alloc, program, names, number as u32),
+        None => no_roots(alloc, output.columns.as_slice()),
+    }
+}
+
+// The gate of an output.
+#[tactic(auto, using(crate::proofs::Faults::BuiltSites::output_within, crate::proofs::Faults::BuiltSites::stock_of))]
+fn gate_with(
+    alloc: Global,
+    names: &AttrNames,
+    site: &Site<'_>,
+    number: usize,
+    output: &Side,
+) -> Result<Attrs, AllocError>
+    requires built { IsBuilt (site_seen site.now) }
+    requires within { number < length site.now.outputs }
+    ensures { IfOk result (λ gate. gate ≡ spec.gate_with names.now site.now.program (number, output.now)) }
+{
+    match &site.program {
+        Some(program) => gate_of(alloc, program, names, number as u32),
+        None => Ok(Attrs::from_bits(0)),
+    }
+}
+
+fn output_of(
+    alloc: Global,
+    names: &AttrNames,
+    site: &Site<'_>,
+    number: usize,
+    output: &Side,
+) -> Result<KeptOutput, AllocError>
+    requires built { IsBuilt (site_seen site.now) }
+    requires within { number < length site.now.outputs }
+    ensures { IfOk result (λ kept. output_kept kept ≡ spec.output_view names.now site.now.program (number, output.now)) }
+{
+    let name = output.name.copy()?;
+    let columns = attributes_of(alloc, names, output.columns.as_slice())?;
+    let roots = Items::from_vec(roots_with(alloc, names, site, number, output)?);
+    let gate = gate_with(alloc, names, site, number, output)?;
+    Ok(KeptOutput {
+        name,
+        columns,
+        roots,
+        gate,
+    })
+}
+
+fn outputs_of(
+    alloc: Global,
+    names: &AttrNames,
+    site: &Site<'_>,
+) -> Result<Items<KeptOutput>, AllocError>
+    requires { IsBuilt (site_seen site.now) }
+    ensures { IfOk result (λ kept. map output_kept kept ≡ map (spec.output_view names.now site.now.program) (enumerate_from 0 site.now.outputs)) }
+{
+    let mut kept = Vec::new(alloc);
+    for (number, output) in site.outputs.as_slice().iter().enumerate() {
+        kept.push(output_of(alloc, names, site, number, output)?)?;
+    }
+    Ok(Items::from_vec(kept))
+}
+
+// ---- notes
+
+/// The notes that a body gives, None where there is none.
+pub(crate) fn derived_notes(
+    alloc: Global,
+    names: &AttrNames,
+    site: &Site<'_>,
+) -> Result<Option<Notes>, AllocError>
+    requires { IsBuilt (site_seen site.now) }
+    ensures { IfOk result (λ notes. notes ≡ option_map (notes_of names.now) site.now.program) }
+{
+    match &site.program {
+        Some(program) => Ok(Some(annotate(alloc, program, names)?)),
+        None => Ok(None),
+    }
+}
+
+// The note that is declared of a path.
+fn declared_note(names: &AttrNames, notes: &[Declared], port: &Str, output: &Str) -> Option<Note>
+    ensures { result ≡ spec.declared_note names.now notes.now port.now output.now }
+{
+    let declared = notes
+        .iter()
+        .find(|note| note.from.equals(port) && note.to.equals(output));
+    match declared {
+        Some(note) => Some(note_from(names, note.note, note.gate.as_slice())),
+        None => None,
+    }
+}
+
+/// The note that a body gives a path.
+#[tactic(auto, using(crate::proofs::Faults::BuiltSites::none_derived))]
+pub(crate) fn derived_note(
+    names: &AttrNames,
+    site: &Site<'_>,
+    derived: &Option<Notes>,
+    port: usize,
+    output: usize,
+) -> Option<Note>
+    requires built { IsBuilt (site_seen site.now) }
+    requires notes { derived.now ≡ option_map (notes_of names.now) site.now.program }
+    requires port { port < length site.now.ports }
+    requires output { output < length site.now.outputs }
+    ensures { result ≡ spec.derived_note names.now site.now.program port output }
+{
+    match derived {
+        Some(notes) => notes.at(port as u32, output as u32),
+        None => None,
+    }
+}
+
+// The notes of the paths from a port.
+fn notes_from(
+    alloc: Global,
+    names: &AttrNames,
+    site: &Site<'_>,
+    derived: &Option<Notes>,
+    number: usize,
+    port: &Side,
+) -> Result<Items<Option<Note>>, AllocError>
+    requires built { IsBuilt (site_seen site.now) }
+    requires notes { derived.now ≡ option_map (notes_of names.now) site.now.program }
+    requires port { number < length site.now.ports }
+    ensures { IfOk result (λ row. row ≡ map (spec.note_view names.now (site_seen site.now) (number, port.now)) (enumerate_from 0 site.now.outputs)) }
+{
+    let declared = site.entry.notes.as_slice();
+    let mut row = Vec::new(alloc);
+    for (at, output) in site.outputs.as_slice().iter().enumerate() {
+        let given = declared_note(names, declared, &port.name, &output.name);
+        row.push(given.or(derived_note(names, site, derived, number, at)))?;
+    }
+    Ok(Items::from_vec(row))
+}
+
+// The notes of the paths from each port.
+fn rows_with(
+    alloc: Global,
+    names: &AttrNames,
+    site: &Site<'_>,
+    derived: &Option<Notes>,
+) -> Result<Items<Items<Option<Note>>>, AllocError>
+    requires built { IsBuilt (site_seen site.now) }
+    requires notes { derived.now ≡ option_map (notes_of names.now) site.now.program }
+    ensures { IfOk result (λ rows. rows ≡ spec.notes_view names.now (site_seen site.now)) }
+{
+    let mut rows = Vec::new(alloc);
+    for (number, port) in site.ports.as_slice().iter().enumerate() {
+        rows.push(notes_from(alloc, names, site, derived, number, port)?)?;
+    }
+    Ok(Items::from_vec(rows))
+}
+
+fn notes_with(
+    alloc: Global,
+    names: &AttrNames,
+    site: &Site<'_>,
+) -> Result<Items<Items<Option<Note>>>, AllocError>
+    requires { IsBuilt (site_seen site.now) }
+    ensures { IfOk result (λ rows. rows ≡ spec.notes_view names.now (site_seen site.now)) }
+{
+    let derived = derived_notes(alloc, names, site)?;
+    rows_with(alloc, names, site, &derived)
+}
+
+// ---- components
+
+fn program_of(alloc: Global, site: &Site<'_>) -> Result<Option<Program>, AllocError>
+    ensures { IfOk result (λ program. program ≡ site.now.program) }
+{
+    match &site.program {
+        Some(program) => Ok(Some(copy_program(alloc, program)?)),
+        None => Ok(None),
+    }
+}
+
+// A number of replicas, and 0 in place of a negative one.
+fn replicas_of(written: i64) -> u32
+    requires { spec.count_from written ≤ 8 }
+    ensures { result ≡ spec.count_from written }
+{
+    if written < 0 { 0 } else { written as u32 }
+}
+
+fn component_of(
+    alloc: Global,
+    names: &AttrNames,
+    site: &Site<'_>,
+) -> Result<KeptComponent, AllocError>
+    requires { IsBuilt (site_seen site.now) }
+    ensures { IfOk result (λ kept. component_kept kept ≡ spec.component_view names.now (site_seen site.now)) }
+{
+    let entry = site.entry;
+    let name = entry.name.copy()?;
+    let program = program_of(alloc, site)?;
+    let mode = mode_from(names, entry.mode, entry.key.as_slice());
+    let replicas = replicas_of(entry.replicas);
+    let ports = ports_of(alloc, names, site.ports.as_slice())?;
+    let outputs = outputs_of(alloc, names, site)?;
+    let notes = notes_with(alloc, names, site)?;
+    Ok(KeptComponent {
+        name,
+        program,
+        mode,
+        replicas,
+        ports,
+        outputs,
+        notes,
+    })
+}
+
+/// The components by numbers.
+pub(crate) fn components_of(
+    alloc: Global,
+    names: &AttrNames,
+    sites: &[Site<'_>],
+) -> Result<Vec<KeptComponent>, AllocError>
+    requires { All IsBuilt (sites_seen sites.now) }
+    ensures { IfOk result (λ components. map component_kept components.items ≡ map (spec.component_view names.now) (sites_seen sites.now)) }
+{
+    let mut components = Vec::new(alloc);
+    for site in sites {
+        components.push(component_of(alloc, names, site)?)?;
+    }
+    Ok(components)
+}

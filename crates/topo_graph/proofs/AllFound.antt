@@ -1,0 +1,38 @@
+-- What is found of a view is what its definitions say, step by step as the code finds it.
+use Rattle.std.proofs.Common.{◌≡◌, ℕ, Bool, Option, List, map, ap, ◌∙◌}
+use Rattle.std.specs.List.{enumerate_from}
+use Rattle.fd_closure.specs.declared.attrs.Attrs.{Attrs}
+use Rattle.topo_graph.specs.declared.lines.Line.{Line}
+use Rattle.topo_graph.specs.declared.paths.Path.{Path}
+use Rattle.topo_types.specs.Carried.{carries}
+use Rattle.topo_types.specs.Found.{HasEnds, usable_at}
+use Rattle.topo_graph.specs.Code.Lines.{all_into, lines_by, upholders_by, good_set, usable_by}
+use Rattle.topo_graph.specs.Code.Paths.{paths_by, carried_by}
+use Rattle.topo_types.specs.Dependencies.{upholders}
+use Rattle.topo_types.specs.Regions.{is_in_cycle}
+use Rattle.topo_types.specs.View.{View, component_numbers, stream_numbers}
+use Rattle.topo_graph.proofs.LinesFound.{lines, upholders-same, usable-same}
+use Rattle.topo_graph.proofs.PathsFound.{carried-same}
+use Rattle.topo_types.proofs.Lists.Tables.{map_same}
+
+module _ (v : View) (given : HasEnds v) where
+  lines_are : (cs : List Bool) (into : List ℕ) (ls : List Line) → cs ≡ map (is_in_cycle v) (component_numbers v) → into ≡ all_into v → ls ≡ lines_by v cs into → ls ≡ lines v given
+  lines_are cs into ls one two made = made ∙ (λ i. lines_by v (one i) (two i))
+
+  pub upheld_found : (cs : List Bool) (into : List ℕ) (ls : List Line) (upheld : List ℕ) → cs ≡ map (is_in_cycle v) (component_numbers v) → into ≡ all_into v → ls ≡ lines_by v cs into
+      → upheld ≡ map (upholders_by ls) v.fds → upheld ≡ map (upholders v) v.fds
+  upheld_found cs into ls upheld one two made are =
+      are ∙ ap (λ (l : List Line). map (upholders_by l) v.fds) (lines_are cs into ls one two made) ∙ map_same (upholders_by (lines v given)) (upholders v) (upholders-same v given) v.fds
+
+  pub usable_found : (cs : List Bool) (into : List ℕ) (ls : List Line) (found : List ℕ) → cs ≡ map (is_in_cycle v) (component_numbers v) → into ≡ all_into v → ls ≡ lines_by v cs into
+      → found ≡ map (λ fd. usable_by into (good_set ls fd (upholders_by ls fd))) v.fds → found ≡ map (usable_at v) v.fds
+  usable_found cs into ls found one two made are =
+      are
+      ∙ ap (λ (l : List Line). map (λ fd. usable_by into (good_set l fd (upholders_by l fd))) v.fds) (lines_are cs into ls one two made)
+      ∙ ap (λ (n : List ℕ). map (λ fd. usable_by n (good_set (lines v given) fd (upholders_by (lines v given) fd))) v.fds) two
+      ∙ map_same (λ fd. usable_by (all_into v) (good_set (lines v given) fd (upholders_by (lines v given) fd))) (usable_at v) (usable-same v given) v.fds
+
+  pub carried_found : (found : List ℕ) (ps : List Path) (keys : List (Option Attrs)) → found ≡ map (usable_at v) v.fds → ps ≡ paths_by v found → keys ≡ map (carried_by ps) (enumerate_from 0 ps)
+      → keys ≡ map (carries v) (stream_numbers v)
+  carried_found found ps keys one made are =
+      are ∙ ap (λ (p : List Path). map (carried_by p) (enumerate_from 0 p)) (made ∙ ap (paths_by v) one) ∙ carried-same v given

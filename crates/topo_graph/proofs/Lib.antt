@@ -1,0 +1,7 @@
+pub mod Positions
+pub mod Feeding
+pub mod FeedingRegions
+pub mod RegionsFound
+pub mod LinesFound
+pub mod PathsFound
+pub mod AllFound

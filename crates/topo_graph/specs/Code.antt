@@ -1,0 +1,3 @@
+pub mod Feeders
+pub mod Lines
+pub mod Paths

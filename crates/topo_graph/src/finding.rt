@@ -1,0 +1,130 @@
+//! Finds regions, dependencies and carried seals of a view, each once.
+ghost use Rattle.std.specs.Prelude.{◌≡◌, ◌<◌, ◌≤◌, map, length, position, IfOk, IfSome};
+ghost use Rattle.std.specs.List.{position_or_len};
+ghost use Rattle.topo_graph.specs.Code.Feeders as feeders;
+ghost use Rattle.topo_types.specs.Found as spec;
+ghost use Rattle.topo_types.specs.Dependencies.{upholders};
+ghost use Rattle.topo_types.specs.Graph as graph;
+ghost use Rattle.topo_types.specs.Kept.{view_kept};
+ghost use Rattle.topo_types.specs.Regions as regions_spec;
+ghost use Rattle.topo_types.specs.Sets.{below};
+ghost use Rattle.topo_types.specs.View.{component_numbers, stream_numbers};
+
+use crate::carried::all_carried;
+use crate::dependencies::{all_upholders, all_usable};
+use crate::lines::{all_into, lines_of};
+use crate::paths::paths_of;
+use crate::regions::{all_feeders, is_cyclic, regions_in, sets_of};
+use blz_value::Items;
+use std::alloc::{AllocError, Global};
+use topo_types::{GraphFacts, Kept, is_in};
+
+/// Regions, and which components are in a cyclic one.
+#[derive(Drop)]
+pub struct FoundRegions {
+    /// The members of each region.
+    pub regions: Vec<u64>,
+    /// Whether each region is cyclic.
+    pub cyclic: Vec<bool>,
+    /// The number of the region of each component.
+    pub numbers: Vec<u32>,
+    /// Whether each component is in a cyclic region.
+    pub cycles: Vec<bool>,
+}
+
+// Whether each of some regions is cyclic.
+fn are_cyclic(
+    alloc: Global,
+    feeding: &[u64],
+    count: usize,
+    sets: &[u64],
+) -> Result<Vec<bool>, AllocError>
+    ensures { IfOk result (λ cyclic. cyclic.items ≡ map (feeders.is_cyclic_by feeding.now count) sets.now) }
+{
+    sets.iter()
+        .map(|set| is_cyclic(feeding, count, *set))
+        .collect(alloc)
+}
+
+fn place_of(regions: &[u64], component: usize) -> Option<usize>
+    ensures place { result ≡ position (graph.is_in component) regions.now }
+    ensures within { IfSome result (λ place. place < length regions.now) }
+{
+    regions.iter().position(|set| is_in(component, *set))
+}
+
+// The number of the region of a component.
+#[tactic(auto, using(crate::proofs::Positions::from_place))]
+fn number_of(regions: &[u64], component: usize) -> u32
+    requires { length regions.now ≤ 64 }
+    ensures { result ≡ position_or_len (graph.is_in component) regions.now }
+{
+    place_of(regions, component).unwrap_or(regions.len()) as u32
+}
+
+#[tactic(auto, using(topo_types::proofs::Lists::Tables::below_more))]
+fn numbers_of(alloc: Global, regions: &[u64], count: usize) -> Result<Vec<u32>, AllocError>
+    requires { length regions.now ≤ 64 }
+    ensures { IfOk result (λ numbers. numbers.items ≡ map (λ c. position_or_len (graph.is_in c) regions.now) (below count)) }
+{
+    let mut numbers = Vec::new(alloc);
+    for component in 0..count {
+        numbers.push(number_of(regions, component))?;
+    }
+    Ok(numbers)
+}
+
+/// The regions of a view.
+#[tactic(auto, using(crate::proofs::RegionsFound::few_found, crate::proofs::RegionsFound::regions_found, crate::proofs::RegionsFound::cyclic_found, crate::proofs::RegionsFound::cycles_found, crate::proofs::RegionsFound::numbers_found))]
+pub fn regions_of(alloc: Global, kept: &Kept) -> Result<FoundRegions, AllocError>
+    requires { spec.HasEnds (view_kept kept.now) }
+    ensures regions { IfOk result (λ r. r.regions.items ≡ regions_spec.regions (view_kept kept.now)) }
+    ensures cyclic { IfOk result (λ r. r.cyclic.items ≡ map (regions_spec.is_cyclic (view_kept kept.now)) (below (length (regions_spec.regions (view_kept kept.now))))) }
+    ensures numbers { IfOk result (λ r. r.numbers.items ≡ map (regions_spec.region_of (view_kept kept.now)) (component_numbers (view_kept kept.now))) }
+    ensures cycles { IfOk result (λ r. r.cycles.items ≡ map (regions_spec.is_in_cycle (view_kept kept.now)) (component_numbers (view_kept kept.now))) }
+{
+    let feeding = all_feeders(alloc, kept)?;
+    let count = feeding.len();
+    let sets = sets_of(alloc, &feeding)?;
+    let regions = regions_in(alloc, &feeding, &sets)?;
+    let cyclic = are_cyclic(alloc, &feeding, count, &regions)?;
+    let cycles = are_cyclic(alloc, &feeding, count, &sets)?;
+    let numbers = numbers_of(alloc, &regions, count)?;
+    Ok(FoundRegions {
+        regions,
+        cyclic,
+        numbers,
+        cycles,
+    })
+}
+
+/// What is found of a view, of which these are the regions.
+#[tactic(auto, using(crate::proofs::AllFound::upheld_found, crate::proofs::AllFound::usable_found, crate::proofs::AllFound::carried_found))]
+pub fn found_with(
+    alloc: Global,
+    kept: &Kept,
+    regions: FoundRegions,
+) -> Result<GraphFacts, AllocError>
+    requires ends { spec.HasEnds (view_kept kept.now) }
+    requires regions { regions.regions.items ≡ regions_spec.regions (view_kept kept.now) }
+    requires cyclic { regions.cyclic.items ≡ map (regions_spec.is_cyclic (view_kept kept.now)) (below (length (regions_spec.regions (view_kept kept.now)))) }
+    requires numbers { regions.numbers.items ≡ map (regions_spec.region_of (view_kept kept.now)) (component_numbers (view_kept kept.now)) }
+    requires cycles { regions.cycles.items ≡ map (regions_spec.is_in_cycle (view_kept kept.now)) (component_numbers (view_kept kept.now)) }
+    ensures { IfOk result (λ found. found ≡ spec.found_of (view_kept kept.now)) }
+{
+    let fds = kept.fds.as_slice();
+    let into = all_into(alloc, kept)?;
+    let lines = lines_of(alloc, kept, &regions.cycles, &into)?;
+    let upheld = all_upholders(alloc, &lines, fds)?;
+    let usable = all_usable(alloc, &lines, &into, fds)?;
+    let paths = paths_of(alloc, kept, &usable)?;
+    let carried = all_carried(alloc, &paths)?;
+    Ok(GraphFacts {
+        regions: Items::from_vec(regions.regions),
+        cyclic: Items::from_vec(regions.cyclic),
+        numbers: Items::from_vec(regions.numbers),
+        upheld: Items::from_vec(upheld),
+        usable: Items::from_vec(usable),
+        carried: Items::from_vec(carried),
+    })
+}

@@ -1,0 +1,14 @@
+//! What is found of a view once: regions, the dependencies that streams uphold, and carried seals.
+#![tactic(auto)]
+
+mod carried;
+mod dependencies;
+mod finding;
+mod lines;
+mod lookups;
+mod paths;
+mod regions;
+mod sets;
+
+pub use finding::{FoundRegions, found_with, regions_of};
+pub use lookups::{is_order, mode_of, origin_of};

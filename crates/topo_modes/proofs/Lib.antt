@@ -1,0 +1,9 @@
+pub mod Altered
+pub mod KeyNames
+pub mod NamedAttributes
+pub mod OtherModes
+pub mod OtherSites
+pub mod WithMode
+pub mod Remoding
+pub mod ValidEnds
+pub mod NextWhole

@@ -1,0 +1,42 @@
+use Rattle.std.proofs.Common.{◌≡◌, ◌<◌, ◌∙◌, ap, length, subst, sym}
+use Rattle.topo_types.specs.declared.topology.Topology.{Topology}
+use Rattle.topo_types.specs.Kept.{view_kept}
+use Rattle.topo_types.specs.Modes.{topology_with_mode}
+use Rattle.topo_types.specs.View.{View, with_mode}
+use Rattle.topo_modes.proofs.NextWhole as lemmas
+use Rattle.topo_modes.proofs.changing.with_mode.Goals as goal
+
+pub topology_with_mode-requires-clause-within : goal.topology_with_mode-requires-clause-within
+topology_with_mode-requires-clause-within c =
+    subst (λ (t : Topology). c.args.component < length t.components) (sym c.topology.ensures)
+    (lemmas.written_within c.args.valid.now c.args.component c.args.mode c.whole.ensures c.requires)
+
+pub regions_of-requires : goal.regions_of-requires
+regions_of-requires c =
+    lemmas.next_ends c.args.valid.now c.args.component c.args.mode c.whole.ensures c.requires (view_kept c.in_ok-kept.kept)
+    (c.in_ok-kept.ensures ∙ ap (λ (v : View). with_mode v c.args.component c.args.mode) c.kept.ensures)
+
+pub found_with-requires-clause-ends : goal.found_with-requires-clause-ends
+found_with-requires-clause-ends c =
+    lemmas.next_ends c.args.valid.now c.args.component c.args.mode c.whole.ensures c.requires (view_kept c.in_ok-kept.kept)
+    (c.in_ok-kept.ensures ∙ ap (λ (v : View). with_mode v c.args.component c.args.mode) c.kept.ensures)
+
+view_is : (c : goal.In_ok-found) → view_kept c.in_ok-kept.kept ≡ with_mode c.args.valid.now.view c.args.component c.args.mode
+view_is c = c.in_ok-kept.ensures ∙ ap (λ (v : View). with_mode v c.args.component c.args.mode) c.kept.ensures
+
+topology_is : (c : goal.In_ok-found) → c.in_ok-topology.topology ≡ topology_with_mode c.args.valid.now.view.attributes c.args.valid.now.topology c.args.component c.args.mode
+topology_is c =
+    c.in_ok-topology.ensures
+    ∙ ap (λ names. topology_with_mode names c.topology.result.now c.args.component c.args.mode) (c.names-names.ensures.all ∙ ap (λ (v : View). v.attributes) c.kept.ensures)
+    ∙ ap (λ (t : Topology). topology_with_mode c.args.valid.now.view.attributes t c.args.component c.args.mode) c.topology.ensures
+
+pub new-requires-clause-whole : goal.new-requires-clause-whole
+new-requires-clause-whole c =
+    lemmas.next_whole c.args.valid.now c.args.component c.args.mode c.whole.ensures c.requires (record { topology = c.in_ok-topology.topology; view = view_kept c.in_ok-kept.kept })
+    (let topology = topology_is c in let view = view_is c in λ i. record { topology = topology i; view = view i })
+
+pub new-requires-clause-valid : goal.new-requires-clause-valid
+new-requires-clause-valid c = lemmas.next_valid c.args.valid.now c.args.component c.args.mode c.whole.ensures c.requires (view_kept c.in_ok-kept.kept) (view_is c)
+
+pub new-requires-clause-bounded : goal.new-requires-clause-bounded
+new-requires-clause-bounded c = lemmas.next_bounded c.args.valid.now c.args.component c.args.mode c.whole.ensures c.requires (view_kept c.in_ok-kept.kept) (view_is c)

@@ -1,8 +1,0 @@
-use Rattle.std.proofs.Common.{◌≡◌, map}
-use Rattle.std.specs.List.{range_with_len}
-use Rattle.topo_types.specs.Code.Lines.{line_by}
-use Rattle.topo_types.specs.Kept.{view_kept}
-use Rattle.topo_types.proofs.graph.lines.lines_of.Given as goal
-
-abbrev pub invariant-loop-stream : goal.invariant-loop-stream
-invariant-loop-stream l = l.lines.items ≡ map (line_by (view_kept l.kept) l.cycles l.into) (range_with_len 0 l.stream)

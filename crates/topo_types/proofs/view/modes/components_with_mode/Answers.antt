@@ -1,5 +1,0 @@
-use Rattle.topo_types.proofs.Modes.Remoding.{remade}
-use Rattle.topo_types.proofs.view.modes.components_with_mode.Goals as goal
-
-pub returns : goal.returns
-returns c = remade c.args.components.now c.in_ok-others.others.items c.args.number c.index_mut.result.now c.args.mode c.in_ok-others.ensures c.index_mut.ensures.value

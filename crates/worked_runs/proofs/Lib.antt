@@ -1,2 +1,0 @@
-pub mod ModuleCount
-pub mod NetRuns

@@ -1,6 +1,0 @@
--- the copies so far
-use Rattle.std.proofs.Common.{◌≡◌, take}
-use Rattle.worked_runs.proofs.data.copies.Given as goal
-
-abbrev pub invariant-loop-record : goal.invariant-loop-record
-invariant-loop-record l = l.same.items ≡ take l.record-index l.records

@@ -22,7 +22,7 @@ use Rattle.report_runs.specs.SoakText.{soak_text}
 use Rattle.sched_make.specs.Applying.{Line}
 use Rattle.sched_make.specs.Made.{LeavesNothing, execution_after}
 use Rattle.sched_make.specs.Making.{events_of}
-use Rattle.shard_route.specs.declared.sharded.Sharded.{Sharded}
+use Rattle.shard_copies.specs.declared.sharded.Sharded.{Sharded}
 use Rattle.sched_run.specs.Reading.{IsOrdered}
 use Rattle.sched_text.specs.Reading.{ReadsAs, event_reading}
 use Rattle.sched_text.specs.Text.{schedule_text}

@@ -1,7 +1,7 @@
 -- Files that are all there need no reads: a script over them ends as it does at a source that tells them.
 use Rattle.std.proofs.Common.{◌≡◌, inl, inr, true, Some, Result, Ok, Err, refl, sym, subst}
 use Rattle.std.specs.Result.{IsErrAnd}
-use Rattle.coord_synth.specs.Plan.{planned}
+use Rattle.coord_steps.specs.Plan.{planned}
 use Rattle.topo_types.specs.Valid.{Validated}
 use Rattle.topo_types.specs.View.{View}
 use Rattle.command_files.specs.Ends.{Told, FilesStates, files_states, Came, Ends}

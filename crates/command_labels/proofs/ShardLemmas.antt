@@ -7,12 +7,12 @@ use Rattle.report_print.specs.declared.refusal.ShardKind.TheVariants as kinds
 use Rattle.report_print.specs.Refusals.{refusal_line}
 use Rattle.bloom_ast.specs.Form.{Accepted}
 use Rattle.bloom_ast.specs.Query.{Name}
-use Rattle.shard_route.specs.Sharding.{Answers}
-use Rattle.shard_route.specs.Sharding as sharding
+use Rattle.shard_copies.specs.Sharding.{Answers}
+use Rattle.shard_copies.specs.Sharding as sharding
 use Rattle.topo_types.specs.declared.topology.Topology.{Topology}
-use Rattle.shard_route.specs.declared.fault.ShardFault.{ShardFault}
-use Rattle.shard_route.specs.declared.fault.ShardFault.TheVariants as faults
-use Rattle.shard_route.specs.declared.sharded.Sharded.{Sharded}
+use Rattle.shard_copies.specs.declared.fault.ShardFault.{ShardFault}
+use Rattle.shard_copies.specs.declared.fault.ShardFault.TheVariants as faults
+use Rattle.shard_copies.specs.declared.sharded.Sharded.{Sharded}
 use Rattle.blazes_words.specs.Words.{ShardWords}
 use Rattle.command_files.specs.Ends.{Source, FilesStates, files_states, Came}
 use Rattle.command_files.specs.Ran.{Gives, IsStopAt, Stopped}

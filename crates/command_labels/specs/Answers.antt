@@ -7,8 +7,8 @@ use Rattle.label_rules.specs.declared.label.Label.{Label}
 use Rattle.label_walk.specs.Labels.{AreLabels}
 use Rattle.confluence.specs.Sound.{Sound, RestartSound}
 use Rattle.coord_synth.specs.Laws.{AreCoordinated}
-use Rattle.coord_synth.specs.Plan as plan
-use Rattle.shard_route.specs.declared.sharded.Sharded.{Sharded}
+use Rattle.coord_steps.specs.Plan as plan
+use Rattle.shard_copies.specs.declared.sharded.Sharded.{Sharded}
 use Rattle.topo_read.specs.Reading.{IsReading}
 use Rattle.command_files.specs.Reply.{Answer}
 use Rattle.command_files.specs.Script.{Bytes}

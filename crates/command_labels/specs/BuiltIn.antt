@@ -1,7 +1,7 @@
 -- The word count that is built in: its files, and its checks over them.
 use Rattle.std.specs.Prelude.{codes, if◌then◌else◌}
 use Rattle.std.specs.Str.{bytes_eq}
-use Rattle.coord_synth.specs.Plan.{planned}
+use Rattle.coord_steps.specs.Plan.{planned}
 use Rattle.topo_types.specs.Valid.{Validated}
 use Rattle.topo_types.specs.View.{View}
 use Rattle.command_files.specs.Script.{Bytes, Script, ◌>>=◌}

@@ -4,7 +4,7 @@ use Rattle.std.specs.Fmt.{decimal}
 use Rattle.std.specs.List.{flat_map}
 use Rattle.blz_value.specs.Text.{escaped}
 use Rattle.bloom_parse.specs.Layout.{printed}
-use Rattle.shard_route.specs.declared.sharded.ShardFile.{ShardFile}
+use Rattle.shard_copies.specs.declared.sharded.ShardFile.{ShardFile}
 use Rattle.command_files.specs.Script.{Bytes}
 
 -- these words and the length of a text on a line, and then the text with the end of a line behind it, which the length leaves out

@@ -3,10 +3,10 @@ use Rattle.std.specs.Prelude.{Option, Some, None, Result, Ok, Err}
 use Rattle.report_print.specs.declared.refusal.Refusal.{Refusal}
 use Rattle.report_print.specs.declared.refusal.Refusal.TheVariants as refusal
 use Rattle.report_print.specs.declared.refusal.ShardKind.TheVariants as shard_kinds
-use Rattle.shard_route.specs.Sharding.{sharded}
-use Rattle.shard_route.specs.declared.fault.ShardFault.{ShardFault}
-use Rattle.shard_route.specs.declared.fault.ShardFault.TheVariants as shard_faults
-use Rattle.shard_route.specs.declared.sharded.Sharded.{Sharded}
+use Rattle.shard_copies.specs.Sharding.{sharded}
+use Rattle.shard_copies.specs.declared.fault.ShardFault.{ShardFault}
+use Rattle.shard_copies.specs.declared.fault.ShardFault.TheVariants as shard_faults
+use Rattle.shard_copies.specs.declared.sharded.Sharded.{Sharded}
 use Rattle.blazes_words.specs.Words.{ShardWords}
 use Rattle.command_files.specs.Checks.{checked, line_of}
 use Rattle.command_files.specs.Script.{Bytes, Script, ◌>>=◌}

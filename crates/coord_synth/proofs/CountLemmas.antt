@@ -7,9 +7,9 @@ use Rattle.topo_types.specs.declared.mode.Mode.{Mode}
 use Rattle.topo_types.specs.declared.mode.Mode.TheVariants.{Order}
 use Rattle.topo_types.specs.Regions.{is_in_cycle, region_set}
 use Rattle.topo_types.specs.View.{View, component_at, component_with_mode, is_order, with_mode}
-use Rattle.coord_synth.specs.declared.steps.Steps.{Steps}
+use Rattle.coord_steps.specs.declared.steps.Steps.{Steps}
 use Rattle.coord_synth.specs.Code.Shapes.{plan_at}
-use Rattle.coord_synth.specs.Plan.{has_order_note, tried_mode, wants_order, with_key, kept_key, plan_component, order_member, cycle_wants_order, plan_cycle}
+use Rattle.coord_steps.specs.Plan.{has_order_note, tried_mode, wants_order, with_key, kept_key, plan_component, order_member, cycle_wants_order, plan_cycle}
 
 abbrev HasCount : View → View → Type 0
 HasCount v w = length w.components ≡ length v.components

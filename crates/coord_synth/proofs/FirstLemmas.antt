@@ -13,9 +13,9 @@ use Rattle.topo_types.proofs.Regions.Classes.{together-self}
 use Rattle.topo_types.proofs.Regions.RegionSets.{each_region, member_within}
 use Rattle.topo_types.proofs.Regions.Spreading.{in_below}
 use Rattle.label_walk.specs.Paths.{region_at}
-use Rattle.coord_synth.specs.declared.steps.Steps.{Steps}
+use Rattle.coord_steps.specs.declared.steps.Steps.{Steps}
 use Rattle.coord_synth.specs.Code.Shapes.{AreFirsts, plan_at}
-use Rattle.coord_synth.specs.Plan.{plan_component, plan_cycle}
+use Rattle.coord_steps.specs.Plan.{plan_component, plan_cycle}
 
 own_in : (v : View) → IsValid v → (c : ℕ) → c < length v.components → is_in c (region_set v c) ≡ true
 unfolding region_set

@@ -1,20 +1,25 @@
--- A key that is kept is that of a port, and may be written; and what the plan makes of it.
-use Rattle.std.proofs.Common.{◌≡◌, ◌<◌, ◌&&◌, inl, inr, ℕ, Bool, true, false, if◌then◌else◌, Option, None, Some, List, [], ◌∷◌, length, refl, ap, sym, ◌∙◌}
+-- A key that is kept is that of a port, the mode that is chosen may be written, and gives what the plan says.
+use Rattle.std.proofs.Common.{◌≡◌, ◌<◌, ◌&&◌, inl, inr, ℕ, Bool, true, false, if◌then◌else◌, Option, None, Some, List, [], ◌∷◌, length, refl, ap, sym, subst, ◌∙◌}
 use Rattle.std.specs.List.{cons_option, filter_map, find, list_all}
-use Rattle.std.specs.Option.{option_and_then}
+use Rattle.std.specs.Option.{option_and_then, unwrap_or}
 use Rattle.fd_closure.specs.declared.attrs.Attrs.{Attrs}
 use Rattle.blz_value.specs.Members.{Has}
 use Rattle.blz_value.proofs.Membership.{Has-from_filter}
+use Rattle.topo_types.specs.declared.mode.Mode.{Mode}
 use Rattle.topo_types.specs.declared.mode.Mode.TheVariants.{Order}
 use Rattle.topo_types.specs.Carried.{carries_key, carries, common_key, port_key}
+use Rattle.topo_types.specs.Laws.{CanHaveMode}
+use Rattle.topo_types.specs.Regions.{is_in_cycle}
 use Rattle.topo_types.specs.Valid.{IsValid, IsWhole, Validated}
 use Rattle.topo_types.specs.View.{View, goes_to, is_order, port_numbers, stream_numbers, streams_to, with_mode}
 use Rattle.topo_types.proofs.Regions.Spreading.{from_below}
-use Rattle.coord_synth.specs.declared.steps.Steps.{Steps}
-use Rattle.coord_synth.specs.Code.Keys.{IsKeyIn}
-use Rattle.coord_synth.specs.Plan.{is_good, trial, kept_key, wants_order, ordered, with_key, plan_component}
-use Rattle.coord_synth.proofs.FreshRegions.{find-some}
-use Rattle.coord_synth.proofs.KeysFound.{carried_key}
+use Rattle.coord_steps.specs.declared.steps.Steps.{Steps}
+use Rattle.coord_steps.specs.Keys.{IsKeyIn}
+use Rattle.coord_steps.specs.Plan.{is_good, trial, kept_key, tried_mode, wants_order, with_key, plan_component}
+use Rattle.coord_modes.specs.Choice.{chosen_mode, mode_with_key}
+use Rattle.coord_steps.proofs.FreshRegions.{find-some}
+use Rattle.coord_steps.proofs.KeysFound.{carried_key}
+use Rattle.coord_synth.proofs.TrialLemmas.{can_try, can_order}
 
 module _ (now : Validated) (whole : IsWhole now) (valid : IsValid now.view) where
   abbrev v : View
@@ -51,19 +56,50 @@ module _ (now : Validated) (whole : IsWhole now) (valid : IsValid now.view) wher
       by true e = from_given c (port_numbers v c) key (find-some (λ k. is_good (trial v c k) c) (filter_map (port_key v c) (port_numbers v c)) key e).0
       by false e = let bad : None ≡ Some key = e in cc
 
+-- ---- the mode that is chosen
+
+given : {X : Type 0} (x y : X) → Some x ≡ Some y → x ≡ y
+given x y e = ap (λ (o : Option _). unwrap_or o x) e
+
+module _ (now : Validated) (whole : IsWhole now) (valid : IsValid now.view) (steps : Steps) (c : ℕ) (lt : c < length now.view.components) (free : is_order now.view c ≡ false) (outside : is_in_cycle now.view c ≡ false) where
+  -- it may be written
+  pub chosen_fits : (m : Mode) → chosen_mode steps now.view c ≡ Some m → CanHaveMode now.view c m
+  chosen_fits m e = by (kept_key steps now.view c) refl e
+    where
+      by : (o : Option Attrs) → kept_key steps now.view c ≡ o → mode_with_key steps now.view c o ≡ Some m → CanHaveMode now.view c m
+      by (Some key) is e = can_try now.view c lt free key m outside (kept_fits now whole valid steps c key is) (sym (given (tried_mode now.view c key) m e))
+      by None is e = test (steps.orders && wants_order now.view c) e
+        where
+          test : (b : Bool) → (if b then Some Order else None) ≡ Some m → CanHaveMode now.view c m
+          test true e = subst (CanHaveMode now.view c) (given Order m e) (can_order now.view c lt free)
+          test false e = let bad : None ≡ Some m = e in cc
+
+-- and the topology with it is that of the plan
+pub chosen_is : (steps : Steps) (v : View) (c : ℕ) (m : Mode) → chosen_mode steps v c ≡ Some m → with_mode v c m ≡ with_key steps v c (kept_key steps v c)
+chosen_is steps v c m e = by (kept_key steps v c) e
+  where
+    by : (o : Option Attrs) → mode_with_key steps v c o ≡ Some m → with_mode v c m ≡ with_key steps v c o
+    by (Some key) e = ap (with_mode v c) (sym (given (tried_mode v c key) m e))
+    by None e = test (steps.orders && wants_order v c) e
+      where
+        test : (b : Bool) → (if b then Some Order else None) ≡ Some m → with_mode v c m ≡ (if b then with_mode v c Order else v)
+        test true e = ap (with_mode v c) (sym (given Order m e))
+        test false e = let bad : None ≡ Some m = e in cc
+
+pub none_chosen : (steps : Steps) (v : View) (c : ℕ) → chosen_mode steps v c ≡ None → v ≡ with_key steps v c (kept_key steps v c)
+none_chosen steps v c e = by (kept_key steps v c) e
+  where
+    by : (o : Option Attrs) → mode_with_key steps v c o ≡ None → v ≡ with_key steps v c o
+    by (Some key) e = let bad : Some (tried_mode v c key) ≡ None = e in cc
+    by None e = test (steps.orders && wants_order v c) e
+      where
+        test : (b : Bool) → (if b then Some Order else None) ≡ None → v ≡ (if b then with_mode v c Order else v)
+        test true e = let bad : Some Order ≡ None = e in cc
+        test false e = refl
+
+-- ---- what is Order, and what isn't
+
 module _ (steps : Steps) (v : View) (c : ℕ) where
-  pub keys_tried : steps.keys ≡ true → find (λ k. is_good (trial v c k) c) (filter_map (port_key v c) (port_numbers v c)) ≡ kept_key steps v c
-  keys_tried e = ap (λ (b : Bool). find (λ k. is_good (trial v c k) c) (if b then filter_map (port_key v c) (port_numbers v c) else [])) (sym e)
-
-  pub none_tried : steps.keys ≡ false → None ≡ kept_key steps v c
-  none_tried e = ap (λ (b : Bool). find (λ k. is_good (trial v c k) c) (if b then filter_map (port_key v c) (port_numbers v c) else [])) (sym e)
-
-  pub order_taken : (steps.orders && wants_order v c) ≡ true → with_mode v c Order ≡ ordered steps v c
-  order_taken e = ap (λ (b : Bool). if b then with_mode v c Order else v) (sym e)
-
-  pub order_left : (steps.orders && wants_order v c) ≡ false → v ≡ ordered steps v c
-  order_left e = ap (λ (b : Bool). if b then with_mode v c Order else v) (sym e)
-
   pub plan_order : is_order v c ≡ true → v ≡ plan_component steps v c
   plan_order e = ap (λ (b : Bool). if b then v else with_key steps v c (kept_key steps v c)) (sym e)
 

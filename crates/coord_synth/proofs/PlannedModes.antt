@@ -15,15 +15,15 @@ use Rattle.topo_types.specs.Valid.{IsValid}
 use Rattle.topo_types.specs.View.{View, Component, is_order, is_order_mode, mode_of, mode_key, with_mode}
 use Rattle.label_walk.proofs.Upstream.Alike.{holding, same_length}
 use Rattle.label_walk.specs.LabelLaws.{DifferInModes}
-use Rattle.coord_synth.specs.declared.steps.Steps.{Steps}
+use Rattle.coord_steps.specs.declared.steps.Steps.{Steps}
 use Rattle.coord_synth.specs.Code.Shapes.{AreFirsts, plan_at}
 use Rattle.coord_synth.specs.Laws.{PlansSetModes, PlansKeepOrder}
-use Rattle.coord_synth.specs.Plan.{freed, tried_mode, kept_key, wants_order, with_key, plan_component, order_member, cycle_wants_order, plan_cycle, plan_region, planned_by}
-use Rattle.coord_synth.proofs.CyclesLater.{acyclic_still, still, in_cycle}
-use Rattle.coord_synth.proofs.FreshRegions.{AreFresh, are_fresh}
-use Rattle.coord_synth.proofs.Later.{Later, region_of_member, own_member}
+use Rattle.coord_steps.specs.Plan.{freed, tried_mode, kept_key, wants_order, with_key, plan_component, order_member, cycle_wants_order, plan_cycle, plan_region, planned_by}
+use Rattle.coord_steps.proofs.CyclesLater.{acyclic_still, still, in_cycle}
+use Rattle.coord_steps.proofs.FreshRegions.{AreFresh, are_fresh}
+use Rattle.coord_steps.proofs.Later.{Later, region_of_member, own_member}
 use Rattle.coord_synth.proofs.PlanLaw.{start, start_keyless, start_later, start_valid, freed_map}
-use Rattle.coord_synth.proofs.PlanSteps.{changed, changed_other, later_changed, order_all}
+use Rattle.coord_steps.proofs.PlanSteps.{changed, changed_other, later_changed, order_all}
 
 module _ (b : View) (xs : List Component) (valid : IsValid (holding b xs)) (unkeyed : (c : ℕ) → mode_key (mode_of (holding b xs) c) ≡ None) (steps : Steps) where
   abbrev f : View

@@ -26,7 +26,7 @@ use Rattle.topo_types.proofs.Regions.Spreading.{both_true}
 use Rattle.topo_types.proofs.Views.ViewNumbers.{site_entry, length_components}
 use Rattle.topo_types.proofs.Views.ViewParts.{sites, attributes, seen, at_component}
 use Rattle.label_walk.proofs.Loops.{below_more}
-use Rattle.coord_synth.specs.Plan.{freed, freed_component, topology_with_modes}
+use Rattle.coord_steps.specs.Plan.{freed, freed_component, topology_with_modes}
 use Rattle.coord_synth.specs.Code.Start.{free_component, is_free_mode}
 use Rattle.coord_synth.specs.Code.Written.{IsWritten}
 use Rattle.coord_synth.proofs.TrialLemmas.{set_own}

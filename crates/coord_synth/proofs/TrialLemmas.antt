@@ -10,9 +10,9 @@ use Rattle.topo_types.specs.Valid.{Validated}
 use Rattle.topo_types.specs.View.{View, Component, no_component, component_at, component_with_mode, is_order, is_order_mode, with_mode}
 use Rattle.topo_types.proofs.Regions.Spreading.{both_true}
 use Rattle.label_walk.proofs.Tests.{not_so}
-use Rattle.coord_synth.specs.Code.Keys.{IsKeyIn}
+use Rattle.coord_steps.specs.Keys.{IsKeyIn}
 use Rattle.coord_synth.specs.Code.Written.{StaysWritten}
-use Rattle.coord_synth.specs.Plan.{has_order_note, tried_mode, order_member}
+use Rattle.coord_steps.specs.Plan.{has_order_note, tried_mode, order_member}
 use Rattle.coord_synth.proofs.WrittenLemmas.{written_on}
 
 module _ (v : View) (c : ℕ) (lt : c < length v.components) (free : is_order v c ≡ false) where

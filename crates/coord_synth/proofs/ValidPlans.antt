@@ -5,7 +5,7 @@ use Rattle.std.proofs.lemmas.Bool.Decides.{nat_tests}
 use Rattle.std.proofs.lemmas.List.{length-map, length-set, get_or-set_same, get_or-set_other}
 use Rattle.std.proofs.Math.ListN.{get_or-map}
 use Rattle.fd_closure.specs.declared.attrs.Attrs.{Attrs}
-use Rattle.fd_closure.specs.Bits.{bit_of, meets}
+use Rattle.fd_closure.specs.Bits.{bit_of, meets, members}
 use Rattle.blz_value.specs.Members.{Has}
 use Rattle.blz_value.proofs.Membership.{Has-from_filter}
 use Rattle.bloom_ast.proofs.Collections.Chosen.{from_chosen}
@@ -15,7 +15,6 @@ use Rattle.topo_types.specs.declared.mode.Mode.TheVariants.{Free, Pass, Seal, Or
 use Rattle.topo_types.specs.Graph.{arrows, is_in, together, region, is_cyclic_set, numbered_regions}
 use Rattle.topo_types.specs.OtherModes.{with_components, AreRemoded}
 use Rattle.topo_types.specs.Regions.{edges, regions, region_set, is_in_cycle}
-use Rattle.fd_closure.specs.Bits.{members}
 use Rattle.topo_types.specs.Sets.{below}
 use Rattle.topo_types.specs.Valid.{IsValid}
 use Rattle.topo_types.specs.View.{View, Component, no_component, component_at, component_with_mode, is_order, is_order_mode, mode_key, with_mode}
@@ -24,8 +23,8 @@ use Rattle.topo_modes.proofs.OtherModes.{other_modes_law, cyclic_more}
 use Rattle.topo_types.proofs.Regions.RegionOrder.{classes_at}
 use Rattle.topo_types.proofs.Regions.Spreading.{from_below}
 use Rattle.coord_synth.specs.Laws.{PlansKeepValid}
-use Rattle.coord_synth.specs.declared.steps.Steps.{Steps}
-use Rattle.coord_synth.specs.Plan.{freed, freed_component, tried_mode, wants_order, with_key, kept_key, plan_component, order_member, has_order_note, cycle_wants_order, plan_cycle, plan_region, planned_by}
+use Rattle.coord_steps.specs.declared.steps.Steps.{Steps}
+use Rattle.coord_steps.specs.Plan.{freed, freed_component, tried_mode, wants_order, with_key, kept_key, plan_component, order_member, has_order_note, cycle_wants_order, plan_cycle, plan_region, planned_by}
 
 set_past : {X : Type 0} (xs : List X) (i : ℕ) (x : X) → length xs ≤ i → slice_set xs i x ≡ xs
 set_past [] i x past = refl

@@ -12,7 +12,7 @@ use Rattle.topo_types.specs.Modes.{entry_with_mode, topology_with_mode}
 use Rattle.topo_types.specs.Sites.{no_entry}
 use Rattle.topo_types.specs.Valid.{Validated}
 use Rattle.topo_types.specs.View.{View, Component, no_component, component_at, component_with_mode, mode_of, with_mode}
-use Rattle.coord_synth.specs.Plan.{topology_with_modes}
+use Rattle.coord_steps.specs.Plan.{topology_with_modes}
 use Rattle.coord_synth.specs.Code.Written.{IsWritten, StaysWritten}
 
 -- the mode that is set, and those of the others

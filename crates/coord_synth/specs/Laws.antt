@@ -7,8 +7,8 @@ use Rattle.label_rules.specs.Label.{severity}
 use Rattle.label_walk.specs.LabelLaws.{DifferInModes}
 use Rattle.label_walk.specs.Labels.{AreLabels}
 use Rattle.label_walk.specs.Paths.{label_at}
-use Rattle.coord_synth.specs.declared.steps.Steps.{Steps}
-use Rattle.coord_synth.specs.Plan.{planned, planned_by}
+use Rattle.coord_steps.specs.declared.steps.Steps.{Steps}
+use Rattle.coord_steps.specs.Plan.{planned, planned_by}
 
 -- ---- whichever steps are taken
 

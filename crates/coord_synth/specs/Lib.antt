@@ -1,3 +1,3 @@
-pub mod Plan
+pub use Rattle.coord_steps.specs.Plan
 pub mod Laws
 pub mod Code

@@ -2,14 +2,12 @@
 ghost use Rattle.std.specs.Prelude.{◌≡◌, ◌<◌, ◌&&◌, IfOk, fold, length, not};
 ghost use Rattle.coord_synth.specs.Code.Regions as code;
 ghost use Rattle.coord_synth.specs.Code.Written.{StaysWritten};
-ghost use Rattle.coord_synth.specs.Plan as spec;
+ghost use Rattle.coord_steps.specs.Plan as spec;
 ghost use Rattle.label_walk.specs.Paths.{AreComponents, region_at};
 ghost use Rattle.topo_types.specs.Regions as regions;
 ghost use Rattle.topo_types.specs.View as view;
 
-use crate::goodness::is_bad;
-use crate::notes::has_order_note;
-use crate::steps::Steps;
+use coord_steps::{Steps, has_order_note, is_bad};
 use label_walk::{is_order, is_replicated, labels, region_label, region_members};
 use std::alloc::{AllocError, Global};
 use topo_modes::with_mode;

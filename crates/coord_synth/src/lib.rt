@@ -4,14 +4,9 @@
 
 mod component;
 mod cycle;
-mod goodness;
 mod laws;
-mod notes;
 mod planning;
-mod ports;
 mod start;
-mod steps;
-mod tried;
 
 pub use laws::{after_planning_law, plan_law, plan_modes_law};
 pub use planning::{order_plan, plan, seal_plan};

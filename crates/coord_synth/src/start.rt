@@ -2,7 +2,7 @@
 ghost use Rattle.std.specs.Prelude.{◌≡◌, ◌<◌, IfOk, length};
 ghost use Rattle.coord_synth.specs.Code.Start as code;
 ghost use Rattle.coord_synth.specs.Code.Written.{IsWritten};
-ghost use Rattle.coord_synth.specs.Plan as spec;
+ghost use Rattle.coord_steps.specs.Plan as spec;
 ghost use Rattle.topo_types.specs.View as view;
 
 use label_walk::is_order;

@@ -12,6 +12,7 @@ use Rattle.inbox.specs.Emission.{with_rows, with_seals}
 use Rattle.emitted.specs.Lists.{message_limit, Listed, read_lists, list_at, total, OneListBecomes}
 use Rattle.sched_lists.specs.Outlets.{emit_outlets, seal_outlets}
 use Rattle.sched_lists.specs.declared.outlets.Outlet.{Outlet}
+use Rattle.emitted.proofs.ListLoops.{becomes_itself}
 use Rattle.emitted.proofs.ListsLemmas.{length-read_lists}
 use Rattle.sched_lists.proofs.OutletsLemmas.{total-emitted, total-sealed}
 

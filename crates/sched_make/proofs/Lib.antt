@@ -15,6 +15,7 @@ pub mod WorksLemmas
 pub mod ApplyingLemmas
 pub mod TurnsLemmas
 pub mod FrontsLemmas
+pub mod NetRead
 pub mod LanesKnown
 pub mod OpenWorksLegal
 pub mod OpenBefore

@@ -2,13 +2,14 @@
 //!
 //! The works of a lane are shown by a window, which looks again after each turn, but only at what the
 //! turn may have made stale and at what is new; a tree of the windows' sizes finds a work by its number.
-ghost use Rattle.std.specs.Prelude.{◌≡◌, ◌<◌, ◌++◌, ◌∷◌, [], map, IfOk, OnOk, length, sum};
-ghost use Rattle.sched_text.specs.Text.{IsPrintable};
+ghost use Rattle.std.specs.Prelude.{◌≡◌, ◌<◌, ◌++◌, ◌∷◌, [], ℕ, true, map, IfOk, OnOk, length, sum};
+ghost use Rattle.sched_text.specs.Text.{IsPrintable, is_printable};
 ghost use Rattle.sched_make.specs.Made.{says_again, chosen_events};
 ghost use Rattle.sched_make.specs.Making.{RunsFirst, AnswersMade, LeavesMade, CountFromOne, events_of};
 ghost use Rattle.sched_hear.specs.Net.{BooksRun};
+ghost use Rattle.sched_hear.specs.Numbered.{numbered};
 ghost use Rattle.sched_make.specs.Code.Making.{EndsNet, fault_with, AreLines, Goes, GoesOn, IsDue, AppliesEvents, IsReady, Turns, StandsMade};
-ghost use Rattle.sched_make.specs.Code.Works.{HasNames, work_event};
+ghost use Rattle.sched_make.specs.Code.Works.{AreWorksOf, AreShown, HasNames, IsOpenWork, MayLookAt, work_event};
 
 use crate::fault::MakeFault;
 use crate::limits::MAX_EVENTS;
@@ -50,6 +51,15 @@ fn says_again(number: u64) -> bool
     (number / 65_536) % 8 == 0
 }
 
+// The event by which a work of a net is done, with names. The error is want of memory.
+fn event_of(net: &Net<'_>, work: &Work) -> Result<Event, AllocError>
+    requires { HasNames net.now.valid.now.view work.now }
+    ensures event { IfOk result (λ event. numbered net.now.valid.now.view event ≡ work_event work.now) }
+    ensures printable { IfOk result (λ event. is_printable event ≡ true) }
+{
+    work.event(net.valid())
+}
+
 // Applies the event of a work, which is one line more.
 fn apply(net: &mut Net<'_>, lines: &mut Vec<(u32, Event)>, work: &Work) -> Result<(), MakeFault>
     requires legal { GoesOn net.old.valid.now.view (map (λ b. loaded b) net.old.shells.items) (map (λ b. kept b) net.old.shells.items) net.old.books lines.old.items (work_event work.now) }
@@ -66,7 +76,7 @@ fn apply(net: &mut Net<'_>, lines: &mut Vec<(u32, Event)>, work: &Work) -> Resul
         return Err(MakeFault::TooManyEvents);
     }
     let number = lines.len() as u32 + 1;
-    let event = work.event(net.valid())?;
+    let event = event_of(net, work)?;
     if let Err(fault) = net.event(&event) {
         return Err(fault_at(fault, number));
     }
@@ -100,6 +110,39 @@ fn apply_chosen(
     Ok(())
 }
 
+// The works of a net. The error is want of memory.
+fn works_of(net: &Net<'_>) -> Result<Works, AllocError>
+    requires { BooksRun net.now.valid.now.view net.now.books }
+    ensures works { IfOk result (AreWorksOf net.now.valid.now.view) }
+    ensures shown { IfOk result (AreShown net.now.valid.now.view net.now.books) }
+{
+    Works::of(net.alloc(), net.valid(), net.books())
+}
+
+// The work of a net with a number, counted from 0.
+fn work_at(works: &Works, net: &Net<'_>, number: usize) -> Work
+    requires runs { BooksRun net.now.valid.now.view net.now.books }
+    requires works { AreWorksOf net.now.valid.now.view works.now }
+    requires shown { AreShown net.now.valid.now.view net.now.books works.now }
+    requires number { number < sum works.now.sizes }
+    ensures numbered { IsOpenWork net.now.valid.now.view net.now.books number result }
+    ensures names { HasNames net.now.valid.now.view result }
+{
+    let (_, work) = works.find(net.valid(), net.books(), number);
+    work
+}
+
+// Looks again at every place, after a work. The error is want of memory.
+fn look_after(works: &mut Works, net: &Net<'_>, work: &Work) -> Result<(), AllocError>
+    requires runs { BooksRun net.now.valid.now.view net.now.books }
+    requires works { AreWorksOf net.now.valid.now.view works.old }
+    requires may { (place : ℕ) → MayLookAt net.now.valid.now.view net.now.books works.old work.now place }
+    ensures works { OnOk result (AreWorksOf net.now.valid.now.view works.new) }
+    ensures shown { OnOk result (AreShown net.now.valid.now.view net.now.books works.new) }
+{
+    works.look_after(net.valid(), net.books(), work)
+}
+
 impl Making {
     // No event yet.
     fn of(net: &Net<'_>, seed: u64) -> Result<Making, AllocError>
@@ -109,7 +152,7 @@ impl Making {
         ensures lines { IfOk result (λ making. making.lines.items ≡ []) }
     {
         Ok(Making {
-            works: Works::of(net.alloc(), net.valid(), net.books())?,
+            works: works_of(net)?,
             draws: Draws::of(seed),
             lines: Vec::new(net.alloc()),
         })
@@ -130,11 +173,9 @@ impl Making {
         net.known();
         let number = self.draws.next_number();
         let total = self.works.total();
-        let (_, work) = self
-            .works
-            .find(net.valid(), net.books(), number as usize % total);
+        let work = work_at(&self.works, net, number as usize % total);
         apply_chosen(net, &mut self.lines, number, &work)?;
-        self.works.look_after(net.valid(), net.books(), &work)?;
+        look_after(&mut self.works, net, &work)?;
         Ok(())
     }
 }

@@ -1,10 +1,1 @@
-pub mod Faultless
-pub mod OwnNames
-pub mod Checking
-pub mod BucketsLemmas
-pub mod Allowing
-pub mod ModuleCounts
-pub mod Walks
-pub mod NewTopology
-pub mod Answering
-pub mod ShardLaw
+mod Below

@@ -1,6 +1,1 @@
-pub mod Buckets
-pub mod Copies
-pub mod Routing
-pub mod Sharding
-pub mod Laws
 pub mod Code

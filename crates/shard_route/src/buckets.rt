@@ -5,7 +5,7 @@ ghost use Rattle.row_laws.specs.Shards.{below_bound, buckets, from_bound};
 ghost use Rattle.bloom_ast.specs.Query.Formula.{both, compare};
 ghost use Rattle.bloom_ast.specs.declared.expr.Term.TheVariants.{Column, Literal};
 ghost use Rattle.blz_value.specs.declared.value.Value.TheVariants.{Int};
-ghost use Rattle.shard_route.specs.Buckets as spec;
+ghost use Rattle.shard_copies.specs.Buckets as spec;
 
 use bloom_ast::{Pred, Term};
 use blz_value::{Op, Str, Value};

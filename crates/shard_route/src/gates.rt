@@ -3,7 +3,7 @@ ghost use Rattle.std.specs.Prelude.{◌≡◌, ◌<◌, [], not, length, IfOk};
 ghost use Rattle.bloom_ast.specs.Program.{IsStock, output_columns};
 ghost use Rattle.path_annotate.specs.Annotation.{gate_of_output};
 ghost use Rattle.topo_types.specs.Attributes.{with_columns};
-ghost use Rattle.shard_route.specs.Sharding as spec;
+ghost use Rattle.shard_copies.specs.Sharding as spec;
 
 use bloom_ast::Program;
 use blz_value::Str;

@@ -3,19 +3,9 @@
 #![tactic(auto)]
 
 mod buckets;
-mod copies;
-mod copying;
-mod expressions;
-mod fault;
 mod gates;
-mod laws;
-mod modules;
-mod names;
 mod routing;
-mod sharded;
 mod sharding;
 
-pub use fault::ShardFault;
-pub use laws::shard_law;
-pub use sharded::{ShardFile, Sharded};
+pub use shard_copies::{ShardFault, ShardFile, Sharded};
 pub use sharding::shard;

@@ -11,23 +11,22 @@ ghost use Rattle.topo_types.specs.Valid.{needs_module};
 ghost use Rattle.topo_types.specs.Validity.{fault_of};
 ghost use Rattle.topo_types.specs.ViewOf.{view_of};
 ghost use Rattle.topo_types.specs.View as view;
-ghost use Rattle.shard_route.specs.Code.Copying.{IsTestOf};
+ghost use Rattle.shard_copies.specs.Copying.{IsTestOf};
 ghost use Rattle.shard_route.specs.Code.Staged as code;
-ghost use Rattle.shard_route.specs.Copies.{lacks_column as lacks};
-ghost use Rattle.shard_route.specs.Sharding as spec;
-ghost use Rattle.shard_route.specs.Sharding.{Answers};
+ghost use Rattle.shard_copies.specs.Copies.{lacks_column as lacks};
+ghost use Rattle.shard_copies.specs.Sharding as spec;
+ghost use Rattle.shard_copies.specs.Sharding.{Answers};
 
 use crate::buckets::bucket_tests;
-use crate::copies::{copies_for, lacks_column};
-use crate::fault::ShardFault;
 use crate::gates::lacks_in_gates;
-use crate::modules::sharded_modules;
-use crate::names::{file_of, has_bad_names, numbers_to};
 use crate::routing::sharded_topology;
-use crate::sharded::{ShardFile, Sharded};
 use bloom_ast::{Checked, Pred, Program};
 use blz_value::{Items, Str};
 use label_walk::cycle_of;
+use shard_copies::{
+    ShardFault, ShardFile, Sharded, copies_for, file_of, has_bad_names, lacks_column, numbers_to,
+    sharded_modules,
+};
 use std::alloc::{AllocError, Global};
 use topo_check::validate;
 use topo_types::{Topology, Valid, ValidFault};

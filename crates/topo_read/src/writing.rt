@@ -13,6 +13,7 @@ ghost use Rattle.topo_types.specs.Allowed.{IsAllowed};
 use crate::fill::{IntoValue, list, number, put, put_list, table_value, text};
 use std::alloc::{AllocError, Global};
 use toml::{Table, Value};
+use topo_copy::Copied;
 use topo_types::{
     Body, ColumnType, ComponentEntry, Declared, FdEntry, ModeName, Side, SourceEntry, Stock,
     StreamEntry, Topology, Valid,
@@ -293,7 +294,7 @@ pub fn topology_of(alloc: Global, valid: &Valid) -> Result<Topology, AllocError>
     ensures allowed { IfOk result IsAllowed }
 {
     valid.whole();
-    let mut topology = valid.topology().copy(alloc)?;
+    let mut topology = valid.topology().copied(alloc)?;
     topology.format = 2;
     Ok(topology)
 }

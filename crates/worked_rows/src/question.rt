@@ -27,14 +27,16 @@ pub(crate) struct Question {
 impl Question {
     /// No files and no words.
     pub(crate) fn new(alloc: Global) -> Result<Question> {
+        let bench = usual_bench(alloc)?;
+        let folder = String::from_str(alloc, ".")?;
         Ok(Question {
             files: Vec::new(alloc),
-            folder: String::from_str(alloc, ".")?,
+            folder,
             words: Vec::new(alloc),
             is_shown: false,
             failing: 0,
             room: TEXT_LIMIT,
-            bench: usual_bench(alloc)?,
+            bench,
         })
     }
 
@@ -61,11 +63,25 @@ impl Question {
         }
     }
 
-    // Holds a file with more behind what it has.
-    fn hold_more(&mut self, alloc: Global, name: &str, more: &[u8]) -> Result<()> {
+    // Holds a file with a text so many times behind what it has.
+    fn hold_more(&mut self, alloc: Global, count_and_name: &str, below: &str) -> Result<()> {
+        let (count, name) = count_and_name.split_once(' ').unwrap_or(("0", ""));
+        let more = repeated(alloc, below, count.parse::<usize>()?)?;
         let mut text = Vec::from_slice(alloc, self.held(name).unwrap_or("".as_bytes()))?;
-        text.extend_from_slice(more)?;
+        text.extend_from_slice(more.as_bytes())?;
         self.hold(alloc, name, text.as_slice())
+    }
+
+    // Holds a file of the folder.
+    fn hold_beside(&mut self, rt: &HostRuntime, name: &str) -> Result<()> {
+        let text = self.beside(rt, name)?;
+        self.hold(rt.alloc(), name, text.as_slice())
+    }
+
+    // Holds what is written as the answer.
+    fn hold_answer(&mut self, alloc: Global, name: &str) -> Result<()> {
+        let (_, out) = self.answer(alloc)?;
+        self.hold(alloc, name, out.bytes())
     }
 
     // The bytes of a file of the folder.
@@ -105,18 +121,11 @@ impl Question {
         match kind {
             "file" => self.hold(alloc, rest, below.as_bytes())?,
             "from" => self.folder = String::from_str(alloc, rest)?,
-            "copy" => self.hold(alloc, rest, self.beside(rt, rest)?.as_slice())?,
-            "more" => {
-                let (count, name) = rest.split_once(' ').unwrap_or(("0", rest));
-                let more = repeated(alloc, below, count.parse::<usize>()?)?;
-                self.hold_more(alloc, name, more.as_bytes())?
-            }
+            "copy" => self.hold_beside(rt, rest)?,
+            "more" => self.hold_more(alloc, rest, below)?,
             "ask" => self.ask(alloc, rest, false)?,
             "show" => self.ask(alloc, rest, true)?,
-            "hold" => {
-                let (_, out) = self.answer(alloc)?;
-                self.hold(alloc, rest, out.bytes())?
-            }
+            "hold" => self.hold_answer(alloc, rest)?,
             "fail" => self.failing = rest.parse::<u64>()?,
             "room" => self.room = rest.parse::<usize>()?,
             "bench" => self.bench = bench_of(alloc, rest)?,
@@ -135,19 +144,23 @@ impl Question {
         Ok(MemFiles::new(files, vec![in alloc; self.failing]?))
     }
 
+    // Writes what the program answers, or what the rows themselves show.
+    fn write(&mut self, alloc: Global, files: &mut MemFiles, out: &mut MemSink) -> Result<Status> {
+        if !self.is_shown {
+            return Ok(blazes(alloc, &self.words, files, out, &mut self.bench));
+        }
+        let text = shown(alloc, &self.words, files)?;
+        match out.put(text.as_slice()) {
+            Ok(()) => Ok(Status::Done),
+            Err(_) => Ok(Status::WriteFault),
+        }
+    }
+
     /// The status that the program ends with, and what it writes; or what the rows themselves show.
     pub(crate) fn answer(&mut self, alloc: Global) -> Result<(Status, MemSink)> {
         let mut files = self.copied(alloc)?;
         let mut out = MemSink::new(alloc, self.room)?;
-        if self.is_shown {
-            let text = shown(alloc, &self.words, &mut files)?;
-            let status = match out.put(text.as_slice()) {
-                Ok(()) => Status::Done,
-                Err(_) => Status::WriteFault,
-            };
-            return Ok((status, out));
-        }
-        let status = blazes(alloc, &self.words, &mut files, &mut out, &mut self.bench);
+        let status = self.write(alloc, &mut files, &mut out)?;
         Ok((status, out))
     }
 }

@@ -65,8 +65,8 @@ fn valid_of(alloc: Global, name: &str, files: &mut MemFiles) -> Result<Valid> {
 fn file_shown(alloc: Global, kind: &str, name: &str, files: &mut MemFiles) -> Result<Vec<u8>> {
     match kind {
         "written" => written(alloc, &bytes_in(alloc, name, files)?),
-        "seals" => plan_text(alloc, &seal_plan(alloc, &valid_of(alloc, name, files)?)?),
-        "sequencers" => plan_text(alloc, &order_plan(alloc, &valid_of(alloc, name, files)?)?),
+        "seals" => seal_text(alloc, &valid_of(alloc, name, files)?),
+        "sequencers" => order_text(alloc, &valid_of(alloc, name, files)?),
         "printed" => printed(alloc, &bytes_in(alloc, name, files)?),
         "event" => event_shown(alloc, &bytes_in(alloc, name, files)?),
         "shells" => shells_shown(alloc, &bytes_in(alloc, name, files)?),
@@ -78,6 +78,14 @@ fn written(alloc: Global, text: &[u8]) -> Result<Vec<u8>> {
     let topology = topo_read::read(alloc, text)?;
     ensure!(topology.format == 2, "the topology isn't of format 2");
     Ok(write(alloc, &topology)?)
+}
+
+fn seal_text(alloc: Global, valid: &Valid) -> Result<Vec<u8>> {
+    plan_text(alloc, &seal_plan(alloc, valid)?)
+}
+
+fn order_text(alloc: Global, valid: &Valid) -> Result<Vec<u8>> {
+    plan_text(alloc, &order_plan(alloc, valid)?)
 }
 
 fn plan_text(alloc: Global, planned: &Valid) -> Result<Vec<u8>> {

@@ -1,5 +1,5 @@
 //! Expressions at the front of a list of terminals.
-ghost use Rattle.std.specs.Prelude.{◌≡◌};
+ghost use Rattle.std.specs.Prelude.{◌≡◌, IfOk};
 ghost use Rattle.bloom_ast.specs.Form.{query_of};
 ghost use Rattle.bloom_parse.specs.Code.ReadingSingle.{Gives};
 ghost use Rattle.bloom_parse.specs.Code.ReadingExprs.{operator_of, base_at, opened_by, select_by, project_by, parts_by, keyed_by, group_by, at_least_by, by_operator, expr_at};
@@ -11,7 +11,7 @@ use crate::reading::read_fault::ReadFault;
 use crate::reading::single::{as_word, behind_first, bound, mark, name};
 use bloom_ast::Expr;
 use blz_value::{Items, Str};
-use std::alloc::Global;
+use std::alloc::{AllocError, Global};
 
 /// The word before an expression.
 #[derive(Clone, Copy)]
@@ -25,14 +25,14 @@ enum Operator {
     Plain,
 }
 
-/// An expression, and the terminals behind it.
-type ExprRead<'a> = Result<(Expr, &'a [Terminal]), ReadFault>;
+/// An expression in a box, and the terminals behind it. In a box it costs the prover less.
+type ExprRead<'a> = Result<(Box<Expr>, &'a [Terminal]), ReadFault>;
 
 /// Two parts and their pairs, and the terminals behind them.
-type PartsRead<'a> = Result<(Expr, Expr, Vec<(Str, Str)>, &'a [Terminal]), ReadFault>;
+type PartsRead<'a> = Result<(Box<Expr>, Box<Expr>, Vec<(Str, Str)>, &'a [Terminal]), ReadFault>;
 
 /// A part and its keys, and the terminals behind them.
-type KeyedRead<'a> = Result<(Expr, Vec<Str>, &'a [Terminal]), ReadFault>;
+type KeyedRead<'a> = Result<(Box<Expr>, Vec<Str>, &'a [Terminal]), ReadFault>;
 
 fn operator_at(terminals: &[Terminal]) -> Operator
     ensures { result ≡ operator_of terminals.now }
@@ -48,18 +48,25 @@ fn operator_at(terminals: &[Terminal]) -> Operator
     }
 }
 
+fn boxed(alloc: Global, expr: Expr) -> Result<Box<Expr>, AllocError>
+    ensures { IfOk result (λ boxed. boxed.value ≡ expr) }
+{
+    Ok(Box::new(alloc, expr)?)
+}
+
 fn base(alloc: Global, terminals: &[Terminal]) -> ExprRead<'_>
-    ensures { Gives (λ x. (query_of x.0, x.1.now)) result (base_at terminals.now) }
+    ensures { Gives (λ x. (query_of x.0.value, x.1.now)) result (base_at terminals.now) }
 {
     let (name, rest) = name(alloc, terminals)?;
-    Ok((Expr::Base(name), rest))
+    let made = boxed(alloc, Expr::Base(name))?;
+    Ok((made, rest))
 }
 
 /// A part behind `(` and before a comma.
 #[cycle(expressions)]
 #[tactic(auto, unfolding(crate::specs::Code::ReadingExprs::opened_by))]
 fn opened(alloc: Global, room: u32, terminals: &[Terminal]) -> ExprRead<'_>
-    ensures { Gives (λ x. (query_of x.0, x.1.now)) result (opened_by (expr_at room) terminals.now) }
+    ensures { Gives (λ x. (query_of x.0.value, x.1.now)) result (opened_by (expr_at room) terminals.now) }
 {
     let rest = mark(Mark::Open, terminals)?;
     let (part, rest) = expr(alloc, room, rest)?;
@@ -70,31 +77,32 @@ fn opened(alloc: Global, room: u32, terminals: &[Terminal]) -> ExprRead<'_>
 #[cycle(expressions)]
 #[tactic(auto, unfolding(crate::specs::Code::ReadingExprs::select_by))]
 fn select(alloc: Global, room: u32, terminals: &[Terminal]) -> ExprRead<'_>
-    ensures { Gives (λ x. (query_of x.0, x.1.now)) result (select_by (expr_at room) room terminals.now) }
+    ensures { Gives (λ x. (query_of x.0.value, x.1.now)) result (select_by (expr_at room) room terminals.now) }
 {
     let (part, rest) = opened(alloc, room, terminals)?;
     let (test, _, rest) = pred(alloc, room, MORE_COMPARISONS, rest)?;
     let rest = mark(Mark::Close, rest)?;
-    Ok((Expr::Select(Box::new(alloc, part)?, test), rest))
+    let made = boxed(alloc, Expr::Select(part, Box::into_inner(test)))?;
+    Ok((made, rest))
 }
 
 #[cycle(expressions)]
 #[tactic(auto, unfolding(crate::specs::Code::ReadingExprs::project_by))]
 fn project(alloc: Global, room: u32, terminals: &[Terminal]) -> ExprRead<'_>
-    ensures { Gives (λ x. (query_of x.0, x.1.now)) result (project_by (expr_at room) terminals.now) }
+    ensures { Gives (λ x. (query_of x.0.value, x.1.now)) result (project_by (expr_at room) terminals.now) }
 {
     let (part, rest) = opened(alloc, room, terminals)?;
     let (first, rest) = item(alloc, rest)?;
     let (found, rest) = items(alloc, first, rest)?;
     let rest = mark(Mark::Close, rest)?;
-    let part = Box::new(alloc, part)?;
-    Ok((Expr::Project(part, Items::from_vec(found)), rest))
+    let made = boxed(alloc, Expr::Project(part, Items::from_vec(found)))?;
+    Ok((made, rest))
 }
 
 #[cycle(expressions)]
 #[tactic(auto, unfolding(crate::specs::Code::ReadingExprs::parts_by))]
 fn parts(alloc: Global, room: u32, terminals: &[Terminal]) -> PartsRead<'_>
-    ensures { Gives (λ x. (query_of x.0, query_of x.1, x.2.items, x.3.now)) result (parts_by (expr_at room) terminals.now) }
+    ensures { Gives (λ x. (query_of x.0.value, query_of x.1.value, x.2.items, x.3.now)) result (parts_by (expr_at room) terminals.now) }
 {
     let (left, rest) = opened(alloc, room, terminals)?;
     let (right, rest) = expr(alloc, room, rest)?;
@@ -106,7 +114,7 @@ fn parts(alloc: Global, room: u32, terminals: &[Terminal]) -> PartsRead<'_>
 #[cycle(expressions)]
 #[tactic(auto, unfolding(crate::specs::Code::ReadingExprs::keyed_by))]
 fn keyed(alloc: Global, room: u32, terminals: &[Terminal]) -> KeyedRead<'_>
-    ensures { Gives (λ x. (query_of x.0, x.1.items, x.2.now)) result (keyed_by (expr_at room) terminals.now) }
+    ensures { Gives (λ x. (query_of x.0.value, x.1.items, x.2.now)) result (keyed_by (expr_at room) terminals.now) }
 {
     let (part, rest) = opened(alloc, room, terminals)?;
     let (found, rest) = keys(alloc, rest)?;
@@ -117,34 +125,34 @@ fn keyed(alloc: Global, room: u32, terminals: &[Terminal]) -> KeyedRead<'_>
 #[cycle(expressions)]
 #[tactic(auto, unfolding(crate::specs::Code::ReadingExprs::group_by))]
 fn group(alloc: Global, room: u32, terminals: &[Terminal]) -> ExprRead<'_>
-    ensures { Gives (λ x. (query_of x.0, x.1.now)) result (group_by (expr_at room) terminals.now) }
+    ensures { Gives (λ x. (query_of x.0.value, x.1.now)) result (group_by (expr_at room) terminals.now) }
 {
     let (part, found, rest) = keyed(alloc, room, terminals)?;
     let (agg, rest) = aggregate(alloc, rest)?;
     let rest = as_word(rest)?;
     let (named, rest) = name(alloc, rest)?;
     let rest = mark(Mark::Close, rest)?;
-    let part = Box::new(alloc, part)?;
-    Ok((Expr::Group(part, Items::from_vec(found), agg, named), rest))
+    let made = boxed(alloc, Expr::Group(part, Items::from_vec(found), agg, named))?;
+    Ok((made, rest))
 }
 
 #[cycle(expressions)]
 #[tactic(auto, unfolding(crate::specs::Code::ReadingExprs::at_least_by))]
 fn at_least(alloc: Global, room: u32, terminals: &[Terminal]) -> ExprRead<'_>
-    ensures { Gives (λ x. (query_of x.0, x.1.now)) result (at_least_by (expr_at room) terminals.now) }
+    ensures { Gives (λ x. (query_of x.0.value, x.1.now)) result (at_least_by (expr_at room) terminals.now) }
 {
     let (part, found, rest) = keyed(alloc, room, terminals)?;
     let (least, rest) = bound(rest)?;
     let rest = mark(Mark::Close, rest)?;
-    let part = Box::new(alloc, part)?;
-    Ok((Expr::AtLeast(part, Items::from_vec(found), least), rest))
+    let made = boxed(alloc, Expr::AtLeast(part, Items::from_vec(found), least))?;
+    Ok((made, rest))
 }
 
 /// An expression with so many levels that may still open, and the terminals behind it.
 #[cycle(expressions)]
 #[tactic(auto, unfolding(crate::specs::Code::ReadingExprs::expr_at))]
 pub(crate) fn expr(alloc: Global, room: u32, terminals: &[Terminal]) -> ExprRead<'_>
-    ensures { Gives (λ x. (query_of x.0, x.1.now)) result (expr_at room terminals.now) }
+    ensures { Gives (λ x. (query_of x.0.value, x.1.now)) result (expr_at room terminals.now) }
 {
     if room == 0 {
         base(alloc, terminals)
@@ -155,7 +163,7 @@ pub(crate) fn expr(alloc: Global, room: u32, terminals: &[Terminal]) -> ExprRead
 
 #[cycle(expressions)]
 fn deeper_expr(alloc: Global, room: u32, terminals: &[Terminal]) -> ExprRead<'_>
-    ensures { Gives (λ x. (query_of x.0, x.1.now)) result (by_operator (expr_at room) room (operator_of terminals.now) terminals.now) }
+    ensures { Gives (λ x. (query_of x.0.value, x.1.now)) result (by_operator (expr_at room) room (operator_of terminals.now) terminals.now) }
 {
     let rest = behind_first(terminals);
     match operator_at(terminals) {
@@ -163,13 +171,13 @@ fn deeper_expr(alloc: Global, room: u32, terminals: &[Terminal]) -> ExprRead<'_>
         Operator::Project => project(alloc, room, rest),
         Operator::Join => {
             let (left, right, found, rest) = parts(alloc, room, rest)?;
-            let (left, right) = (Box::new(alloc, left)?, Box::new(alloc, right)?);
-            Ok((Expr::Join(left, right, Items::from_vec(found)), rest))
+            let made = boxed(alloc, Expr::Join(left, right, Items::from_vec(found)))?;
+            Ok((made, rest))
         }
         Operator::NotIn => {
             let (left, right, found, rest) = parts(alloc, room, rest)?;
-            let (left, right) = (Box::new(alloc, left)?, Box::new(alloc, right)?);
-            Ok((Expr::NotIn(left, right, Items::from_vec(found)), rest))
+            let made = boxed(alloc, Expr::NotIn(left, right, Items::from_vec(found)))?;
+            Ok((made, rest))
         }
         Operator::Group => group(alloc, room, rest),
         Operator::AtLeast => at_least(alloc, room, rest),

@@ -1,5 +1,6 @@
 //! Predicates at the front of a list of terminals.
-ghost use Rattle.std.specs.Prelude.{◌≡◌, None, Ok};
+ghost use Rattle.std.specs.Prelude.{◌≡◌, None, Ok, IfOk};
+ghost use Rattle.std.specs.Option.{option_map};
 ghost use Rattle.bloom_ast.specs.Form.{formula_of};
 ghost use Rattle.bloom_ast.specs.Query.Formula.{both};
 ghost use Rattle.bloom_parse.specs.Code.ReadingSingle.{Gives};
@@ -9,26 +10,34 @@ use crate::lexing::terminal::{Mark, Terminal, Word};
 use crate::reading::read_fault::ReadFault;
 use crate::reading::single::{behind_first, mark, operand, sign};
 use bloom_ast::{MOST_COMPARISONS, Pred};
-use std::alloc::Global;
+use std::alloc::{AllocError, Global};
 
 /// Most comparisons of a select behind its first.
 pub(crate) const MORE_COMPARISONS: u32 = MOST_COMPARISONS - 1;
 
-/// A predicate, how many `and` and `or` may still come, and the rest.
-type PredRead<'a> = Result<(Pred, u32, &'a [Terminal]), ReadFault>;
+/// A predicate in a box, how many `and` and `or` may still come, and the rest. In a box it costs
+/// the prover less.
+type PredRead<'a> = Result<(Box<Pred>, u32, &'a [Terminal]), ReadFault>;
+
+fn boxed(alloc: Global, pred: Pred) -> Result<Box<Pred>, AllocError>
+    ensures { IfOk result (λ boxed. boxed.value ≡ pred) }
+{
+    Ok(Box::new(alloc, pred)?)
+}
 
 #[tactic(auto, unfolding(crate::specs::Code::ReadingPredicates::comparison_at))]
 fn comparison(alloc: Global, left: u32, terminals: &[Terminal]) -> PredRead<'_>
-    ensures { Gives (λ x. (formula_of x.0, x.1, x.2.now)) result (comparison_at left terminals.now) }
+    ensures { Gives (λ x. (formula_of x.0.value, x.1, x.2.now)) result (comparison_at left terminals.now) }
 {
     let (first, rest) = operand(alloc, terminals)?;
     let (op, rest) = sign(rest)?;
     let (second, rest) = operand(alloc, rest)?;
-    let made = Pred::Compare {
+    let compare = Pred::Compare {
         left: first,
         op,
         right: second,
     };
+    let made = boxed(alloc, compare)?;
     Ok((made, left, rest))
 }
 
@@ -71,12 +80,13 @@ fn link_at(terminals: &[Terminal]) -> Link
 #[cycle(predicates)]
 #[tactic(auto, unfolding(crate::specs::Code::ReadingPredicates::unit_by))]
 fn deeper_unit(alloc: Global, room: u32, left: u32, terminals: &[Terminal]) -> PredRead<'_>
-    ensures { Gives (λ x. (formula_of x.0, x.1, x.2.now)) result (unit_by (unit_at room) left terminals.now) }
+    ensures { Gives (λ x. (formula_of x.0.value, x.1, x.2.now)) result (unit_by (unit_at room) left terminals.now) }
 {
     match opening_at(terminals) {
         Opening::Negation => {
             let (part, left, rest) = unit(alloc, room, left, behind_first(terminals))?;
-            Ok((Pred::Not(Box::new(alloc, part)?), left, rest))
+            let made = boxed(alloc, Pred::Not(part))?;
+            Ok((made, left, rest))
         }
         Opening::Parenthesis => {
             let (part, left, rest) = pred(alloc, room, left, behind_first(terminals))?;
@@ -90,7 +100,7 @@ fn deeper_unit(alloc: Global, room: u32, left: u32, terminals: &[Terminal]) -> P
 #[cycle(predicates)]
 #[tactic(auto, unfolding(crate::specs::Code::ReadingPredicates::unit_at))]
 fn unit(alloc: Global, room: u32, left: u32, terminals: &[Terminal]) -> PredRead<'_>
-    ensures { Gives (λ x. (formula_of x.0, x.1, x.2.now)) result (unit_at room left terminals.now) }
+    ensures { Gives (λ x. (formula_of x.0.value, x.1, x.2.now)) result (unit_at room left terminals.now) }
 {
     if room == 0 {
         comparison(alloc, left, terminals)
@@ -104,31 +114,41 @@ fn unit(alloc: Global, room: u32, left: u32, terminals: &[Terminal]) -> PredRead
 #[cycle(predicates)]
 #[tactic(auto, unfolding(crate::specs::Code::ReadingPredicates::pred_by))]
 pub(crate) fn pred(alloc: Global, room: u32, left: u32, terminals: &[Terminal]) -> PredRead<'_>
-    ensures { Gives (λ x. (formula_of x.0, x.1, x.2.now)) result (pred_by (unit_at room) left terminals.now) }
+    ensures { Gives (λ x. (formula_of x.0.value, x.1, x.2.now)) result (pred_by (unit_at room) left terminals.now) }
 {
     let (first, left, rest) = unit(alloc, room, left, terminals)?;
     chain(alloc, room, left, first, rest)
 }
 
-fn anded(alloc: Global, product: Pred, part: Pred) -> Result<Pred, ReadFault>
-    ensures { Gives (λ x. formula_of x) result (Ok (both (formula_of product) (formula_of part))) }
+fn anded(alloc: Global, product: Box<Pred>, part: Box<Pred>) -> Result<Box<Pred>, AllocError>
+    ensures { IfOk result (λ x. formula_of x.value ≡ both (formula_of product.value) (formula_of part.value)) }
 {
-    Ok(Pred::And(Box::new(alloc, product)?, Box::new(alloc, part)?))
+    boxed(alloc, Pred::And(product, part))
 }
 
-fn summed(alloc: Global, sum: Option<Pred>, product: Pred) -> Result<Pred, ReadFault>
-    ensures { Gives (λ x. formula_of x) result (Ok (summed_of (formulas sum) (formula_of product))) }
+fn summed(
+    alloc: Global,
+    sum: Option<Box<Pred>>,
+    product: Box<Pred>,
+) -> Result<Box<Pred>, AllocError>
+    ensures { IfOk result (λ x. formula_of x.value ≡ summed_of (formulas (option_map (λ s. s.value) sum)) (formula_of product.value)) }
 {
     match sum {
-        Some(sum) => Ok(Pred::Or(Box::new(alloc, sum)?, Box::new(alloc, product)?)),
+        Some(sum) => boxed(alloc, Pred::Or(sum, product)),
         None => Ok(product),
     }
 }
 
 #[cycle(predicates)]
 #[tactic(auto, using(crate::proofs::Grammar::PredicateCorrect::chain_open, crate::proofs::Grammar::PredicateCorrect::chain_ended))]
-fn chain(alloc: Global, room: u32, left: u32, first: Pred, terminals: &[Terminal]) -> PredRead<'_>
-    ensures { Gives (λ x. (formula_of x.0, x.1, x.2.now)) result (chain_at (unit_at room) 31 left None (formula_of first) terminals.now) }
+fn chain(
+    alloc: Global,
+    room: u32,
+    left: u32,
+    first: Box<Pred>,
+    terminals: &[Terminal],
+) -> PredRead<'_>
+    ensures { Gives (λ x. (formula_of x.0.value, x.1, x.2.now)) result (chain_at (unit_at room) 31 left None (formula_of first.value) terminals.now) }
 {
     let mut sum = None;
     let mut product = first;

@@ -90,6 +90,7 @@ fn rule(alloc: Global, terminals: &[Terminal]) -> Result<(Rule, &[Terminal]), Re
     let rest = arrow(rest)?;
     let (body, rest) = expr(alloc, MOST_LEVELS, rest)?;
     let rest = mark(Mark::Semicolon, rest)?;
+    let body = Box::into_inner(body);
     Ok((Rule { head, body }, rest))
 }
 

@@ -4,8 +4,8 @@ use Rattle.topo_types.specs.Graph.{is_in}
 use Rattle.topo_types.specs.Regions.{is_in_cycle, region_set, regions}
 use Rattle.topo_types.specs.View.{View}
 use Rattle.label_walk.specs.Paths.{region_at}
-use Rattle.coord_synth.specs.declared.steps.Steps.{Steps}
-use Rattle.coord_synth.specs.Plan.{plan_component, plan_cycle}
+use Rattle.coord_steps.specs.declared.steps.Steps.{Steps}
+use Rattle.coord_steps.specs.Plan.{plan_component, plan_cycle}
 
 -- a member of each region
 pub record AreFirsts (v : View) (firsts : List ℕ) : Type 0 where

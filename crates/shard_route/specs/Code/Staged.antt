@@ -6,8 +6,8 @@ use Rattle.topo_types.specs.declared.topology.Topology.{Topology}
 use Rattle.topo_types.specs.Allowed.{IsAllowed}
 use Rattle.topo_types.specs.Valid.{needs_module}
 use Rattle.topo_types.specs.Validity.{fault_of}
-use Rattle.shard_route.specs.declared.fault.ShardFault.{ShardFault}
-use Rattle.shard_route.specs.declared.fault.ShardFault.TheVariants as fault
+use Rattle.shard_copies.specs.declared.fault.ShardFault.{ShardFault}
+use Rattle.shard_copies.specs.declared.fault.ShardFault.TheVariants as fault
 
 -- a topology with as many modules as components with one
 pub record IsGiven (t : Topology) (modules : List Accepted) : Type 0 where

@@ -1,7 +1,7 @@
 -- What is Order stays so.
-use Rattle.std.proofs.Common.{◌≡◌, sym, ◌∙◌}
-use Rattle.std.proofs.lemmas.Result.{IfOk-weaker}
-use Rattle.coord_synth.specs.Plan.{with_key, kept_key, plan_component}
+use Rattle.std.proofs.Common.{◌≡◌, ap, sym, subst, ◌∙◌}
+use Rattle.topo_types.specs.Valid.{Validated}
+use Rattle.coord_synth.specs.Code.Written.{StaysWritten}
 use Rattle.coord_synth.proofs.KeptLemmas.{plan_order, plan_free}
 use Rattle.coord_synth.proofs.TrialLemmas.{stays_same}
 use Rattle.coord_synth.proofs.component.plan_component.Goals as goal
@@ -12,9 +12,8 @@ returns-then-is_order c = record {
   written = stays_same c.args.now;
 }
 
-pub returns-else-is_order : goal.returns-else-is_order
-returns-else-is_order c = record {
-  view = IfOk-weaker c.plan_unordered.result (λ n. n.view ≡ with_key c.args.steps c.args.now.view c.args.component (kept_key c.args.steps c.args.now.view c.args.component)) (λ n. n.view ≡ plan_component c.args.steps c.args.now.view c.args.component)
-      (λ n is. is ∙ plan_free c.args.steps c.args.now.view c.args.component (sym c.is_order.ensures ∙ c.if-is_order.false)) c.plan_unordered.ensures.view;
-  written = c.plan_unordered.ensures.written;
+pub returns : goal.returns
+returns c = record {
+  view = ap (λ (n : Validated). n.view) c.next_or.ensures ∙ c.in_ok-next.ensures.view ∙ plan_free c.args.steps c.args.now.view c.args.component (sym c.is_order.ensures ∙ c.if-is_order.false);
+  written = subst (StaysWritten c.args.now) (sym c.next_or.ensures) c.in_ok-next.ensures.written;
 }

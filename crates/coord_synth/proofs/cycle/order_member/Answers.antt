@@ -4,7 +4,7 @@ use Rattle.std.proofs.lemmas.Result.{IfOk-weaker}
 use Rattle.topo_types.specs.Laws.{validated_with_mode}
 use Rattle.coord_synth.specs.Code.Written.{StaysWritten}
 use Rattle.topo_types.specs.declared.mode.Mode.TheVariants.{Order}
-use Rattle.coord_synth.specs.Plan.{order_member}
+use Rattle.coord_steps.specs.Plan.{order_member}
 use Rattle.coord_synth.proofs.TrialLemmas.{can_order, stays_with, stays_same, view_with, member_stays, member_ordered, member_free}
 use Rattle.coord_synth.proofs.cycle.order_member.Goals as goal
 

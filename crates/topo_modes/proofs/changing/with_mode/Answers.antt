@@ -14,15 +14,15 @@ topology_with_mode-requires-clause-within c =
 pub regions_of-requires : goal.regions_of-requires
 regions_of-requires c =
     lemmas.next_ends c.args.valid.now c.args.component c.args.mode c.whole.ensures c.requires (view_kept c.in_ok-kept.kept)
-    (c.in_ok-kept.ensures ∙ ap (λ (v : View). with_mode v c.args.component c.args.mode) c.kept.ensures)
+    (c.in_ok-kept.ensures ∙ ap (λ (v : View). with_mode v c.args.component c.args.mode) c.kept-2.ensures)
 
 pub found_with-requires-clause-ends : goal.found_with-requires-clause-ends
 found_with-requires-clause-ends c =
     lemmas.next_ends c.args.valid.now c.args.component c.args.mode c.whole.ensures c.requires (view_kept c.in_ok-kept.kept)
-    (c.in_ok-kept.ensures ∙ ap (λ (v : View). with_mode v c.args.component c.args.mode) c.kept.ensures)
+    (c.in_ok-kept.ensures ∙ ap (λ (v : View). with_mode v c.args.component c.args.mode) c.kept-2.ensures)
 
 view_is : (c : goal.In_ok-found) → view_kept c.in_ok-kept.kept ≡ with_mode c.args.valid.now.view c.args.component c.args.mode
-view_is c = c.in_ok-kept.ensures ∙ ap (λ (v : View). with_mode v c.args.component c.args.mode) c.kept.ensures
+view_is c = c.in_ok-kept.ensures ∙ ap (λ (v : View). with_mode v c.args.component c.args.mode) c.kept-2.ensures
 
 topology_is : (c : goal.In_ok-found) → c.in_ok-topology.topology ≡ topology_with_mode c.args.valid.now.view.attributes c.args.valid.now.topology c.args.component c.args.mode
 topology_is c =

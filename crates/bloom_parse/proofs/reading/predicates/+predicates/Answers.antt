@@ -1,4 +1,5 @@
 use Rattle.std.proofs.Common.{rules}
+use Rattle.std.specs.Option.{option_map}
 use Rattle.bloom_ast.specs.Form.{formula_of}
 use Rattle.bloom_parse.specs.Code.ReadingPredicates.{formulas, unit_at}
 use Rattle.bloom_parse.proofs.Grammar.PredicateCorrect.{next_and, next_or}
@@ -9,6 +10,6 @@ pub chain-loop-preserved : goal.chain-loop-preserved
 chain-loop-preserved t c =
     let m = c.match-link_at in
     elim c.match-link_at.branch [
-      | chain-in-And+else-left-eq0+in_ok-part-in-And+in_ok-product-in-And w ↦ next_and (unit_at c.args.room) c.loop.counter c.loop.left (formulas c.loop.sum) (formula_of c.loop.product) c.loop.rest.now _ (formula_of w.in_ok-part-in-And.part) m.left (formulas m.sum) (formula_of m.product) m.rest.now c.loop-test.true (search rules) (search rules) (search rules) (search rules) (search rules) c.loop.invariant
-      | chain-in-Or+else-left-eq0-2+in_ok-part-in-Or+in_ok-summed-in-Or w ↦ next_or (unit_at c.args.room) c.loop.counter c.loop.left (formulas c.loop.sum) (formula_of c.loop.product) c.loop.rest.now _ (formula_of w.in_ok-part-in-Or.part) m.left (formulas m.sum) (formula_of m.product) m.rest.now c.loop-test.true (search rules) (search rules) (search rules) (search rules) (search rules) c.loop.invariant
+      | chain-in-And+else-left-eq0+in_ok-part-in-And+in_ok-product-in-And w ↦ next_and (unit_at c.args.room) c.loop.counter c.loop.left (formulas (option_map (λ s. s.value) c.loop.sum)) (formula_of c.loop.product.value) c.loop.rest.now _ (formula_of w.in_ok-part-in-And.part.value) m.left (formulas (option_map (λ s. s.value) m.sum)) (formula_of m.product.value) m.rest.now c.loop-test.true (search rules) (search rules) (search rules) (search rules) (search rules) c.loop.invariant
+      | chain-in-Or+else-left-eq0-2+in_ok-part-in-Or+in_ok-summed-in-Or w ↦ next_or (unit_at c.args.room) c.loop.counter c.loop.left (formulas (option_map (λ s. s.value) c.loop.sum)) (formula_of c.loop.product.value) c.loop.rest.now _ (formula_of w.in_ok-part-in-Or.part.value) m.left (formulas (option_map (λ s. s.value) m.sum)) (formula_of m.product.value) m.rest.now c.loop-test.true (search rules) (search rules) (search rules) (search rules) (search rules) c.loop.invariant
     ]

@@ -1,5 +1,6 @@
 -- Levels go down, and what is left reads as the whole.
 use Rattle.std.proofs.Common.{◌≡◌, None, ◌+◌, ◌-◌, ◌*◌}
+use Rattle.std.specs.Option.{option_map}
 use Rattle.bloom_ast.specs.Form.{formula_of}
 use Rattle.bloom_parse.specs.Code.ReadingPredicates.{formulas, chain_at, unit_at}
 use Rattle.bloom_parse.proofs.reading.predicates.+predicates.Given as goal
@@ -17,4 +18,4 @@ abbrev pub decreases-deeper_unit : goal.decreases-deeper_unit
 decreases-deeper_unit l = 4 * l.room + 4
 
 abbrev pub invariant-chain-loop : goal.invariant-chain-loop
-invariant-chain-loop l = chain_at (unit_at l.room) (31 - l.counter) l.left (formulas l.sum) (formula_of l.product) l.rest ≡ chain_at (unit_at l.room) 31 l.fn.left None (formula_of l.fn.first) l.fn.terminals
+invariant-chain-loop l = chain_at (unit_at l.room) (31 - l.counter) l.left (formulas (option_map (λ s. s.value) l.sum)) (formula_of l.product.value) l.rest ≡ chain_at (unit_at l.room) 31 l.fn.left None (formula_of l.fn.first.value) l.fn.terminals

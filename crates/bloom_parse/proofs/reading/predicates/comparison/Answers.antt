@@ -1,15 +1,17 @@
--- A comparison is what its three parts read, or the fault of the first part that fails.
-use Rattle.std.proofs.Common.{ℕ, List, Bor}
+-- A comparison is what its three parts read, the fault of the first part that fails, or want of memory.
+use Rattle.std.proofs.Common.{ℕ, List, Ok, Bor, ap, sym, ◌∙◌}
+use Rattle.std.specs.Global.{Box}
 use Rattle.bloom_ast.specs.Form.{formula_of}
 use Rattle.bloom_ast.specs.Query.{Formula}
 use Rattle.bloom_ast.specs.declared.expr.Pred.{Pred}
 use Rattle.bloom_parse.specs.declared.lexing.terminal.Terminal.{Terminal}
+use Rattle.bloom_parse.specs.declared.reading.read_fault.ReadFault.TheVariants.{NoMemory}
 use Rattle.bloom_parse.specs.Code.ReadingPredicates.{comparison_at}
 use Rattle.bloom_parse.proofs.Grammar.StepLemmas.{comparison_is, no_first, no_sign, no_second, fault_handed}
 use Rattle.bloom_parse.proofs.reading.predicates.comparison.Goals as goal
 
-abbrev seen : Pred × ℕ × Bor (List Terminal) → Formula × ℕ × List Terminal
-seen x = (formula_of x.0, x.1, x.2.now)
+abbrev seen : Box Pred × ℕ × Bor (List Terminal) → Formula × ℕ × List Terminal
+seen x = (formula_of x.0.value, x.1, x.2.now)
 
 pub returns-in_err-first : goal.returns-in_err-first
 returns-in_err-first c =
@@ -32,7 +34,11 @@ returns-in_err-second c =
     fault_handed seen c.from_residual-in_err-second.result fault (comparison_at c.args.left all) c.from_residual-in_err-second.ensures.1
     (no_second c.args.left all c.in_ok-first.rest.now c.in_ok-op.rest.now c.in_ok-first.first c.in_ok-op.op fault (c.in_ok-first.ensures) (c.in_ok-op.ensures) (c.in_err-second.ensures))
 
+pub returns-in_err-made : goal.returns-in_err-made
+returns-in_err-made c = fault_handed seen c.from_residual-in_err-made.result NoMemory (comparison_at c.args.left c.args.terminals.now) c.from_residual-in_err-made.ensures.1 tt
+
 pub returns : goal.returns
 returns c =
     comparison_is c.args.left c.args.terminals.now c.in_ok-first.rest.now c.in_ok-op.rest.now c.in_ok-second.rest.now c.in_ok-first.first c.in_ok-second.second c.in_ok-op.op
     (c.in_ok-first.ensures) (c.in_ok-op.ensures) (c.in_ok-second.ensures)
+    ∙ ap (λ (p : Pred). Ok (formula_of p, c.args.left, c.in_ok-second.rest.now)) (sym c.in_ok-made.ensures)

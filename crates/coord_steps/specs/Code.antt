@@ -1,0 +1,3 @@
+-- What only the clauses of private functions speak of.
+pub mod Notes
+pub mod Tried

@@ -1,9 +1,0 @@
-//! Which steps a plan takes.
-
-/// Which steps a plan takes: those by which components get keys, and those by which they become
-/// Order.
-#[derive(Clone, Copy, Debug, PartialEq, Eq)]
-pub(crate) struct Steps {
-    pub(crate) keys: bool,
-    pub(crate) orders: bool,
-}

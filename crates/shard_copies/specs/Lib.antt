@@ -1,0 +1,6 @@
+pub mod Buckets
+pub mod Copies
+pub mod Routing
+pub mod Sharding
+pub mod Laws
+pub mod Copying

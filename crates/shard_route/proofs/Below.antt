@@ -1,0 +1,18 @@
+-- Walks over the numbers below a count.
+use Rattle.std.proofs.Common.{◌≡◌, ◌∙◌, ◌<◌, ◌+◌, ◌||◌, ℕ, Bool, true, false, [], ◌∷◌, refl, ap}
+use Rattle.std.specs.List.{list_any, range_with_len}
+use Rattle.std.proofs.lemmas.List.Folds.{list_any-append}
+use Rattle.topo_types.proofs.Regions.Spreading.{in_below}
+use Rattle.label_walk.proofs.Loops.{below_more}
+use Rattle.shard_copies.proofs.Walks.{any_has}
+
+-- one number that passes is enough
+pub found_below : (p : ℕ → Bool) (count n : ℕ) → n < count → p n ≡ true → list_any p (range_with_len 0 count) ≡ true
+found_below p count n lt t = any_has p (range_with_len 0 count) n (in_below count n lt) t
+
+-- one more that doesn't pass
+pub none_below : (p : ℕ → Bool) (n : ℕ) → list_any p (range_with_len 0 n) ≡ false → p n ≡ false → list_any p (range_with_len 0 (n + 1)) ≡ false
+none_below p n e f = ap (list_any p) (below_more n) ∙ list_any-append p (range_with_len 0 n) (n ∷ []) ∙ both (list_any p (range_with_len 0 n)) (p n) e f
+  where
+    both : (a b : Bool) → a ≡ false → b ≡ false → (a || (b || false)) ≡ false
+    both a b e f = rw (e, f) refl

@@ -4,9 +4,9 @@ use Rattle.inbox.specs.Events.{Event}
 use Rattle.inbox.specs.Wiring.{Wiring}
 use Rattle.report_print.specs.declared.refusal.MakeKind.TheVariants as make_kinds
 use Rattle.report_print.specs.declared.refusal.Refusal.TheVariants as refusal
-use Rattle.sched_make.specs.Made.{AnswersSo}
-use Rattle.sched_make.specs.declared.fault.MakeFault.{MakeFault}
-use Rattle.sched_make.specs.declared.fault.MakeFault.TheVariants as make_faults
+use Rattle.sched_run.specs.Made.{AnswersSo}
+use Rattle.sched_run.specs.declared.fault.MakeFault.{MakeFault}
+use Rattle.sched_run.specs.declared.fault.MakeFault.TheVariants as make_faults
 use Rattle.topo_types.specs.Data.{Data}
 use Rattle.command_files.specs.Ran.{Gives, IsStopAt}
 use Rattle.command_files.specs.declared.stop.Stop.{Stop}

@@ -8,14 +8,14 @@ use Rattle.inbox.specs.Events.{Event, event}
 use Rattle.inbox.specs.Executions.{Execution, execution_of}
 use Rattle.inbox.specs.Wiring.{wiring_of}
 use Rattle.inbox.proofs.Executions.Results.{Ok_same}
-use Rattle.sched_make.specs.Applying.{Line, steps_of}
+use Rattle.sched_run.specs.Applying.{Line, steps_of}
 use Rattle.sched_bench.specs.Bench.{fault_of_opening}
-use Rattle.sched_make.specs.Made.{AnswersSo, LeavesNothing, execution_after, made_of}
-use Rattle.sched_make.specs.Making.{AnswersMade, CountFromOne, HasMade, LeavesMade, RunsFirst, events_in, events_of}
+use Rattle.sched_run.specs.Made.{AnswersSo, LeavesNothing, execution_after, made_of}
+use Rattle.sched_run.specs.Making.{AnswersMade, CountFromOne, HasMade, LeavesMade, RunsFirst, events_in, events_of}
 use Rattle.sched_hear.specs.Net.{Stands, BooksRun, execution_in}
 use Rattle.sched_hear.specs.Numbered.{numbered}
 use Rattle.sched_hear.specs.declared.books.Books.{Books}
-use Rattle.sched_make.specs.declared.fault.MakeFault.{MakeFault}
+use Rattle.sched_run.specs.declared.fault.MakeFault.{MakeFault}
 use Rattle.sched_text.specs.Text.{numbered_again}
 use Rattle.topo_types.specs.Data.{Data}
 use Rattle.topo_types.specs.View.{View}

@@ -22,12 +22,12 @@ use Rattle.report_print.specs.declared.refusal.Refusal.{Refusal}
 use Rattle.report_print.specs.declared.refusal.Refusal.TheVariants as refusal
 use Rattle.report_print.specs.declared.refusal.EventKind.TheVariants as event_kinds
 use Rattle.report_print.specs.Refusals.{refusal_line}
-use Rattle.sched_make.specs.Applying.{Line, after_lines, steps_of, Reaches, Applied, AppliesLines}
+use Rattle.sched_run.specs.Applying.{Line, after_lines, steps_of, Reaches, Applied, AppliesLines}
 use Rattle.sched_bench.specs.Bench.{instance_components, fault_of_opening}
 use Rattle.sched_hear.specs.Net.{Stands, BooksRun, execution_in}
 use Rattle.sched_run.specs.Reading.{IsOrdered}
 use Rattle.sched_run.specs.Tables.{last_tables}
-use Rattle.sched_make.specs.declared.applying.EventRefusal.{EventRefusal}
+use Rattle.sched_run.specs.declared.applying.EventRefusal.{EventRefusal}
 use Rattle.sched_hear.specs.declared.books.Books.{Books}
 use Rattle.emitted.specs.declared.fault.EventFault.{EventFault}
 use Rattle.emitted.specs.declared.fault.EventFault.TheVariants as event_faults

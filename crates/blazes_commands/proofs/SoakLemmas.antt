@@ -4,12 +4,12 @@ use Rattle.std.specs.Result.{IsErrAnd}
 use Rattle.bloom_ast.specs.declared.program.Program.{Program}
 use Rattle.bloom_ast.specs.Step.{Sets}
 use Rattle.inbox.specs.Executions.{Execution}
-use Rattle.sched_make.specs.Applying.{Line, steps_of}
+use Rattle.sched_run.specs.Applying.{Line, steps_of}
 use Rattle.sched_bench.specs.Bench.{fault_of_opening}
-use Rattle.sched_make.specs.Making.{AnswersMade, LeavesMade}
+use Rattle.sched_run.specs.Making.{AnswersMade, LeavesMade}
 use Rattle.sched_hear.specs.Net.{Stands, BooksRun}
 use Rattle.sched_hear.specs.declared.books.Books.{Books}
-use Rattle.sched_make.specs.declared.fault.MakeFault.{MakeFault}
+use Rattle.sched_run.specs.declared.fault.MakeFault.{MakeFault}
 use Rattle.topo_types.specs.Data.{Data}
 use Rattle.topo_types.specs.View.{View}
 use Rattle.blazes_commands.specs.Bench.{BenchStates}

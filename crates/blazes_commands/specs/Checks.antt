@@ -4,14 +4,14 @@ use Rattle.blz_boxes.specs.declared.kind.ProgramKind.{ProgramKind}
 use Rattle.inbox.specs.Events.{Event}
 use Rattle.inbox.specs.Executions.{Execution, first_execution}
 use Rattle.inbox.specs.Wiring.{wiring_of}
-use Rattle.sched_make.specs.Applying.{Line, after_lines}
+use Rattle.sched_run.specs.Applying.{Line, after_lines}
 use Rattle.sched_bench.specs.Bench.{fault_of_opening}
-use Rattle.sched_make.specs.declared.applying.EventRefusal.{EventRefusal}
+use Rattle.sched_run.specs.declared.applying.EventRefusal.{EventRefusal}
 use Rattle.emitted.specs.declared.fault.EventFault.{EventFault}
 use Rattle.emitted.specs.declared.fault.EventFault.TheVariants as event_faults
-use Rattle.sched_make.specs.Made.{made_of}
-use Rattle.sched_make.specs.declared.fault.MakeFault.{MakeFault}
-use Rattle.sched_make.specs.declared.fault.MakeFault.TheVariants as make_faults
+use Rattle.sched_run.specs.Made.{made_of}
+use Rattle.sched_run.specs.declared.fault.MakeFault.{MakeFault}
+use Rattle.sched_run.specs.declared.fault.MakeFault.TheVariants as make_faults
 use Rattle.sched_bench.specs.declared.fault.OpenFault.{OpenFault}
 use Rattle.sched_bench.specs.declared.fault.OpenFault.TheVariants as open_faults
 use Rattle.topo_types.specs.Data.{Data}

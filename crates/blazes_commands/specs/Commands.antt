@@ -19,15 +19,17 @@ use Rattle.report_derivation.specs.DeriveText.{derive_text}
 use Rattle.report_print.specs.LabelText.{label_text}
 use Rattle.report_runs.specs.RunText.{run_text}
 use Rattle.report_runs.specs.SoakText.{soak_text}
-use Rattle.sched_make.specs.Applying.{Line}
-use Rattle.sched_make.specs.Made.{LeavesNothing, execution_after}
-use Rattle.sched_make.specs.Making.{events_of}
+use Rattle.sched_run.specs.Applying.{Line}
+use Rattle.sched_run.specs.Made.{LeavesNothing, execution_after}
+use Rattle.sched_run.specs.Making.{events_of}
 use Rattle.shard_copies.specs.declared.sharded.Sharded.{Sharded}
 use Rattle.sched_run.specs.Reading.{IsOrdered}
 use Rattle.sched_text.specs.Reading.{ReadsAs, event_reading}
 use Rattle.sched_text.specs.Text.{schedule_text}
 use Rattle.blazes_commands.specs.Bench.{BenchStates, HasInstances}
+use Rattle.command_files.specs.Reply.{Answer}
 use Rattle.command_files.specs.Script.{Script, ◌>>=◌}
+use Rattle.command_labels.specs.Answers.{HasLabels, HasPlan, HasShards}
 use Rattle.blazes_words.specs.Words.{Asked}
 use Rattle.blazes_commands.specs.Checks as check
 use Rattle.command_labels.specs.BuiltIn.{planned_count}

@@ -1,7 +1,7 @@
 //! The command that makes a schedule.
 ghost use Rattle.std.specs.Prelude.{◌≡◌, IfOk, OnOk, Some, map};
 ghost use Rattle.report_print.specs.declared.refusal.Refusal.TheVariants as refusal;
-ghost use Rattle.sched_make.specs.Making.{CountFromOne};
+ghost use Rattle.sched_run.specs.Making.{CountFromOne};
 ghost use Rattle.sched_hear.specs.Net.{BooksRun};
 ghost use Rattle.sched_text.specs.Text.{IsPrintable};
 ghost use Rattle.topo_types.specs.Data.{IsData};
@@ -25,7 +25,7 @@ use command_checks::{data_file, valid_topology};
 use command_files::{Reply, Stop, stop_at};
 use data_read::Data;
 use report_print::{MakeKind, Refusal};
-use sched_make::MakeFault;
+use sched_run::MakeFault;
 use sched_run::Net;
 use sched_text::{Schedule, print};
 use std::alloc::{AllocError, Global};
@@ -102,7 +102,7 @@ fn made_over(
         result }
 {
     let mut net = opened(alloc, valid, given, bench)?;
-    let made = sched_make::make(&mut net, seed);
+    let made = sched_run::make(&mut net, seed);
     let outcome = outcome_of(alloc, &net, made);
     net.close(bench)?;
     outcome

@@ -22,7 +22,7 @@ use command_files::{Reply, Status, Stop, schedule_file, stop_at};
 use data_read::Data;
 use report_print::{EventKind, Refusal};
 use report_runs::run_text;
-use sched_make::{EventRefusal, apply};
+use sched_run::{EventRefusal, apply};
 use sched_run::{EventFault, Net};
 use sched_text::Event;
 use std::alloc::{AllocError, Global};

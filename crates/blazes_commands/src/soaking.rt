@@ -20,7 +20,7 @@ use command_files::{Reply, Stop, done, stop_at};
 use command_labels::{planned_count, sound_labels};
 use data_read::Data;
 use report_runs::soak_text;
-use sched_make::{MakeFault, make};
+use sched_run::{MakeFault, make};
 use sched_run::Net;
 use sched_text::Schedule;
 use std::alloc::{AllocError, Global};

@@ -1,3 +1,7 @@
 -- What private functions give.
 pub mod First
 pub mod Remaining
+pub mod Looking
+pub mod Stale
+pub mod Works
+pub mod Making

@@ -1,17 +1,26 @@
-//! The runner: what a topology does under events, over given data and with boxed shells, and what is read
-//! of it.
+//! The runner: what a topology does under events, over given data and with boxed shells, what is read of it,
+//! and schedules over it: one that is given, applied in order, and one that is made of a seed.
 #![tactic(auto)]
 
+mod applying;
 mod closing;
 mod fault;
 mod forgetting;
+mod lanes;
+mod limits;
+mod looking;
+mod making;
 mod net;
 mod opening;
 mod reading;
 mod remaining;
 mod seating;
+mod stale;
+mod works;
 
-pub use fault::ForgetFault;
+pub use applying::{EventRefusal, apply};
+pub use fault::{ForgetFault, MakeFault};
+pub use making::make;
 pub use net::Net;
 pub use sched_bench::OpenFault;
 pub use sched_lists::EventFault;

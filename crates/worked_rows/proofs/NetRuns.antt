@@ -2,9 +2,9 @@
 use Rattle.std.proofs.Common.{◌++◌, OnOk, List, [], Option, Result, Ok, Err}
 use Rattle.bloom_ast.specs.declared.program.Program.{Program}
 use Rattle.bloom_ast.specs.Step.{Sets}
-use Rattle.sched_make.specs.Applying.{Line, steps_of, AppliesLines}
+use Rattle.sched_run.specs.Applying.{Line, steps_of, AppliesLines}
 use Rattle.sched_hear.specs.Net.{Stands, BooksRun}
-use Rattle.sched_make.specs.declared.applying.EventRefusal.{EventRefusal}
+use Rattle.sched_run.specs.declared.applying.EventRefusal.{EventRefusal}
 use Rattle.sched_hear.specs.declared.books.Books.{Books}
 use Rattle.topo_types.specs.Data.{Data}
 use Rattle.topo_types.specs.View.{View}

@@ -24,7 +24,9 @@
 #![tactic(auto)]
 
 mod benches;
+mod modules;
 mod question;
+mod shells;
 mod shown;
 
 use crate::question::{Question, bytes_of};

@@ -3,12 +3,14 @@ ghost use Rattle.std.specs.Prelude.{◌≤◌, IfOk, vec_len};
 ghost use Rattle.topo_types.specs.Data.{IsData};
 
 use crate::benches::usual_bench;
+use crate::modules::module_shown;
+use crate::shells::shells_shown;
 use anyhow::{Result, bail, ensure};
 use blz_outside::{End, Files, MemFiles};
 use command_checks::valid_topology;
 use coord_synth::{order_plan, seal_plan};
 use data_read::Data;
-use sched_make::apply;
+use sched_run::apply;
 use sched_run::Net;
 use sched_text::{Event, Schedule, ScheduleFault, print, read_line};
 use std::alloc::Global;
@@ -25,6 +27,8 @@ const FILE_LIMIT: usize = 16_777_216;
 /// - `sequencers FILE`: its plan by sequencers alone.
 /// - `printed FILE`: a schedule, as it is printed.
 /// - `event FILE`: the event of a line that stands alone, as it is printed.
+/// - `shells FILE`: what two shells put out and keep, one of them with the module of the file.
+/// - a further word and FILE: what [`module_shown`] shows of the text of a module.
 /// - `placed TOPOLOGY DATA SCHEDULE`: how many records the net keeps after the schedule.
 pub(crate) fn shown(alloc: Global, words: &[String], files: &mut MemFiles) -> Result<Vec<u8>> {
     match words {
@@ -65,7 +69,8 @@ fn file_shown(alloc: Global, kind: &str, name: &str, files: &mut MemFiles) -> Re
         "sequencers" => order_text(alloc, &valid_of(alloc, name, files)?),
         "printed" => printed(alloc, &bytes_in(alloc, name, files)?),
         "event" => event_shown(alloc, &bytes_in(alloc, name, files)?),
-        _ => bail!("nothing is shown as {kind}"),
+        "shells" => shells_shown(alloc, &bytes_in(alloc, name, files)?),
+        _ => module_shown(alloc, kind, &bytes_in(alloc, name, files)?),
     }
 }
 

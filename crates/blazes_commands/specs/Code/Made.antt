@@ -1,9 +1,9 @@
 -- What the functions of `make` return.
 use Rattle.std.specs.Prelude.{◌≡◌, List, Result, Ok, Err}
 use Rattle.topo_types.specs.View.{View}
-use Rattle.sched_make.specs.Applying.{Line}
+use Rattle.sched_run.specs.Applying.{Line}
 use Rattle.sched_hear.specs.declared.books.Books.{Books}
-use Rattle.sched_make.specs.declared.fault.MakeFault.{MakeFault}
+use Rattle.sched_run.specs.declared.fault.MakeFault.{MakeFault}
 use Rattle.sched_text.specs.Reading.{ReadsAs, event_reading}
 use Rattle.sched_text.specs.Text.{schedule_text}
 use Rattle.blazes_commands.specs.Checks.{make_refusal}

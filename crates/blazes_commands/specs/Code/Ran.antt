@@ -3,6 +3,7 @@ use Rattle.std.specs.Prelude.{Result, Ok, Err}
 use Rattle.blazes_commands.specs.Bench.{BenchStates}
 use Rattle.command_files.specs.Script.{Script}
 use Rattle.command_files.specs.Ends.{FilesStates}
+use Rattle.command_files.specs.Ran.{Stopped, answer_of}
 use Rattle.blazes_commands.specs.Commands.{Work, script}
 use Rattle.blazes_words.specs.Words.{Asked}
 use Rattle.blazes_commands.specs.Answer.{IsAnswered}

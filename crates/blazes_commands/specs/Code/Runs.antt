@@ -6,7 +6,7 @@ use Rattle.inbox.specs.Events.{Step}
 use Rattle.sched_hear.specs.Net.{BooksStand, execution_in}
 use Rattle.sched_hear.specs.declared.books.Books.{Books}
 use Rattle.blazes_commands.specs.Bench.{BenchStates, HasSameKinds}
-use Rattle.sched_make.specs.declared.applying.EventRefusal.{EventRefusal}
+use Rattle.sched_run.specs.declared.applying.EventRefusal.{EventRefusal}
 use Rattle.blz_boxes.specs.declared.kind.ProgramKind.{ProgramKind}
 use Rattle.blazes_commands.specs.Checks as check
 use Rattle.blazes_commands.specs.Checks.{event_refusal}

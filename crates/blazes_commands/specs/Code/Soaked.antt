@@ -3,10 +3,10 @@ use Rattle.std.specs.Prelude.{ℕ, List, Result}
 use Rattle.topo_types.specs.Data.{Data}
 use Rattle.topo_types.specs.View.{View}
 use Rattle.inbox.specs.Events.{Step}
-use Rattle.sched_make.specs.Applying.{Line}
+use Rattle.sched_run.specs.Applying.{Line}
 use Rattle.sched_hear.specs.Net.{BooksStand, execution_in}
 use Rattle.sched_hear.specs.declared.books.Books.{Books}
-use Rattle.sched_make.specs.declared.fault.MakeFault.{MakeFault}
+use Rattle.sched_run.specs.declared.fault.MakeFault.{MakeFault}
 use Rattle.command_files.specs.Reply.{Answer}
 use Rattle.blazes_commands.specs.Commands.{HasSummary}
 use Rattle.blazes_commands.specs.Code.Made.{IsMade}

@@ -1,5 +1,5 @@
 use Rattle.std.proofs.Common.{List, subst}
-use Rattle.sched_make.specs.Applying.{Line}
+use Rattle.sched_run.specs.Applying.{Line}
 use Rattle.sched_text.specs.Reading.{ReadsAs, event_reading}
 use Rattle.blazes_commands.proofs.MakeLemmas.{numbered_alike}
 use Rattle.blazes_commands.proofs.making.printed.Goals as goal

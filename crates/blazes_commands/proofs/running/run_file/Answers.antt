@@ -1,7 +1,7 @@
 -- A schedule stops the run, or its lines are run.
 use Rattle.std.proofs.Common.{List, map, subst}
 use Rattle.std.proofs.lemmas.List.Sorted.{IsPermutation-refl}
-use Rattle.sched_make.specs.Applying.{Line}
+use Rattle.sched_run.specs.Applying.{Line}
 use Rattle.blazes_words.specs.Words.{RunFiles}
 use Rattle.blazes_commands.specs.Bench.{bench_states}
 use Rattle.blazes_commands.specs.Code.Runs.{RepliesAtOnce}

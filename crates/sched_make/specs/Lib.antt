@@ -1,4 +1,0 @@
-pub mod Applying
-pub mod Made
-pub mod Making
-pub mod Code

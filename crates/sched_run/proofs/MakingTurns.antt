@@ -1,0 +1,228 @@
+-- A turn makes the chosen events, and what ends the turns is the answer to the seed.
+use Rattle.std.proofs.Common.{◌≡◌, ◌∙◌, ◌+◌, ◌<◌, ◌≤◌, ◌%◌, ◌++◌, ℕ, suc, List, [], ◌∷◌, Option, Some, Result, Ok, Err, IsErrAnd, length, sum, slice_get, refl, sym, subst, ap, arith}
+use Rattle.std.proofs.lemmas.List.{length-append}
+use Rattle.std.proofs.lemmas.Option.{get_or_from_slice_get}
+use Rattle.bloom_ast.specs.declared.program.Program.{Program}
+use Rattle.bloom_ast.specs.Step.{Sets}
+use Rattle.topo_types.specs.Data.{Data}
+use Rattle.topo_types.specs.View.{View}
+use Rattle.inbox.specs.Completeness.{left_count}
+use Rattle.inbox.specs.Events.{Event, Step}
+use Rattle.inbox.specs.Executions.{Execution}
+use Rattle.inbox.specs.Growth.{Continues}
+use Rattle.inbox.specs.Wiring.{Wiring, wiring_of}
+use Rattle.inbox.proofs.Lists.Growing.{continues_with}
+use Rattle.sched_turns.specs.Draws.{next_state, drawn_number}
+use Rattle.sched_run.specs.Applying.{Line, steps_of}
+use Rattle.sched_lists.specs.Limits.{Limit, too_many_rows, too_many_messages, limit_of_event}
+use Rattle.sched_run.specs.Made.{Course, after_turns, chosen_events, execution_after, fault_by, made_of, made_within, open_works, turn, turn_among, AnswersSo}
+use Rattle.sched_run.specs.Making.{events_of}
+use Rattle.sched_hear.specs.Net.{BooksStand, execution_in}
+use Rattle.sched_run.specs.Code.Making.{AppliedSo, AppliesEvents, AreLines, MeetNone, HasRun, HasTurned, IsReady, FailsAt, FailsIn, TurnedSo, Turns}
+use Rattle.sched_run.specs.Code.Works.{AreShown, AreWorksOf, IsOpenWork, work_event}
+use Rattle.sched_hear.specs.declared.books.Books.{Books}
+use Rattle.sched_run.specs.declared.fault.MakeFault.{MakeFault}
+use Rattle.sched_run.specs.declared.fault.MakeFault.TheVariants.{TooManyEvents, TooManyRows, TooManyMessages, NoMemory}
+use Rattle.sched_run.specs.declared.limits.TheConstants.{MAX_EVENTS}
+use Rattle.sched_run.specs.declared.making.Making.{Making}
+use Rattle.sched_run.specs.declared.works.Work.{Work}
+use Rattle.sched_run.specs.declared.works.Works.{Works}
+use Rattle.sched_run.proofs.MakingApplies.{handed_fault}
+use Rattle.sched_run.proofs.MakingLines.{few_lines}
+use Rattle.sched_run.proofs.MakingRuns.{after_is, events_run, length_events}
+use Rattle.sched_run.proofs.FrontsLemmas.{front_length}
+use Rattle.sched_run.proofs.TurnsLemmas.{chosen_first, limit_on_front, made_ends, made_overflows, made_stops}
+use Rattle.sched_run.proofs.WorksLemmas.{total_is}
+
+-- ---- the chosen event
+
+-- a turn among works, of which the draw chooses this
+pub among_chosen : (course : Course) (works : List Event) (e : Event) → slice_get works (drawn_number (next_state course.state) % length works) ≡ Some e
+    → turn_among course works ≡ record { state = next_state course.state; events = course.events ++ chosen_events (drawn_number (next_state course.state)) e }
+among_chosen course [] e chosen = cc
+among_chosen course (first ∷ works) e chosen =
+    let number : ℕ = drawn_number (next_state course.state) in
+    ap (λ (d : Event). record { state = next_state course.state; events = course.events ++ chosen_events number d })
+    (get_or_from_slice_get (first ∷ works) (number % length (first ∷ works)) e first chosen)
+
+-- one event at least
+pub some_more : (number : ℕ) (e : Event) → 1 ≤ length (chosen_events number e)
+some_more number e = front_length (e ∷ []) (chosen_events number e) (chosen_first number e)
+
+-- so there are more lines
+pub longer_lines : (v : View) (old new : List Line) (number : ℕ) (e : Event) → events_of v new ≡ events_of v old ++ chosen_events number e → length old < length new
+longer_lines v old new number e are =
+    let before : length (events_of v old) ≡ length old = length_events v old in
+    let after : length (events_of v new) ≡ length new = length_events v new in
+    let all : length (events_of v new) ≡ length (events_of v old ++ chosen_events number e) = ap (λ (l : List Event). length l) are in
+    let longer : length (events_of v old ++ chosen_events number e) ≡ length (events_of v old) + length (chosen_events number e) = length-append (events_of v old) (chosen_events number e) in
+    let some : 1 ≤ length (chosen_events number e) = some_more number e in
+    omega (arith, before, after, all, longer, some)
+
+module _ (v : View) (given : Data) (seed : ℕ) (loaded : List (Option Program)) (tables : List Sets) (b : Books) (m : Making) (turned : HasTurned v given seed loaded tables b m) where
+  abbrev w : Wiring
+  w = wiring_of v
+
+  abbrev x : Execution
+  x = execution_in turned.run.stands.books
+
+  abbrev events : List Event
+  events = events_of v m.lines.items
+
+  after : execution_after w given events ≡ x
+  after = after_is v given loaded tables b m.lines.items turned.run.stands
+
+  -- one turn more, of whose draw this event is chosen
+  module _ (e : Event) (chosen : slice_get (open_works w given x) (drawn_number (next_state m.draws) % length (open_works w given x)) ≡ Some e) where
+    abbrev drawn : ℕ
+    drawn = drawn_number (next_state m.draws)
+
+    pub turns_more : after_turns w given seed (suc turned.turns) ≡ record { state = next_state m.draws; events = events ++ chosen_events drawn e }
+    turns_more =
+        ap (turn w given) turned.course
+        ∙ ap (λ (y : Execution). turn_among (record { state = m.draws; events = events }) (open_works w given y)) after
+        ∙ among_chosen (record { state = m.draws; events = events }) (open_works w given x) e chosen
+
+    -- so it has turned once more
+    pub turned_more : (next : List Sets) (new : Books) (n : Making) → HasRun v given loaded next new n.lines.items → n.draws ≡ next_state m.draws → events_of v n.lines.items ≡ events ++ chosen_events drawn e
+        → HasTurned v given seed loaded next new n
+    turned_more next new n run on are = record {
+      run = run;
+      turns = suc turned.turns;
+      course = turns_more
+          ∙ ap (λ s. record { state = s; events = events ++ chosen_events drawn e }) (sym on)
+          ∙ ap (λ (l : List Event). record { state = n.draws; events = l }) (sym are);
+      few =
+          let longer : length (events ++ chosen_events drawn e) ≡ length events + length (chosen_events drawn e) = length-append events (chosen_events drawn e) in
+          let some : 1 ≤ length (chosen_events drawn e) = some_more drawn e in
+          let old : length events ≡ length m.lines.items = length_events v m.lines.items in
+          let new : length (events_of v n.lines.items) ≡ length n.lines.items = length_events v n.lines.items in
+          let all : length (events_of v n.lines.items) ≡ length (events ++ chosen_events drawn e) = ap (λ (l : List Event). length l) are in
+          let few : turned.turns ≤ length m.lines.items = turned.few in
+          omega (arith, longer, some, old, new, all, few);
+    }
+
+-- ---- what is answered
+
+made_is : (w : Wiring) (given : Data) (seed : ℕ) → made_of w given seed ≡ made_within w given seed MAX_EVENTS
+unfolding made_of
+made_is w given seed = refl
+
+module _ (w : Wiring) (given : Data) (seed turns most : ℕ) (few : turns ≤ suc most) (events : List Event) (are : (after_turns w given seed turns).events ≡ events) (before : List Event) (due : Event) (begins : Continues (before ++ due ∷ []) events) (unmet : MeetNone w given before) where
+  -- the next event would be one too many
+  overflows : length before ≡ most → made_within w given seed most ≡ Err TooManyEvents
+  overflows is =
+      let long : length (before ++ due ∷ []) ≡ length before + 1 = length-append before (due ∷ []) in
+      let front : Continues (before ++ due ∷ []) (after_turns w given seed turns).events = subst (Continues (before ++ due ∷ [])) (sym are) begins in
+      let longer : length (before ++ due ∷ []) ≤ length (after_turns w given seed turns).events = front_length (before ++ due ∷ []) (after_turns w given seed turns).events front in
+      made_overflows w given seed most turns few (omega arith)
+      (λ place low. limit_on_front w given (before ++ due ∷ []) (after_turns w given seed turns).events place front (omega arith)
+      ∙ limit_on_front w given before (before ++ due ∷ []) place (continues_with before (due ∷ [])) (omega arith)
+      ∙ unmet place (omega arith))
+
+  -- or it meets a limit
+  meets_one : (limit : Limit) → length before < most → limit_of_event w given due (execution_after w given before) ≡ Some limit → made_within w given seed most ≡ Err (fault_by (suc (length before)) limit)
+  meets_one limit low met = made_stops w given seed most turns before due limit (subst (Continues (before ++ due ∷ [])) (sym are) begins) few low unmet met
+
+-- an event of the turns that isn't done is the answer to the seed
+module _ (w : Wiring) (given : Data) (seed turns : ℕ) (few : turns ≤ MAX_EVENTS) (events : List Event) (are : (after_turns w given seed (suc turns)).events ≡ events) where
+  one_more : (a most : ℕ) → a ≤ most → suc a ≤ suc most
+  one_more a most low = omega arith
+
+  fails_at : (fault : MakeFault) (fails : FailsIn w given events fault) → FailsAt w given fails.before fails.due fault → AnswersSo w given (made_of w given seed) (Err fault)
+  fails_at NoMemory fails at = tt
+  fails_at TooManyEvents fails at = made_is w given seed ∙ overflows w given seed (suc turns) MAX_EVENTS (one_more turns MAX_EVENTS few) events are fails.before fails.due fails.begins fails.unmet at
+  fails_at (TooManyRows number) fails at =
+      made_is w given seed
+      ∙ meets_one w given seed (suc turns) MAX_EVENTS (one_more turns MAX_EVENTS few) events are fails.before fails.due fails.begins fails.unmet too_many_rows at.1.few at.1.meets
+      ∙ ap (λ n. Err (TooManyRows n)) (sym at.0)
+  fails_at (TooManyMessages number) fails at =
+      made_is w given seed
+      ∙ meets_one w given seed (suc turns) MAX_EVENTS (one_more turns MAX_EVENTS few) events are fails.before fails.due fails.begins fails.unmet too_many_messages at.1.few at.1.meets
+      ∙ ap (λ n. Err (TooManyMessages n)) (sym at.0)
+
+  pub fails_so : (fault : MakeFault) → FailsIn w given events fault → AnswersSo w given (made_of w given seed) (Err fault)
+  fails_so fault fails = fails_at fault fails fails.fails
+
+-- where nothing is open the lines are answered, and nothing is left
+pub ends_so : (v : View) (given : Data) (seed : ℕ) (loaded : List (Option Program)) (tables : List Sets) (b : Books) (m : Making) (turned : HasTurned v given seed loaded tables b m)
+    → length m.lines.items ≤ MAX_EVENTS → open_works (wiring_of v) given (execution_in turned.run.stands.books) ≡ [] → left_count (wiring_of v) given (execution_in turned.run.stands.books) ≡ 0
+    → AnswersSo (wiring_of v) given (made_of (wiring_of v) given seed) (Ok (events_of v m.lines.items))
+ends_so v given seed loaded tables b m turned few none left =
+    let w : Wiring = wiring_of v in
+    let events : List Event = events_of v m.lines.items in
+    let long : length events ≡ length m.lines.items = length_events v m.lines.items in
+    let turns : turned.turns ≤ length m.lines.items = turned.few in
+    let after : execution_after w given events ≡ execution_in turned.run.stands.books = after_is v given loaded tables b m.lines.items turned.run.stands in (
+      made_is w given seed
+          ∙ made_ends w given seed MAX_EVENTS turned.turns events (sym (ap (λ (c : Course). c.events) turned.course)) (few_turns turned.turns (length m.lines.items) MAX_EVENTS turns few)
+          (ap (open_works w given) after ∙ none) (few_events (length events) (length m.lines.items) MAX_EVENTS long few) turned.run.unmet,
+      record {
+        legal = events_run v given loaded tables b m.lines.items turned.run.stands ∙ ap (λ (y : Execution). Ok y) (sym after);
+        left = ap (left_count w given) after ∙ left;
+      },
+    )
+  where
+    few_turns : (a b most : ℕ) → a ≤ b → b ≤ most → a ≤ suc most
+    few_turns a b most low high = omega arith
+
+    few_events : (a b most : ℕ) → a ≡ b → b ≤ most → a ≤ most
+    few_events a b most is high = omega arith
+
+-- ---- what a turn says of whatever data and seed
+
+-- of whatever data and steps the books stand for, the next draw chooses this event
+abbrev pub Chooses : View → Books → (draws : ℕ) → Event → Type 0
+Chooses v b draws e = (given : Data) (steps : List Step) (stand : BooksStand v given steps b) → slice_get (open_works (wiring_of v) given (execution_in stand)) (drawn_number (next_state draws) % length (open_works (wiring_of v) given (execution_in stand))) ≡ Some e
+
+-- so it does where the work with its number among all works is that of the event
+pub chosen_is : (v : View) (b : Books) (k : Works) (index number total draws now : ℕ) (work : Work) → AreWorksOf v k → AreShown v b k → IsOpenWork v b index work
+    → index ≡ number % total → total ≡ sum k.sizes → number ≡ drawn_number now → now ≡ next_state draws → Chooses v b draws (work_event work)
+chosen_is v b k index number total draws now work works shown is at all drawn next given steps stand =
+    let many : total ≡ length (open_works (wiring_of v) given (execution_in stand)) = all ∙ total_is v given steps b stand k works (shown given steps stand) in
+    let same : index ≡ drawn_number (next_state draws) % length (open_works (wiring_of v) given (execution_in stand)) =
+    at ∙ ap (λ n. n % total) (drawn ∙ ap drawn_number next) ∙ ap (λ n. drawn_number (next_state draws) % n) many in
+    subst (λ n. slice_get (open_works (wiring_of v) given (execution_in stand)) n ≡ Some (work_event work)) same (is given steps stand)
+
+module _ (v : View) (loaded : List (Option Program)) (tables next : List Sets) (old new : Books) (before after : Making) (lines : List Line) (number now : ℕ) (e : Event) (chosen : Chooses v old before.draws e) (drawn : number ≡ drawn_number now) (state : now ≡ next_state before.draws)
+    (called : Result (Unit {0}) MakeFault) (applies : AppliesEvents v loaded tables next old new before.lines.items lines (chosen_events number e) called) where
+  number_is : chosen_events number e ≡ chosen_events (drawn_number (next_state before.draws)) e
+  number_is = ap (λ n. chosen_events n e) (drawn ∙ ap drawn_number state)
+
+  -- the turn is made
+  pub turn_made : (x : Unit {0}) → called ≡ Ok x → after.lines.items ≡ lines → after.draws ≡ now → events_of v lines ≡ events_of v before.lines.items ++ chosen_events number e
+      → Turns v loaded tables next old new before after (Ok tt)
+  turn_made x is same drawn_on are given seed turned =
+      turned_more v given seed loaded tables old before turned e (chosen given (steps_of v before.lines.items) turned.run.stands.books) next new after
+      (subst (HasRun v given loaded next new) (sym same) (subst (λ q. AppliedSo v given loaded next new before.lines.items lines (chosen_events number e) q) is (applies given turned.run)))
+      (drawn_on ∙ state)
+      (ap (events_of v) same ∙ are ∙ ap (λ (l : List Event). events_of v before.lines.items ++ l) number_is)
+
+  failed : (given : Data) (r : Result (Unit {0}) MakeFault) → AppliedSo v given loaded next new before.lines.items lines (chosen_events number e) r → (fault : MakeFault) → r ≡ Err fault → FailsIn (wiring_of v) given (events_of v before.lines.items ++ chosen_events number e) fault
+  failed given (Ok x) so fault is = cc
+  failed given (Err d) so fault is = let same : d ≡ fault = cc in subst (λ f. FailsIn (wiring_of v) given (events_of v before.lines.items ++ chosen_events number e) f) same so
+
+  -- or an event isn't done
+  pub turn_fails : (late : Making) (last : List Sets) (newest : Books) (r : Result (Unit {0}) MakeFault) (fault : MakeFault) → AreLines before.lines.items → called ≡ Err fault → IsErrAnd r (λ d. d ≡ fault) → Turns v loaded tables last old newest before late r
+  turn_fails late last newest r fault lined is handed given seed turned =
+      let events : List Event = events_of v before.lines.items ++ chosen_events number e in
+      let are : (after_turns (wiring_of v) given seed (suc turned.turns)).events ≡ events =
+      ap (λ (c : Course). c.events) (turns_more v given seed loaded tables old before turned e (chosen given (steps_of v before.lines.items) turned.run.stands.books))
+      ∙ ap (λ (l : List Event). events_of v before.lines.items ++ l) (sym number_is) in
+      handed_fault (λ q. TurnedSo v given seed loaded last newest late q) r fault handed
+      (fails_so (wiring_of v) given seed turned.turns (few_turns turned.turns (length before.lines.items) MAX_EVENTS turned.few (few_lines before.lines.items lined)) events are fault
+      (failed given called (applies given turned.run) fault is))
+    where
+      few_turns : (a b most : ℕ) → a ≤ b → b ≤ most → a ≤ most
+      few_turns a b most low high = omega arith
+
+-- ---- what is shown, by an equal topology
+
+pub ready_on : (v also : View) → also ≡ v → (b : Books) (m : Making) → AreWorksOf also m.works → AreShown also b m.works → AreLines m.lines.items → IsReady v b m
+ready_on v also same b m works shown lines = subst (λ (u : View). IsReady u b m) same (record { works = works; shown = shown; lines = lines })
+
+pub ready_at : (v also : View) → also ≡ v → (b : Books) (m : Making) → IsReady v b m → IsReady also b m
+ready_at v also same b m = subst (λ (u : View). IsReady u b m) (sym same)
+
+pub ready_back : (v also : View) → also ≡ v → (b : Books) (m : Making) → IsReady also b m → IsReady v b m
+ready_back v also same b m = subst (λ (u : View). IsReady u b m) same

@@ -1,0 +1,55 @@
+use Rattle.std.proofs.Common.{◌∙◌, ◌++◌, ap, map, refl, take}
+use Rattle.sched_run.specs.Applying.{steps_of}
+use Rattle.sched_hear.specs.Net.{execution_in}
+use Rattle.sched_run.proofs.ApplyingLemmas.{none_applied, runs_on, all_applied, line_applied, line_stops}
+use Rattle.sched_run.proofs.applying.apply.Goals as goal
+
+pub event-requires : goal.event-requires
+event-requires g c =
+    let v = c.args.net.now.valid.now.view in
+    let run = c.requires.runs in
+    let reaches = c.loop-line.invariant.reaches run.given run.steps run.stands in
+    record {
+      runs = runs_on v c.loop-line.net.valid.now.view run.given (run.steps ++ steps_of v (take c.loop-line.line-index c.args.lines.now))
+          (map (λ b. (goal.Component-dyn g (b.vtable, b.value)).loaded b.value) c.args.net.now.shells.items) (map (λ b. (goal.Component-dyn g (b.vtable, b.value)).loaded b.value) c.loop-line.net.shells.items)
+          (map (λ b. (goal.Component-dyn g (b.vtable, b.value)).kept b.value) c.loop-line.net.shells.items) c.loop-line.net.books
+          (ap (λ valid. valid.now.view) c.loop-line.invariant.valid) c.loop-line.invariant.loaded reaches.stands;
+    }
+
+pub loop-line-init : goal.loop-line-init
+loop-line-init g c = record {
+  reaches = λ given steps stands. none_applied c.args.net.now.valid.now.view given steps
+      (map (λ b. (goal.Component-dyn g (b.vtable, b.value)).loaded b.value) c.args.net.now.shells.items) (map (λ b. (goal.Component-dyn g (b.vtable, b.value)).kept b.value) c.args.net.now.shells.items)
+      c.args.net.now.books stands;
+  valid = refl;
+  kinds = refl;
+  loaded = refl;
+}
+
+pub loop-line-preserved : goal.loop-line-preserved
+loop-line-preserved g c = record {
+  reaches = λ given steps stands. line_applied c.args.net.now.valid.now.view c.loop-line.net.valid.now.view
+      (map (λ b. (goal.Component-dyn g (b.vtable, b.value)).loaded b.value) c.args.net.now.shells.items) (map (λ b. (goal.Component-dyn g (b.vtable, b.value)).loaded b.value) c.loop-line.net.shells.items)
+      (map (λ b. (goal.Component-dyn g (b.vtable, b.value)).kept b.value) c.loop-line.net.shells.items) (map (λ b. (goal.Component-dyn g (b.vtable, b.value)).kept b.value) c.event.new.self.shells.items)
+      c.loop-line.net.books c.event.new.self.books c.args.lines.now c.loop-line.line-index c.loop-line-item.result c.event.result
+      (ap (λ valid. valid.now.view) c.loop-line.invariant.valid) c.loop-line.invariant.loaded c.loop-line-test.true c.loop-line-item.is
+      c.event.ensures.answer c.event.ensures.leaves given steps (execution_in stands.books) (c.loop-line.invariant.reaches given steps stands) c.in_default.is;
+  valid = c.event.ensures.valid ∙ c.loop-line.invariant.valid;
+  kinds = c.event.ensures.kinds ∙ c.loop-line.invariant.kinds;
+  loaded = c.event.ensures.loaded ∙ c.loop-line.invariant.loaded;
+}
+
+pub returns-in-Err-clause-applies : goal.returns-in-Err-clause-applies
+returns-in-Err-clause-applies g c given steps stands =
+    line_stops c.args.net.now.valid.now.view c.loop-line.net.valid.now.view
+    (map (λ b. (goal.Component-dyn g (b.vtable, b.value)).loaded b.value) c.args.net.now.shells.items) (map (λ b. (goal.Component-dyn g (b.vtable, b.value)).loaded b.value) c.loop-line.net.shells.items)
+    (map (λ b. (goal.Component-dyn g (b.vtable, b.value)).kept b.value) c.loop-line.net.shells.items) (map (λ b. (goal.Component-dyn g (b.vtable, b.value)).kept b.value) c.event.new.self.shells.items)
+    c.loop-line.net.books c.event.new.self.books c.args.lines.now c.loop-line.line-index c.loop-line-item.result c.event.result
+    (ap (λ valid. valid.now.view) c.loop-line.invariant.valid) c.loop-line.invariant.loaded c.loop-line-test.true c.loop-line-item.is
+    c.event.ensures.answer c.event.ensures.leaves given steps (execution_in stands.books) (c.loop-line.invariant.reaches given steps stands) c.in-Err.fault c.in-Err.is
+
+pub returns-clause-applies : goal.returns-clause-applies
+returns-clause-applies g c given steps stands =
+    all_applied c.args.net.now.valid.now.view given steps
+    (map (λ b. (goal.Component-dyn g (b.vtable, b.value)).loaded b.value) c.args.net.now.shells.items) (map (λ b. (goal.Component-dyn g (b.vtable, b.value)).kept b.value) c.loop-line.net.shells.items)
+    c.loop-line.net.books c.args.lines.now c.loop-line.line-index (execution_in stands.books) c.loop-line-test.false (c.loop-line.invariant.reaches given steps stands)

@@ -1,0 +1,45 @@
+-- What is made of a net that made no step yet, from a seed.
+use Rattle.std.specs.Prelude.{◌≡◌, ℕ, true, Option, Result, Ok, Err, List, [], map, length}
+use Rattle.std.specs.List.{range_with_len}
+use Rattle.bloom_ast.specs.declared.program.Program.{Program}
+use Rattle.bloom_ast.specs.Step.{Sets}
+use Rattle.topo_types.specs.Data.{Data}
+use Rattle.topo_types.specs.View.{View}
+use Rattle.inbox.specs.Events.{Event}
+use Rattle.inbox.specs.Wiring.{wiring_of}
+use Rattle.sched_run.specs.Applying.{Line, steps_of}
+use Rattle.sched_run.specs.Made.{made_of, AnswersSo}
+use Rattle.sched_hear.specs.Net.{Stands}
+use Rattle.sched_hear.specs.Numbered.{numbered}
+use Rattle.sched_hear.specs.declared.books.Books.{Books}
+use Rattle.sched_run.specs.declared.fault.MakeFault.{MakeFault}
+
+-- the net stands for no step: no event was applied to it, and nothing was forgotten
+pub record RunsFirst (v : View) (loaded : List (Option Program)) (tables : List Sets) (b : Books) : Type 0 where
+  pub given : Data
+  pub stands : Stands v given [] loaded tables b
+
+-- the events of lines, by numbers
+abbrev pub events_of : View → List Line → List Event
+events_of v lines = map (λ line. numbered v line.1) lines
+
+-- those of a schedule that is answered
+abbrev pub events_in : View → Result (List Line) MakeFault → Result (List Event) MakeFault
+events_in v (Ok lines) = Ok (events_of v lines)
+events_in v (Err fault) = Err fault
+
+-- the schedule, or why there is none, is that of whatever data the net stood for
+abbrev pub AnswersMade : View → (loaded : List (Option Program)) → (tables : List Sets) → (old : Books) → (seed : ℕ) → Result (List Line) MakeFault → Type 0
+AnswersMade v loaded tables old seed result = (given : Data) → Stands v given [] loaded tables old → AnswersSo (wiring_of v) given (made_of (wiring_of v) given seed) (events_in v result)
+
+-- the net stands for the events of the schedule, and a fault ends it
+abbrev pub HasMade : View → Data → (loaded : List (Option Program)) → (tables : List Sets) → (new : Books) → Result (List Line) MakeFault → Type 0
+HasMade v given loaded tables new (Ok lines) = Stands v given (steps_of v lines) loaded tables new
+HasMade v given loaded tables new (Err fault) = new.ended ≡ true
+
+abbrev pub LeavesMade : View → (loaded : List (Option Program)) → (tables next : List Sets) → (old new : Books) → Result (List Line) MakeFault → Type 0
+LeavesMade v loaded tables next old new result = (given : Data) → Stands v given [] loaded tables old → HasMade v given loaded next new result
+
+-- the lines are numbered from 1
+abbrev pub CountFromOne : List Line → Type 0
+CountFromOne lines = map (λ line. line.0) lines ≡ range_with_len 1 (length lines)

@@ -1,0 +1,227 @@
+//! Schedules from a seed: turn by turn a draw chooses among the open works, until none is open.
+//!
+//! The works of a lane are shown by a window, which looks again after each turn, but only at what the
+//! turn may have made stale and at what is new; a tree of the windows' sizes finds a work by its number.
+ghost use Rattle.std.specs.Prelude.{◌≡◌, ◌<◌, ◌++◌, ◌∷◌, [], ℕ, true, map, IfOk, OnOk, length, sum};
+ghost use Rattle.sched_text.specs.Text.{IsPrintable, is_printable};
+ghost use Rattle.sched_run.specs.Made.{says_again, chosen_events};
+ghost use Rattle.sched_run.specs.Making.{RunsFirst, AnswersMade, LeavesMade, CountFromOne, events_of};
+ghost use Rattle.sched_hear.specs.Net.{BooksRun};
+ghost use Rattle.sched_hear.specs.Numbered.{numbered};
+ghost use Rattle.sched_run.specs.Code.Making.{EndsNet, fault_with, AreLines, Goes, GoesOn, IsDue, AppliesEvents, IsReady, Turns, StandsMade};
+ghost use Rattle.sched_run.specs.Code.Works.{AreWorksOf, AreShown, HasNames, IsOpenWork, MayLookAt, work_event};
+
+use crate::fault::MakeFault;
+use crate::limits::MAX_EVENTS;
+use crate::net::Net;
+use crate::works::{Work, Works};
+use sched_lists::EventFault;
+use sched_text::{Event, Schedule};
+use sched_turns::Draws;
+use std::alloc::AllocError;
+
+// A schedule that is being made: what is open, the draws, and the events so far.
+#[derive(Drop)]
+struct Making {
+    works: Works,
+    draws: Draws,
+    lines: Vec<(u32, Event)>,
+}
+
+// The fault of the event with a number; an open work is never refused.
+fn fault_at(fault: EventFault, event: u32) -> MakeFault
+    requires { EndsNet fault }
+    ensures { result ≡ fault_with fault event }
+{
+    match fault {
+        EventFault::TooManyRows => MakeFault::TooManyRows { event },
+        EventFault::TooManyMessages => MakeFault::TooManyMessages { event },
+        EventFault::NoMemory => MakeFault::NoMemory,
+        EventFault::NoInstance | EventFault::NoMessage | EventFault::NothingToTake => {
+            unreachable!()
+        }
+    }
+}
+
+// Whether a number says that an event comes once more.
+fn says_again(number: u64) -> bool
+    ensures { result ≡ says_again number }
+{
+    (number / 65_536) % 8 == 0
+}
+
+// The event by which a work of a net is done, with names. The error is want of memory.
+fn event_of(net: &Net<'_>, work: &Work) -> Result<Event, AllocError>
+    requires { HasNames net.now.valid.now.view work.now }
+    ensures event { IfOk result (λ event. numbered net.now.valid.now.view event ≡ work_event work.now) }
+    ensures printable { IfOk result (λ event. is_printable event ≡ true) }
+{
+    work.event(net.valid())
+}
+
+// Applies the event of a work, which is one line more.
+fn apply(net: &mut Net<'_>, lines: &mut Vec<(u32, Event)>, work: &Work) -> Result<(), MakeFault>
+    requires legal { GoesOn net.old.valid.now.view (map (λ b. loaded b) net.old.shells.items) (map (λ b. kept b) net.old.shells.items) net.old.books lines.old.items (work_event work.now) }
+    requires names { HasNames net.old.valid.now.view work.now }
+    requires lines { AreLines lines.old.items }
+    ensures applies { AppliesEvents net.old.valid.now.view (map (λ b. loaded b) net.old.shells.items) (map (λ b. kept b) net.old.shells.items) (map (λ b. kept b) net.new.shells.items) net.old.books net.new.books lines.old.items lines.new.items (work_event work.now ∷ []) result }
+    ensures lines { OnOk result (AreLines lines.new.items) }
+    ensures events { OnOk result (events_of net.old.valid.now.view lines.new.items ≡ events_of net.old.valid.now.view lines.old.items ++ work_event work.now ∷ []) }
+    ensures valid { net.new.valid ≡ net.old.valid }
+    ensures kinds { map (λ b. kind b) net.new.shells.items ≡ map (λ b. kind b) net.old.shells.items }
+    ensures loaded { map (λ b. loaded b) net.new.shells.items ≡ map (λ b. loaded b) net.old.shells.items }
+{
+    if lines.len() >= MAX_EVENTS {
+        return Err(MakeFault::TooManyEvents);
+    }
+    let number = lines.len() as u32 + 1;
+    let event = event_of(net, work)?;
+    if let Err(fault) = net.event(&event) {
+        return Err(fault_at(fault, number));
+    }
+    lines.push((number, event))?;
+    Ok(())
+}
+
+// Applies a work that is chosen by a number, and once more where the number says so and it isn't a
+// take.
+fn apply_chosen(
+    net: &mut Net<'_>,
+    lines: &mut Vec<(u32, Event)>,
+    number: u64,
+    work: &Work,
+) -> Result<(), MakeFault>
+    requires due { IsDue net.old.valid.now.view (map (λ b. loaded b) net.old.shells.items) (map (λ b. kept b) net.old.shells.items) net.old.books lines.old.items (work_event work.now) }
+    requires names { HasNames net.old.valid.now.view work.now }
+    requires lines { AreLines lines.old.items }
+    ensures applies { AppliesEvents net.old.valid.now.view (map (λ b. loaded b) net.old.shells.items) (map (λ b. kept b) net.old.shells.items) (map (λ b. kept b) net.new.shells.items) net.old.books net.new.books lines.old.items lines.new.items (chosen_events number (work_event work.now)) result }
+    ensures lines { OnOk result (AreLines lines.new.items) }
+    ensures events { OnOk result (events_of net.old.valid.now.view lines.new.items ≡ events_of net.old.valid.now.view lines.old.items ++ chosen_events number (work_event work.now)) }
+    ensures valid { net.new.valid ≡ net.old.valid }
+    ensures kinds { map (λ b. kind b) net.new.shells.items ≡ map (λ b. kind b) net.old.shells.items }
+    ensures loaded { map (λ b. loaded b) net.new.shells.items ≡ map (λ b. loaded b) net.old.shells.items }
+{
+    net.known();
+    apply(net, lines, work)?;
+    if !work.is_take() && says_again(number) {
+        return apply(net, lines, work);
+    }
+    Ok(())
+}
+
+// The works of a net. The error is want of memory.
+fn works_of(net: &Net<'_>) -> Result<Works, AllocError>
+    requires { BooksRun net.now.valid.now.view net.now.books }
+    ensures works { IfOk result (AreWorksOf net.now.valid.now.view) }
+    ensures shown { IfOk result (AreShown net.now.valid.now.view net.now.books) }
+{
+    Works::of(net.alloc(), net.valid(), net.books())
+}
+
+// The work of a net with a number, counted from 0.
+fn work_at(works: &Works, net: &Net<'_>, number: usize) -> Work
+    requires runs { BooksRun net.now.valid.now.view net.now.books }
+    requires works { AreWorksOf net.now.valid.now.view works.now }
+    requires shown { AreShown net.now.valid.now.view net.now.books works.now }
+    requires number { number < sum works.now.sizes }
+    ensures numbered { IsOpenWork net.now.valid.now.view net.now.books number result }
+    ensures names { HasNames net.now.valid.now.view result }
+{
+    let (_, work) = works.find(net.valid(), net.books(), number);
+    work
+}
+
+// Looks again at every place, after a work. The error is want of memory.
+fn look_after(works: &mut Works, net: &Net<'_>, work: &Work) -> Result<(), AllocError>
+    requires runs { BooksRun net.now.valid.now.view net.now.books }
+    requires works { AreWorksOf net.now.valid.now.view works.old }
+    requires may { (place : ℕ) → MayLookAt net.now.valid.now.view net.now.books works.old work.now place }
+    ensures works { OnOk result (AreWorksOf net.now.valid.now.view works.new) }
+    ensures shown { OnOk result (AreShown net.now.valid.now.view net.now.books works.new) }
+{
+    works.look_after(net.valid(), net.books(), work)
+}
+
+impl Making {
+    // No event yet.
+    fn of(net: &Net<'_>, seed: u64) -> Result<Making, AllocError>
+        requires { BooksRun net.now.valid.now.view net.now.books }
+        ensures ready { IfOk result (IsReady net.now.valid.now.view net.now.books) }
+        ensures draws { IfOk result (λ making. making.draws ≡ seed) }
+        ensures lines { IfOk result (λ making. making.lines.items ≡ []) }
+    {
+        Ok(Making {
+            works: works_of(net)?,
+            draws: Draws::of(seed),
+            lines: Vec::new(net.alloc()),
+        })
+    }
+
+    // One turn, where something is open: a draw chooses a work.
+    fn turn(&mut self, net: &mut Net<'_>) -> Result<(), MakeFault>
+        requires goes { Goes net.old.valid.now.view (map (λ b. loaded b) net.old.shells.items) (map (λ b. kept b) net.old.shells.items) net.old.books self.old.lines.items }
+        requires ready { IsReady net.old.valid.now.view net.old.books self.old }
+        requires some { 0 < sum self.old.works.sizes }
+        ensures turns { Turns net.old.valid.now.view (map (λ b. loaded b) net.old.shells.items) (map (λ b. kept b) net.old.shells.items) (map (λ b. kept b) net.new.shells.items) net.old.books net.new.books self.old self.new result }
+        ensures ready { OnOk result (IsReady net.old.valid.now.view net.new.books self.new) }
+        ensures more { OnOk result (length self.old.lines.items < length self.new.lines.items) }
+        ensures valid { net.new.valid ≡ net.old.valid }
+        ensures kinds { map (λ b. kind b) net.new.shells.items ≡ map (λ b. kind b) net.old.shells.items }
+        ensures loaded { map (λ b. loaded b) net.new.shells.items ≡ map (λ b. loaded b) net.old.shells.items }
+    {
+        net.known();
+        let number = self.draws.next_number();
+        let total = self.works.total();
+        let work = work_at(&self.works, net, number as usize % total);
+        apply_chosen(net, &mut self.lines, number, &work)?;
+        look_after(&mut self.works, net, &work)?;
+        Ok(())
+    }
+}
+
+// The schedule of a seed, before a fault ends the net.
+fn schedule_of(net: &mut Net<'_>, seed: u64) -> Result<Schedule, MakeFault>
+    requires { RunsFirst net.old.valid.now.view (map (λ b. loaded b) net.old.shells.items) (map (λ b. kept b) net.old.shells.items) net.old.books }
+    ensures made { AnswersMade net.old.valid.now.view (map (λ b. loaded b) net.old.shells.items) (map (λ b. kept b) net.old.shells.items) net.old.books seed result }
+    ensures stands { IfOk result (StandsMade net.old.valid.now.view (map (λ b. loaded b) net.old.shells.items) (map (λ b. kept b) net.old.shells.items) (map (λ b. kept b) net.new.shells.items) net.old.books net.new.books) }
+    ensures numbers { IfOk result CountFromOne }
+    ensures printable { IfOk result IsPrintable }
+    ensures valid { net.new.valid ≡ net.old.valid }
+    ensures kinds { map (λ b. kind b) net.new.shells.items ≡ map (λ b. kind b) net.old.shells.items }
+    ensures loaded { map (λ b. loaded b) net.new.shells.items ≡ map (λ b. loaded b) net.old.shells.items }
+{
+    net.known();
+    let mut making = Making::of(net, seed)?;
+    while making.works.total() > 0 {
+        making.turn(net)?;
+    }
+    Ok(Schedule::from_lines(making.lines))
+}
+
+/// Makes the schedule of a seed: the events of the generator, which it applies to the net, on lines
+/// numbered from 1. Afterwards nothing is left to deliver, to order or to take.
+///
+/// TooManyRows and TooManyMessages come at the first event that meets the limit, and TooManyEvents
+/// where an event more than 1,000,000 is due; a fault ends the net. A turn takes as many steps as the
+/// works stand in levels, beside its event and a look at each lane.
+pub fn make(net: &mut Net<'_>, seed: u64) -> Result<Schedule, MakeFault>
+    requires { RunsFirst net.old.valid.now.view (map (λ b. loaded b) net.old.shells.items) (map (λ b. kept b) net.old.shells.items) net.old.books }
+
+    // Of whatever data the net stood for: the schedule and the causes of faults, and what the net
+    // stands for then.
+    ensures made { AnswersMade net.old.valid.now.view (map (λ b. loaded b) net.old.shells.items) (map (λ b. kept b) net.old.shells.items) net.old.books seed result }
+    ensures leaves { LeavesMade net.old.valid.now.view (map (λ b. loaded b) net.old.shells.items) (map (λ b. kept b) net.old.shells.items) (map (λ b. kept b) net.new.shells.items) net.old.books net.new.books result }
+
+    ensures numbers { IfOk result CountFromOne }
+    ensures printable { IfOk result IsPrintable }
+
+    ensures valid { net.new.valid ≡ net.old.valid }
+    ensures kinds { map (λ b. kind b) net.new.shells.items ≡ map (λ b. kind b) net.old.shells.items }
+    ensures loaded { map (λ b. loaded b) net.new.shells.items ≡ map (λ b. loaded b) net.old.shells.items }
+{
+    let made = schedule_of(net, seed);
+    if made.is_err() {
+        net.end();
+    }
+    made
+}

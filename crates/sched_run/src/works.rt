@@ -1,0 +1,312 @@
+//! The open works: a window on each lane, whether each taker can take, and a tree of their numbers.
+ghost use Rattle.std.specs.Prelude.{◌≡◌, ◌<◌, ◌≤◌, ◌^◌, ℕ, true, IfOk, OnOk, length, map, sum};
+ghost use Rattle.std.specs.List.{All};
+ghost use Rattle.sched_text.specs.Text.{is_printable};
+ghost use Rattle.topo_types.specs.View.{replicas_of, stream_at};
+ghost use Rattle.inbox.specs.Events.{deliver, order, take_one};
+ghost use Rattle.sched_run.specs.Made.{part_on};
+ghost use Rattle.sched_hear.specs.Net.{BooksRun};
+ghost use Rattle.sched_hear.specs.Numbered.{numbered};
+ghost use Rattle.sched_run.specs.Code.Looking.{IsFeed, IsLane, IsTaker, LooksAt};
+ghost use Rattle.sched_run.specs.Code.Works.{is_taking, work_event, HasNames, AreWindowsOn, AreSizesWith, AreWorksOf, AreShown, IsOpenWork, StandsThere, MayLookAt, LooksAgain, LookedAt};
+
+use crate::lanes::{Lane, Taker, lanes, takers};
+use crate::looking::{can_take, look};
+use inbox::Feed;
+use sched_hear::Books;
+use sched_text::{Event, Sent};
+use sched_turns::{Sizes, Stale, Window};
+use std::alloc::{AllocError, Global};
+use topo_types::Valid;
+
+/// One open work: the message of a lane with an index, or a take.
+#[derive(Clone, Copy, Debug)]
+pub(crate) enum Work {
+    Message(Lane, u32),
+    Take(Taker),
+}
+
+// A message of a feed, by the name of its stream.
+fn sent_of(valid: &Valid, feed: &Feed, index: u32) -> Result<Sent, AllocError>
+    requires { feed.now.stream < length valid.now.view.streams }
+    ensures { IfOk result (λ sent. sent ≡ record { stream = (stream_at valid.now.view feed.now.stream).name; replica = feed.now.sender; index = index }) }
+{
+    Ok(Sent {
+        stream: valid.stream_name(feed.stream).copy()?,
+        replica: feed.sender,
+        index,
+    })
+}
+
+// The event by which an instance hears a message of a feed.
+fn deliver_of(
+    valid: &Valid,
+    component: u32,
+    replica: u32,
+    feed: &Feed,
+    index: u32,
+) -> Result<Event, AllocError>
+    requires { IsFeed valid.now.view component feed.now }
+    ensures event { IfOk result (λ event. numbered valid.now.view event ≡ deliver (part_on feed.now index) component replica) }
+    ensures printable { IfOk result (λ event. is_printable event ≡ true) }
+{
+    valid.known();
+    valid.whole();
+    Ok(Event::Deliver {
+        sent: sent_of(valid, feed, index)?,
+        component: valid.component_name(component).copy()?,
+        port: valid.port_name(component, feed.port).copy()?,
+        replica,
+    })
+}
+
+// The event by which a message of a feed comes to the log of a component.
+fn order_of(valid: &Valid, component: u32, feed: &Feed, index: u32) -> Result<Event, AllocError>
+    requires { IsFeed valid.now.view component feed.now }
+    ensures event { IfOk result (λ event. numbered valid.now.view event ≡ order (part_on feed.now index) component) }
+    ensures printable { IfOk result (λ event. is_printable event ≡ true) }
+{
+    valid.known();
+    valid.whole();
+    Ok(Event::Order {
+        sent: sent_of(valid, feed, index)?,
+        component: valid.component_name(component).copy()?,
+        port: valid.port_name(component, feed.port).copy()?,
+    })
+}
+
+// The event by which a replica of a component takes.
+fn take_of(valid: &Valid, component: u32, replica: u32) -> Result<Event, AllocError>
+    requires { component < length valid.now.view.components }
+    ensures event { IfOk result (λ event. numbered valid.now.view event ≡ take_one component replica) }
+    ensures printable { IfOk result (λ event. is_printable event ≡ true) }
+{
+    valid.known();
+    valid.whole();
+    Ok(Event::Take {
+        component: valid.component_name(component).copy()?,
+        replica,
+    })
+}
+
+impl Work {
+    /// Whether it is a take.
+    pub(crate) fn is_take(&self) -> bool
+        ensures { result ≡ is_taking self.now }
+    {
+        matches!(self, Work::Take(_))
+    }
+
+    /// The event by which it is done, with names. The error is want of memory.
+    pub(crate) fn event(&self, valid: &Valid) -> Result<Event, AllocError>
+        requires { HasNames valid.now.view self.now }
+        ensures event { IfOk result (λ event. numbered valid.now.view event ≡ work_event self.now) }
+        ensures printable { IfOk result (λ event. is_printable event ≡ true) }
+    {
+        match self {
+            Work::Message(
+                Lane::Deliver {
+                    component,
+                    replica,
+                    feed,
+                    ..
+                },
+                index,
+            ) => deliver_of(valid, *component, *replica, feed, *index),
+            Work::Message(Lane::Order { component, feed }, index) => {
+                order_of(valid, *component, feed, *index)
+            }
+            Work::Take(Taker { component, replica }) => take_of(valid, *component, *replica),
+        }
+    }
+}
+
+// A window on a lane at which nobody looked before.
+fn window_of(alloc: Global, valid: &Valid, books: &Books, lane: &Lane) -> Result<Window, AllocError>
+    requires runs { BooksRun valid.now.view books.now }
+    requires lane { IsLane valid.now.view lane.now }
+    ensures { IfOk result (LooksAt valid.now.view books.now lane.now) }
+{
+    let mut window = Window::new(alloc);
+    look(valid, books, lane, Stale::Nothing, &mut window)?;
+    Ok(window)
+}
+
+// A window on each lane.
+fn windows_of(
+    alloc: Global,
+    valid: &Valid,
+    books: &Books,
+    lanes: &[Lane],
+) -> Result<Vec<Window>, AllocError>
+    requires runs { BooksRun valid.now.view books.now }
+    requires lanes { All (IsLane valid.now.view) lanes.now }
+    ensures { IfOk result (λ windows. AreWindowsOn valid.now.view books.now lanes.now windows.items) }
+{
+    let mut windows = Vec::new(alloc);
+    for lane in lanes {
+        windows.push(window_of(alloc, valid, books, lane)?)?;
+    }
+    Ok(windows)
+}
+
+// How many works each lane has.
+fn sizes_of(alloc: Global, windows: &[Window]) -> Result<Vec<usize>, AllocError>
+    ensures { IfOk result (λ sizes. sizes.items ≡ map (λ window. length window.places) windows.now) }
+{
+    let mut sizes = Vec::new(alloc);
+    for window in windows {
+        sizes.push(window.places().len())?;
+    }
+    Ok(sizes)
+}
+
+// Adds how many works each taker has.
+fn push_takes(
+    valid: &Valid,
+    books: &Books,
+    takers: &[Taker],
+    sizes: &mut Vec<usize>,
+) -> Result<(), AllocError>
+    requires runs { BooksRun valid.now.view books.now }
+    requires takers { All (IsTaker valid.now.view) takers.now }
+    ensures { OnOk result (AreSizesWith valid.now.view books.now sizes.old.items takers.now sizes.new.items) }
+{
+    for taker in takers {
+        sizes.push(usize::from(can_take(valid, books, *taker)))?;
+    }
+    Ok(())
+}
+
+/// The works of all lanes, and then those of all takers.
+#[derive(Drop)]
+pub(crate) struct Works {
+    pub(crate) lanes: Vec<Lane>,
+    pub(crate) takers: Vec<Taker>,
+    windows: Vec<Window>,
+    sizes: Sizes,
+}
+
+impl Works {
+    /// The works of a net. The error is want of memory.
+    pub(crate) fn of(alloc: Global, valid: &Valid, books: &Books) -> Result<Works, AllocError>
+        requires { BooksRun valid.now.view books.now }
+        ensures works { IfOk result (AreWorksOf valid.now.view) }
+        ensures shown { IfOk result (AreShown valid.now.view books.now) }
+    {
+        valid.known();
+        let lanes = lanes(alloc, valid, books)?;
+        let takers = takers(alloc, valid)?;
+        let windows = windows_of(alloc, valid, books, lanes.as_slice())?;
+        let mut sizes = sizes_of(alloc, windows.as_slice())?;
+        push_takes(valid, books, takers.as_slice(), &mut sizes)?;
+        // There are never so many; the sum of all sizes then fits.
+        if u32::try_from(sizes.len()).is_err() {
+            return Err(AllocError);
+        }
+        Ok(Works {
+            lanes,
+            takers,
+            windows,
+            sizes: Sizes::of(alloc, sizes)?,
+        })
+    }
+
+    /// The number of open works.
+    pub(crate) fn total(&self) -> usize
+        ensures { result ≡ sum self.now.sizes }
+    {
+        self.sizes.total()
+    }
+
+    /// The work with a number, counted from 0, and its place among the lanes and takers, which show what
+    /// is open by these books.
+    pub(crate) fn find(&self, valid: &Valid, _books: &Books, number: usize) -> (usize, Work)
+        requires runs { BooksRun valid.now.view _books.now }
+        requires works { AreWorksOf valid.now.view self.now }
+        requires shown { AreShown valid.now.view _books.now self.now }
+        requires number { number < sum self.now.sizes }
+        ensures numbered { IsOpenWork valid.now.view _books.now number result.1 }
+        ensures place { StandsThere self.now result.0 result.1 }
+        ensures names { HasNames valid.now.view result.1 }
+    {
+        valid.known();
+        let (place, rest) = self.sizes.place_of(number);
+        if place < self.lanes.len() {
+            let index = self.windows[place].places()[rest];
+            (place, Work::Message(self.lanes[place], index))
+        } else {
+            (place, Work::Take(self.takers[place - self.lanes.len()]))
+        }
+    }
+
+    // Looks again at what stands at a place, after a work, and says how many works there are.
+    fn size_at(
+        &mut self,
+        valid: &Valid,
+        books: &Books,
+        work: &Work,
+        place: usize,
+    ) -> Result<usize, AllocError>
+        requires runs { BooksRun valid.now.view books.now }
+        requires works { AreWorksOf valid.now.view self.old }
+        requires place { place < length self.old.sizes }
+        requires may { MayLookAt valid.now.view books.now self.old work.now place }
+        ensures { IfOk result (LooksAgain valid.now.view books.now self.old self.new place) }
+    {
+        valid.known();
+        if place < self.lanes.len() {
+            let lane = self.lanes[place];
+            look(
+                valid,
+                books,
+                &lane,
+                work.stale_on(&lane),
+                &mut self.windows[place],
+            )?;
+            Ok(self.windows[place].places().len())
+        } else {
+            let taker = self.takers[place - self.lanes.len()];
+            Ok(usize::from(can_take(valid, books, taker)))
+        }
+    }
+
+    /// Looks again at what stands at a place, after a work. The error is want of memory.
+    pub(crate) fn look(
+        &mut self,
+        valid: &Valid,
+        books: &Books,
+        work: &Work,
+        place: usize,
+    ) -> Result<(), AllocError>
+        requires runs { BooksRun valid.now.view books.now }
+        requires works { AreWorksOf valid.now.view self.old }
+        requires place { place < length self.old.sizes }
+        requires may { MayLookAt valid.now.view books.now self.old work.now place }
+        ensures works { OnOk result (AreWorksOf valid.now.view self.new) }
+        ensures looked { OnOk result (LookedAt valid.now.view books.now self.old self.new place) }
+    {
+        let size = self.size_at(valid, books, work, place)?;
+        self.sizes.set(place, size);
+        Ok(())
+    }
+
+    /// Looks again at every place, after a work. The error is want of memory.
+    pub(crate) fn look_after(
+        &mut self,
+        valid: &Valid,
+        books: &Books,
+        work: &Work,
+    ) -> Result<(), AllocError>
+        requires runs { BooksRun valid.now.view books.now }
+        requires works { AreWorksOf valid.now.view self.old }
+        requires may { (place : ℕ) → MayLookAt valid.now.view books.now self.old work.now place }
+        ensures works { OnOk result (AreWorksOf valid.now.view self.new) }
+        ensures shown { OnOk result (AreShown valid.now.view books.now self.new) }
+    {
+        for place in 0..self.sizes.len() {
+            self.look(valid, books, work, place)?;
+        }
+        Ok(())
+    }
+}

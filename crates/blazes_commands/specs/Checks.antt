@@ -1,5 +1,5 @@
 -- The checks, each a script of its own that knows no other.
-use Rattle.std.specs.Prelude.{ℕ, List, Option, Some, None, Result, Ok, Err}
+use Rattle.std.specs.Prelude.{ℕ, ◌+◌, List, Option, Some, None, Result, Ok, Err}
 use Rattle.blz_boxes.specs.declared.kind.ProgramKind.{ProgramKind}
 use Rattle.inbox.specs.Events.{Event}
 use Rattle.inbox.specs.Executions.{Execution, first_execution}
@@ -9,7 +9,7 @@ use Rattle.sched_bench.specs.Bench.{fault_of_opening}
 use Rattle.sched_run.specs.declared.applying.EventRefusal.{EventRefusal}
 use Rattle.emitted.specs.declared.fault.EventFault.{EventFault}
 use Rattle.emitted.specs.declared.fault.EventFault.TheVariants as event_faults
-use Rattle.sched_run.specs.Made.{made_of}
+use Rattle.sched_run.specs.Made.{event_limit, made_of}
 use Rattle.sched_run.specs.declared.fault.MakeFault.{MakeFault}
 use Rattle.sched_run.specs.declared.fault.MakeFault.TheVariants as make_faults
 use Rattle.sched_bench.specs.declared.fault.OpenFault.{OpenFault}
@@ -65,7 +65,7 @@ execution v given lines = checked (executed (after_lines v given lines first_exe
 
 -- the number of the first event past the limit
 abbrev pub first_too_many : ℕ
-first_too_many = 1000001
+first_too_many = event_limit + 1
 
 -- the refusal of the first event that can't be made
 abbrev pub make_refusal : MakeFault → Option Refusal

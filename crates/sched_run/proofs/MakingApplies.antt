@@ -9,7 +9,7 @@ use Rattle.inbox.specs.Events.{Event}
 use Rattle.inbox.specs.Growth.{Continues}
 use Rattle.inbox.specs.Wiring.{wiring_of}
 use Rattle.sched_run.specs.Applying.{Line}
-use Rattle.sched_run.specs.Made.{chosen_events, is_take, says_again}
+use Rattle.sched_run.specs.Made.{event_limit, chosen_events, is_take, says_again}
 use Rattle.sched_run.specs.Making.{events_of}
 use Rattle.sched_hear.specs.Net.{EventAnswers, EventLeaves}
 use Rattle.sched_hear.specs.Numbered.{numbered}
@@ -18,7 +18,6 @@ use Rattle.sched_hear.specs.declared.books.Books.{Books}
 use Rattle.emitted.specs.declared.fault.EventFault.{EventFault}
 use Rattle.sched_run.specs.declared.fault.MakeFault.{MakeFault}
 use Rattle.sched_run.specs.declared.fault.MakeFault.TheVariants.{TooManyEvents, NoMemory}
-use Rattle.sched_run.specs.declared.limits.TheConstants.{MAX_EVENTS}
 use Rattle.sched_run.proofs.MakingRuns.{fails_on, legal_ends, no_memory, run_fails, run_more, too_many}
 use Rattle.sched_run.proofs.TurnsLemmas.{chosen_first, chosen_twice}
 
@@ -42,12 +41,12 @@ module _ (v : View) (loaded : List (Option Program)) (tables next : List Sets) (
   applies_none e r none given run = handed_fault (λ q. AppliedSo v given loaded next new lines after (e ∷ []) q) r NoMemory none (no_memory v given loaded tables old lines run e)
 
   -- one too many
-  pub applies_many : (e : Event) → length lines ≡ MAX_EVENTS → AppliesEvents v loaded tables next old new lines after (e ∷ []) (Err TooManyEvents)
+  pub applies_many : (e : Event) → length lines ≡ event_limit → AppliesEvents v loaded tables next old new lines after (e ∷ []) (Err TooManyEvents)
   applies_many e is given run = too_many v given loaded tables old lines run e is
 
   module _ (e : Event) (named : NamedEvent) (number : ℕ) (is : numbered v named ≡ e) (result : Result (Unit {0}) EventFault) (answers : EventAnswers v loaded tables old (numbered v named) result) where
     -- a fault
-    pub applies_fault : (fault : EventFault) (made : MakeFault) → result ≡ Err fault → made ≡ fault_with fault number → length lines < MAX_EVENTS → number ≡ suc (length lines)
+    pub applies_fault : (fault : EventFault) (made : MakeFault) → result ≡ Err fault → made ≡ fault_with fault number → length lines < event_limit → number ≡ suc (length lines)
         → AppliesEvents v loaded tables next old new lines after (e ∷ []) (Err made)
     applies_fault fault made at so few first given run =
         subst (λ f. FailsIn (wiring_of v) given (events_of v lines ++ e ∷ []) f) (sym so)

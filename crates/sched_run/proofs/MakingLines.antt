@@ -7,9 +7,9 @@ use Rattle.std.proofs.lemmas.List.Folds.{list_all-append}
 use Rattle.sched_text.specs.Reading.{line_limit}
 use Rattle.sched_text.specs.Text.{is_printable}
 use Rattle.sched_text.specs.declared.event.Event.{Event}
+use Rattle.sched_run.specs.Made.{event_limit}
 use Rattle.sched_run.specs.Applying.{Line}
 use Rattle.sched_run.specs.Code.Making.{AreLines}
-use Rattle.sched_run.specs.declared.limits.TheConstants.{MAX_EVENTS}
 
 range_more : (a n : ℕ) → range_with_len a (suc n) ≡ range_with_len a n ++ (a + n) ∷ []
 range_more a zero = ap (λ m. m ∷ []) (sym (add-zero a))
@@ -28,7 +28,7 @@ no_lines = record { numbers = refl; printable = record { few = few_none line_lim
     few_none : (limit : ℕ) → 0 ≤ limit
     few_none limit = omega arith
 
-pub line_more : (lines : List Line) (number : ℕ) (event : Event) → AreLines lines → length lines < MAX_EVENTS → number ≡ suc (length lines) → is_printable event ≡ true → AreLines (lines ++ (number, event) ∷ [])
+pub line_more : (lines : List Line) (number : ℕ) (event : Event) → AreLines lines → length lines < event_limit → number ≡ suc (length lines) → is_printable event ≡ true → AreLines (lines ++ (number, event) ∷ [])
 line_more lines number event are low is printable = record {
   numbers = map-append (λ (line : Line). line.0) lines ((number, event) ∷ [])
       ∙ ap (λ (l : List ℕ). l ++ number ∷ []) are.numbers
@@ -36,18 +36,18 @@ line_more lines number event are low is printable = record {
       ∙ sym (range_more 1 (length lines))
       ∙ sym (ap (range_with_len 1) (one_longer lines (number, event)));
   printable = record {
-    few = few_more (length lines) (length (lines ++ (number, event) ∷ [])) MAX_EVENTS line_limit refl (one_longer lines (number, event)) low;
+    few = few_more (length lines) (length (lines ++ (number, event) ∷ [])) event_limit line_limit refl (one_longer lines (number, event)) low;
     events = list_all-append (λ (line : Line). is_printable line.1) lines ((number, event) ∷ [])
         ∙ and_from _ _ are.printable.events (and_from _ _ printable refl);
   };
 }
 
 -- there are at most so many as a schedule may have
-pub few_lines : (lines : List Line) → AreLines lines → length lines ≤ MAX_EVENTS
+pub few_lines : (lines : List Line) → AreLines lines → length lines ≤ event_limit
 few_lines lines are = are.printable.few
 
-pub as_many_lines : (lines : List Line) → AreLines lines → MAX_EVENTS ≤ length lines → length lines ≡ MAX_EVENTS
-as_many_lines lines are many = both (length lines) MAX_EVENTS (few_lines lines are) many
+pub as_many_lines : (lines : List Line) → AreLines lines → event_limit ≤ length lines → length lines ≡ event_limit
+as_many_lines lines are many = both (length lines) event_limit (few_lines lines are) many
   where
     both : (n most : ℕ) → n ≤ most → most ≤ n → n ≡ most
     both n most low high = omega arith

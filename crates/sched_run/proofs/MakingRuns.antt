@@ -17,7 +17,7 @@ use Rattle.inbox.proofs.Lists.Growing.{continues_itself, continues_on}
 use Rattle.sched_hear.specs.Answers.{Answers, answer_at, answer_to, fault_at}
 use Rattle.sched_run.specs.Applying.{Line, steps_of}
 use Rattle.sched_lists.specs.Limits.{Limit, too_many_rows, too_many_messages, limit_of_event}
-use Rattle.sched_run.specs.Made.{execution_after}
+use Rattle.sched_run.specs.Made.{event_limit, execution_after}
 use Rattle.sched_run.specs.Making.{events_of}
 use Rattle.sched_hear.specs.Net.{Stands, EventAnswers, EventLeaves, execution_in}
 use Rattle.sched_hear.specs.Numbered.{numbered}
@@ -27,7 +27,6 @@ use Rattle.emitted.specs.declared.fault.EventFault.{EventFault}
 use Rattle.emitted.specs.declared.fault.EventFault.TheVariants.{NoInstance, NoMessage, NothingToTake, TooManyRows, TooManyMessages, NoMemory}
 use Rattle.sched_run.specs.declared.fault.MakeFault.{MakeFault}
 use Rattle.sched_run.specs.declared.fault.MakeFault.TheVariants as make_fault
-use Rattle.sched_run.specs.declared.limits.TheConstants.{MAX_EVENTS}
 use Rattle.sched_run.proofs.TurnsLemmas.{none_more}
 
 -- ---- the answer to a legal event
@@ -124,12 +123,12 @@ module _ (v : View) (given : Data) (loaded : List (Option Program)) (tables next
     fails = fails;
   }
 
-  module _ (few : length lines < MAX_EVENTS) (number : ℕ) (is : number ≡ suc (length lines)) where
+  module _ (few : length lines < event_limit) (number : ℕ) (is : number ≡ suc (length lines)) where
     limit_here : (limit : Limit) → limit_of_event w given (numbered v named) x ≡ Some limit → (number ≡ suc (length (events_of v lines))) × MeetsLimit w given (events_of v lines) (numbered v named) limit
     limit_here limit met = (
       is ∙ ap suc (sym (length_events v lines)),
       record {
-        few = subst (λ n. n < MAX_EVENTS) (sym (length_events v lines)) few;
+        few = subst (λ n. n < event_limit) (sym (length_events v lines)) few;
         meets = ap (limit_of_event w given (numbered v named)) (after_is v given loaded tables old lines run.stands) ∙ met;
       },
     )
@@ -157,7 +156,7 @@ module _ (v : View) (given : Data) (loaded : List (Option Program)) (tables : Li
   }
 
   -- it is one too many
-  pub too_many : length lines ≡ MAX_EVENTS → FailsIn (wiring_of v) given (events_of v lines ++ e ∷ []) make_fault.TooManyEvents
+  pub too_many : length lines ≡ event_limit → FailsIn (wiring_of v) given (events_of v lines ++ e ∷ []) make_fault.TooManyEvents
   too_many is = record {
     before = events_of v lines;
     due = e;

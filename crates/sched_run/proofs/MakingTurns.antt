@@ -15,7 +15,7 @@ use Rattle.inbox.proofs.Lists.Growing.{continues_with}
 use Rattle.sched_turns.specs.Draws.{next_state, drawn_number}
 use Rattle.sched_run.specs.Applying.{Line, steps_of}
 use Rattle.sched_lists.specs.Limits.{Limit, too_many_rows, too_many_messages, limit_of_event}
-use Rattle.sched_run.specs.Made.{Course, after_turns, chosen_events, execution_after, fault_by, made_of, made_within, open_works, turn, turn_among, AnswersSo}
+use Rattle.sched_run.specs.Made.{event_limit, Course, after_turns, chosen_events, execution_after, fault_by, made_of, made_within, open_works, turn, turn_among, AnswersSo}
 use Rattle.sched_run.specs.Making.{events_of}
 use Rattle.sched_hear.specs.Net.{BooksStand, execution_in}
 use Rattle.sched_run.specs.Code.Making.{AppliedSo, AppliesEvents, AreLines, MeetNone, HasRun, HasTurned, IsReady, FailsAt, FailsIn, TurnedSo, Turns}
@@ -23,7 +23,6 @@ use Rattle.sched_run.specs.Code.Works.{AreShown, AreWorksOf, IsOpenWork, work_ev
 use Rattle.sched_hear.specs.declared.books.Books.{Books}
 use Rattle.sched_run.specs.declared.fault.MakeFault.{MakeFault}
 use Rattle.sched_run.specs.declared.fault.MakeFault.TheVariants.{TooManyEvents, TooManyRows, TooManyMessages, NoMemory}
-use Rattle.sched_run.specs.declared.limits.TheConstants.{MAX_EVENTS}
 use Rattle.sched_run.specs.declared.making.Making.{Making}
 use Rattle.sched_run.specs.declared.works.Work.{Work}
 use Rattle.sched_run.specs.declared.works.Works.{Works}
@@ -104,7 +103,7 @@ module _ (v : View) (given : Data) (seed : ℕ) (loaded : List (Option Program))
 
 -- ---- what is answered
 
-made_is : (w : Wiring) (given : Data) (seed : ℕ) → made_of w given seed ≡ made_within w given seed MAX_EVENTS
+made_is : (w : Wiring) (given : Data) (seed : ℕ) → made_of w given seed ≡ made_within w given seed event_limit
 unfolding made_of
 made_is w given seed = refl
 
@@ -125,20 +124,20 @@ module _ (w : Wiring) (given : Data) (seed turns most : ℕ) (few : turns ≤ su
   meets_one limit low met = made_stops w given seed most turns before due limit (subst (Continues (before ++ due ∷ [])) (sym are) begins) few low unmet met
 
 -- an event of the turns that isn't done is the answer to the seed
-module _ (w : Wiring) (given : Data) (seed turns : ℕ) (few : turns ≤ MAX_EVENTS) (events : List Event) (are : (after_turns w given seed (suc turns)).events ≡ events) where
+module _ (w : Wiring) (given : Data) (seed turns : ℕ) (few : turns ≤ event_limit) (events : List Event) (are : (after_turns w given seed (suc turns)).events ≡ events) where
   one_more : (a most : ℕ) → a ≤ most → suc a ≤ suc most
   one_more a most low = omega arith
 
   fails_at : (fault : MakeFault) (fails : FailsIn w given events fault) → FailsAt w given fails.before fails.due fault → AnswersSo w given (made_of w given seed) (Err fault)
   fails_at NoMemory fails at = tt
-  fails_at TooManyEvents fails at = made_is w given seed ∙ overflows w given seed (suc turns) MAX_EVENTS (one_more turns MAX_EVENTS few) events are fails.before fails.due fails.begins fails.unmet at
+  fails_at TooManyEvents fails at = made_is w given seed ∙ overflows w given seed (suc turns) event_limit (one_more turns event_limit few) events are fails.before fails.due fails.begins fails.unmet at
   fails_at (TooManyRows number) fails at =
       made_is w given seed
-      ∙ meets_one w given seed (suc turns) MAX_EVENTS (one_more turns MAX_EVENTS few) events are fails.before fails.due fails.begins fails.unmet too_many_rows at.1.few at.1.meets
+      ∙ meets_one w given seed (suc turns) event_limit (one_more turns event_limit few) events are fails.before fails.due fails.begins fails.unmet too_many_rows at.1.few at.1.meets
       ∙ ap (λ n. Err (TooManyRows n)) (sym at.0)
   fails_at (TooManyMessages number) fails at =
       made_is w given seed
-      ∙ meets_one w given seed (suc turns) MAX_EVENTS (one_more turns MAX_EVENTS few) events are fails.before fails.due fails.begins fails.unmet too_many_messages at.1.few at.1.meets
+      ∙ meets_one w given seed (suc turns) event_limit (one_more turns event_limit few) events are fails.before fails.due fails.begins fails.unmet too_many_messages at.1.few at.1.meets
       ∙ ap (λ n. Err (TooManyMessages n)) (sym at.0)
 
   pub fails_so : (fault : MakeFault) → FailsIn w given events fault → AnswersSo w given (made_of w given seed) (Err fault)
@@ -146,7 +145,7 @@ module _ (w : Wiring) (given : Data) (seed turns : ℕ) (few : turns ≤ MAX_EVE
 
 -- where nothing is open the lines are answered, and nothing is left
 pub ends_so : (v : View) (given : Data) (seed : ℕ) (loaded : List (Option Program)) (tables : List Sets) (b : Books) (m : Making) (turned : HasTurned v given seed loaded tables b m)
-    → length m.lines.items ≤ MAX_EVENTS → open_works (wiring_of v) given (execution_in turned.run.stands.books) ≡ [] → left_count (wiring_of v) given (execution_in turned.run.stands.books) ≡ 0
+    → length m.lines.items ≤ event_limit → open_works (wiring_of v) given (execution_in turned.run.stands.books) ≡ [] → left_count (wiring_of v) given (execution_in turned.run.stands.books) ≡ 0
     → AnswersSo (wiring_of v) given (made_of (wiring_of v) given seed) (Ok (events_of v m.lines.items))
 ends_so v given seed loaded tables b m turned few none left =
     let w : Wiring = wiring_of v in
@@ -155,8 +154,8 @@ ends_so v given seed loaded tables b m turned few none left =
     let turns : turned.turns ≤ length m.lines.items = turned.few in
     let after : execution_after w given events ≡ execution_in turned.run.stands.books = after_is v given loaded tables b m.lines.items turned.run.stands in (
       made_is w given seed
-          ∙ made_ends w given seed MAX_EVENTS turned.turns events (sym (ap (λ (c : Course). c.events) turned.course)) (few_turns turned.turns (length m.lines.items) MAX_EVENTS turns few)
-          (ap (open_works w given) after ∙ none) (few_events (length events) (length m.lines.items) MAX_EVENTS long few) turned.run.unmet,
+          ∙ made_ends w given seed event_limit turned.turns events (sym (ap (λ (c : Course). c.events) turned.course)) (few_turns turned.turns (length m.lines.items) event_limit turns few)
+          (ap (open_works w given) after ∙ none) (few_events (length events) (length m.lines.items) event_limit long few) turned.run.unmet,
       record {
         legal = events_run v given loaded tables b m.lines.items turned.run.stands ∙ ap (λ (y : Execution). Ok y) (sym after);
         left = ap (left_count w given) after ∙ left;
@@ -210,7 +209,7 @@ module _ (v : View) (loaded : List (Option Program)) (tables next : List Sets) (
       ap (λ (c : Course). c.events) (turns_more v given seed loaded tables old before turned e (chosen given (steps_of v before.lines.items) turned.run.stands.books))
       ∙ ap (λ (l : List Event). events_of v before.lines.items ++ l) (sym number_is) in
       handed_fault (λ q. TurnedSo v given seed loaded last newest late q) r fault handed
-      (fails_so (wiring_of v) given seed turned.turns (few_turns turned.turns (length before.lines.items) MAX_EVENTS turned.few (few_lines before.lines.items lined)) events are fault
+      (fails_so (wiring_of v) given seed turned.turns (few_turns turned.turns (length before.lines.items) event_limit turned.few (few_lines before.lines.items lined)) events are fault
       (failed given called (applies given turned.run) fault is))
     where
       few_turns : (a b most : ℕ) → a ≤ b → b ≤ most → a ≤ most

@@ -19,8 +19,7 @@ use Rattle.sched_turns.specs.Draws.{next_state, drawn_number}
 use Rattle.sched_lists.specs.Limits.{Limit, limit_of_event}
 use Rattle.sched_run.specs.declared.fault.MakeFault.{MakeFault}
 use Rattle.sched_run.specs.declared.fault.MakeFault.TheVariants.{TooManyEvents}
-use Rattle.sched_run.specs.declared.limits.TheConstants.{MAX_EVENTS}
-use Rattle.sched_run.specs.Made.{Course, after_turns, chosen_events, execution_after, fault_by, faults_in, generated, is_take, limit_at_place, made_of, made_within, open_works, says_again, turn, turn_among, unless_at_fault}
+use Rattle.sched_run.specs.Made.{event_limit, Course, after_turns, chosen_events, execution_after, fault_by, faults_in, generated, is_take, limit_at_place, made_of, made_within, open_works, says_again, turn, turn_among, unless_at_fault}
 use Rattle.sched_run.proofs.FrontsLemmas.{append_get, front_length}
 
 -- ---- lists
@@ -313,17 +312,17 @@ module _ (w : Wiring) (given : Data) (seed most : ℕ) where
 
 -- ---- a schedule has at most a million events
 
-pub made_of_within : (w : Wiring) (given : Data) (seed : ℕ) → made_of w given seed ≡ made_within w given seed MAX_EVENTS
+pub made_of_within : (w : Wiring) (given : Data) (seed : ℕ) → made_of w given seed ≡ made_within w given seed event_limit
 unfolding made_of
 made_of_within w given seed = refl
 
 module _ (w : Wiring) (given : Data) (seed : ℕ) where
-  pub made_of_ends : (k : ℕ) (events : List Event) → (after_turns w given seed k).events ≡ events → k ≤ suc MAX_EVENTS → open_works w given (execution_after w given events) ≡ [] → length events ≤ MAX_EVENTS → faults_in w given events ≡ [] → made_of w given seed ≡ Ok events
-  made_of_ends k events are le idle few none = made_of_within w given seed ∙ ends_at w given seed MAX_EVENTS k events are le idle few none
+  pub made_of_ends : (k : ℕ) (events : List Event) → (after_turns w given seed k).events ≡ events → k ≤ suc event_limit → open_works w given (execution_after w given events) ≡ [] → length events ≤ event_limit → faults_in w given events ≡ [] → made_of w given seed ≡ Ok events
+  made_of_ends k events are le idle few none = made_of_within w given seed ∙ ends_at w given seed event_limit k events are le idle few none
 
-  pub made_of_stops : (k : ℕ) (before : List Event) (e : Event) (later : List Event) (limit : Limit) → (after_turns w given seed k).events ≡ before ++ e ∷ later → k ≤ suc MAX_EVENTS → length before < MAX_EVENTS → faults_in w given before ≡ []
+  pub made_of_stops : (k : ℕ) (before : List Event) (e : Event) (later : List Event) (limit : Limit) → (after_turns w given seed k).events ≡ before ++ e ∷ later → k ≤ suc event_limit → length before < event_limit → faults_in w given before ≡ []
       → limit_of_event w given e (execution_after w given before) ≡ Some limit → made_of w given seed ≡ Err (fault_by (suc (length before)) limit)
-  made_of_stops k before e later limit split le few none meets = made_of_within w given seed ∙ stops_at w given seed MAX_EVENTS k before e later limit split le few none meets
+  made_of_stops k before e later limit split le few none meets = made_of_within w given seed ∙ stops_at w given seed event_limit k before e later limit split le few none meets
 
-  pub made_of_overflows : (k : ℕ) (before : List Event) (e : Event) (later : List Event) → (after_turns w given seed k).events ≡ before ++ e ∷ later → k ≤ suc MAX_EVENTS → length before ≡ MAX_EVENTS → faults_in w given before ≡ [] → made_of w given seed ≡ Err TooManyEvents
-  made_of_overflows k before e later split le many none = made_of_within w given seed ∙ overflows_at w given seed MAX_EVENTS k before e later split le many none
+  pub made_of_overflows : (k : ℕ) (before : List Event) (e : Event) (later : List Event) → (after_turns w given seed k).events ≡ before ++ e ∷ later → k ≤ suc event_limit → length before ≡ event_limit → faults_in w given before ≡ [] → made_of w given seed ≡ Err TooManyEvents
+  made_of_overflows k before e later split le many none = made_of_within w given seed ∙ overflows_at w given seed event_limit k before e later split le many none

@@ -17,7 +17,6 @@ use Rattle.sched_turns.specs.Windows.{first_open}
 use Rattle.sched_lists.specs.Limits.{Limit, too_many_rows, too_many_messages, limit_of_event}
 use Rattle.sched_run.specs.declared.fault.MakeFault.{MakeFault}
 use Rattle.sched_run.specs.declared.fault.MakeFault.TheVariants.{TooManyEvents, TooManyRows, TooManyMessages, NoMemory}
-use Rattle.sched_run.specs.declared.limits.TheConstants.{MAX_EVENTS}
 use Rattle.sched_run.specs.declared.lanes.Lane.{Lane}
 use Rattle.sched_run.specs.declared.lanes.Lane.TheVariants.{Deliver, Order}
 use Rattle.sched_run.specs.declared.lanes.Taker.{Taker}
@@ -180,9 +179,13 @@ unless_at_fault most events (fault ∷ faults) = Err fault
 abbrev pub made_within : Wiring → Data → (seed most : ℕ) → Result (List Event) MakeFault
 made_within w given seed most = unless_at_fault most (generated w given seed most) (faults_in w given (take most (generated w given seed most)))
 
+-- the most events of a schedule that is made
+abbrev pub event_limit : ℕ
+event_limit = 1000000
+
 -- a schedule has at most a million events
 unfoldable pub made_of : Wiring → Data → (seed : ℕ) → Result (List Event) MakeFault
-made_of w given seed = made_within w given seed MAX_EVENTS
+made_of w given seed = made_within w given seed event_limit
 
 -- all events are legal, each when it comes, and after them nothing is left to deliver, to order or to take
 pub record LeavesNothing (w : Wiring) (given : Data) (events : List Event) : Type 0 where

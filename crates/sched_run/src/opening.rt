@@ -1,8 +1,8 @@
 //! How a net is opened: each source emits what it holds, and each instance has its shell and nothing else.
-ghost use Rattle.std.specs.Prelude.{◌≡◌, ◌++◌, ℕ, [], Err, IfOk, OnErr, map, replicate};
+ghost use Rattle.std.specs.Prelude.{◌≡◌, ◌++◌, ℕ, [], Err, IfOk, OnOk, OnErr, map, replicate};
 ghost use Rattle.std.specs.List.Sorted.{IsPermutation};
 ghost use Rattle.topo_types.specs.Data.{IsData};
-ghost use Rattle.sched_bench.specs.Bench.{fault_of_opening, OpensAs};
+ghost use Rattle.sched_bench.specs.Bench.{fault_of_opening, OpensAs, fits_component, instance_components, taken_by, left_by};
 ghost use Rattle.sched_run.specs.Code.First.{StandFirst};
 ghost use Rattle.sched_hear.specs.Net.{Stands};
 ghost use Rattle.sched_bench.specs.declared.fault.OpenFault.TheVariants.{NoBody, NoShell};
@@ -68,8 +68,11 @@ impl<'a> Net<'a> {
         ensures stands { IfOk result (λ net. Stands valid.now.view given [] (map (λ b. loaded b) net.shells.items) (map (λ b. kept b) net.shells.items) net.books) }
         ensures valid { IfOk result (λ net. net.valid.now ≡ valid.now) }
 
-        // Shells come off the bench, and are neither made nor lost.
+        // Shells come off the bench, and are neither made nor lost: instance by instance the first that fits
+        // and is left, and all others stay in their order, as they were.
         ensures kinds { IfOk result (λ net. IsPermutation (map (λ b. kind b) bench.old.items) (map (λ b. kind b) bench.new.items ++ map (λ b. kind b) net.shells.items)) }
+        ensures taken { IfOk result (λ net. map (λ b. kind b) net.shells.items ≡ map (λ b. kind b) (taken_by (fits_component valid.now.view (λ b. kind b)) (instance_components valid.now.view) bench.old.items)) }
+        ensures left { OnOk result (bench.new.items ≡ left_by (fits_component valid.now.view (λ b. kind b)) (instance_components valid.now.view) bench.old.items) }
         ensures no_body { (c : ℕ) → result ≡ Err (NoBody c) → bench.new.items ≡ bench.old.items }
         ensures no_shell { (c : ℕ) → result ≡ Err (NoShell c) → bench.new.items ≡ bench.old.items }
         ensures err { OnErr result (IsPermutation (map (λ b. kind b) bench.old.items) (map (λ b. kind b) bench.new.items)) }

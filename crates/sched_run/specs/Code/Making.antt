@@ -12,7 +12,7 @@ use Rattle.inbox.specs.Growth.{Continues}
 use Rattle.inbox.specs.Wiring.{Wiring, wiring_of}
 use Rattle.sched_run.specs.Applying.{Line, steps_of}
 use Rattle.sched_lists.specs.Limits.{Limit, too_many_rows, too_many_messages, limit_of_event}
-use Rattle.sched_run.specs.Made.{after_turns, limit_at_place, made_of, open_works, execution_after, AnswersSo}
+use Rattle.sched_run.specs.Made.{event_limit, after_turns, limit_at_place, made_of, open_works, execution_after, AnswersSo}
 use Rattle.sched_run.specs.Making.{events_of, CountFromOne}
 use Rattle.sched_hear.specs.Net.{Stands, execution_in}
 use Rattle.sched_run.specs.Code.Works.{AreWorksOf, AreShown}
@@ -21,7 +21,6 @@ use Rattle.emitted.specs.declared.fault.EventFault.{EventFault}
 use Rattle.emitted.specs.declared.fault.EventFault.TheVariants as event_fault
 use Rattle.sched_run.specs.declared.fault.MakeFault.{MakeFault}
 use Rattle.sched_run.specs.declared.fault.MakeFault.TheVariants.{TooManyEvents, TooManyRows, TooManyMessages, NoMemory}
-use Rattle.sched_run.specs.declared.limits.TheConstants.{MAX_EVENTS}
 use Rattle.sched_run.specs.declared.making.Making.{Making}
 
 -- ---- faults
@@ -82,13 +81,13 @@ pub record IsDue (v : View) (loaded : List (Option Program)) (tables : List Sets
 
 -- the event after these meets a limit, and isn't one too many
 pub record MeetsLimit (w : Wiring) (given : Data) (before : List Event) (e : Event) (limit : Limit) : Type 0 where
-  pub few : length before < MAX_EVENTS
+  pub few : length before < event_limit
   pub meets : limit_of_event w given e (execution_after w given before) ≡ Some limit
 
 -- why the event after these isn't done
 abbrev pub FailsAt : Wiring → Data → (before : List Event) → Event → MakeFault → Type 0
 FailsAt w given before e NoMemory = Unit {0}
-FailsAt w given before e TooManyEvents = length before ≡ MAX_EVENTS
+FailsAt w given before e TooManyEvents = length before ≡ event_limit
 FailsAt w given before e (TooManyRows number) = (number ≡ suc (length before)) × MeetsLimit w given before e too_many_rows
 FailsAt w given before e (TooManyMessages number) = (number ≡ suc (length before)) × MeetsLimit w given before e too_many_messages
 

@@ -12,18 +12,18 @@ pub returns-in_err-event-clause-applies : goal.returns-in_err-event-clause-appli
 returns-in_err-event-clause-applies g c = applies_none _ _ _ _ _ _ _ _ (work_event c.args.work.now) c.from_residual.result c.from_residual.ensures.1
 
 pub fault_at-requires : goal.fault_at-requires
-fault_at-requires g c = legal_fault _ _ _ _ _ _ _ c.event-2.result c.in-Err.fault c.requires.legal c.in_ok-event.ensures.event c.event-2.ensures.answer c.in-Err.is
+fault_at-requires g c = legal_fault _ _ _ _ _ _ _ c.event.result c.in-Err.fault c.requires.legal c.in_ok-event.ensures.event c.event.ensures.answer c.in-Err.is
 
 pub returns-in-Err-clause-applies : goal.returns-in-Err-clause-applies
 returns-in-Err-clause-applies g c =
-    applies_fault _ _ _ [] _ c.args.net.now.books _ [] (work_event c.args.work.now) c.in_ok-event.event _ c.in_ok-event.ensures.event c.event-2.result c.event-2.ensures.answer c.in-Err.fault c.fault_at.result c.in-Err.is c.fault_at.ensures (omega arith) (omega arith)
+    applies_fault _ _ _ [] _ c.args.net.now.books _ [] (work_event c.args.work.now) c.in_ok-event.event _ c.in_ok-event.ensures.event c.event.result c.event.ensures.answer c.in-Err.fault c.fault_at.result c.in-Err.is c.fault_at.ensures (omega arith) (omega arith)
 
 pub returns-in_err-push-clause-applies : goal.returns-in_err-push-clause-applies
 returns-in_err-push-clause-applies g c = applies_none _ _ _ _ _ _ _ _ (work_event c.args.work.now) c.from_residual-in_err-push.result c.from_residual-in_err-push.ensures.1
 
 pub returns-clause-applies : goal.returns-clause-applies
 returns-clause-applies g c =
-    applies_done _ _ _ _ _ _ _ _ (work_event c.args.work.now) c.in_ok-event.event _ c.in_ok-event.ensures.event c.event-2.result c.event-2.ensures.answer c.in_default.field-0 c.in_default.is c.event-2.ensures.leaves c.in_ok-push.ensures.items
+    applies_done _ _ _ _ _ _ _ _ (work_event c.args.work.now) c.in_ok-event.event _ c.in_ok-event.ensures.event c.event.result c.event.ensures.answer c.in_default.field-0 c.in_default.is c.event.ensures.leaves c.in_ok-push.ensures.items
 
 pub returns-clause-lines : goal.returns-clause-lines
 returns-clause-lines g c = subst AreLines (sym c.in_ok-push.ensures.items) (line_more c.args.lines.now.items _ c.in_ok-event.event c.requires.lines (omega arith) (omega arith) c.in_ok-event.ensures.printable)

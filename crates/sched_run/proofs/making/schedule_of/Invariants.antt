@@ -1,9 +1,9 @@
 -- whatever data the net stood for at first, it has turned; and each turn adds an event at least
 use Rattle.std.proofs.Common.{◌≡◌, ◌-◌, [], map, length}
 use Rattle.topo_types.specs.Data.{Data}
+use Rattle.sched_run.specs.Made.{event_limit}
 use Rattle.sched_run.specs.Code.Making.{HasTurned, IsReady}
 use Rattle.sched_hear.specs.Net.{Stands}
-use Rattle.sched_run.specs.declared.limits.TheConstants.{MAX_EVENTS}
 use Rattle.sched_run.proofs.making.schedule_of.Given as goal
 
 abbrev pub invariant-loop-making : goal.invariant-loop-making
@@ -18,4 +18,4 @@ invariant-loop-making g l = record {
 }
 
 abbrev pub decreases-loop-making : goal.decreases-loop-making
-decreases-loop-making g l = MAX_EVENTS - length l.making.lines.items
+decreases-loop-making g l = event_limit - length l.making.lines.items

@@ -3,14 +3,14 @@ use Rattle.sched_run.specs.Code.Works.{AreWorksOf, AreShown, HasNames, IsOpenWor
 use Rattle.sched_run.proofs.NetRead.{of_own, of_read}
 use Rattle.sched_run.proofs.making.work_at.Goals as goal
 
-pub find-requires-clause-runs : goal.find-requires-clause-runs
-find-requires-clause-runs g c = of_read BooksRun _ _ _ _ c.valid.ensures c.books.ensures c.requires.runs
+pub find-work-requires-clause-runs : goal.find-work-requires-clause-runs
+find-work-requires-clause-runs g c = of_read BooksRun _ _ _ _ c.valid.ensures c.books.ensures c.requires.runs
 
-pub find-requires-clause-works : goal.find-requires-clause-works
-find-requires-clause-works g c = of_read (λ v b. AreWorksOf v c.args.works.now) _ _ _ _ c.valid.ensures c.books.ensures c.requires.works
+pub find-work-requires-clause-works : goal.find-work-requires-clause-works
+find-work-requires-clause-works g c = of_read (λ v b. AreWorksOf v c.args.works.now) _ _ _ _ c.valid.ensures c.books.ensures c.requires.works
 
-pub find-requires-clause-shown : goal.find-requires-clause-shown
-find-requires-clause-shown g c = of_read (λ v b. AreShown v b c.args.works.now) _ _ _ _ c.valid.ensures c.books.ensures c.requires.shown
+pub find-work-requires-clause-shown : goal.find-work-requires-clause-shown
+find-work-requires-clause-shown g c = of_read (λ v b. AreShown v b c.args.works.now) _ _ _ _ c.valid.ensures c.books.ensures c.requires.shown
 
 pub returns-clause-numbered : goal.returns-clause-numbered
 returns-clause-numbered g c = of_own (λ v b. IsOpenWork v b c.args.number c.find-work.result.1) _ _ _ _ c.valid.ensures c.books.ensures c.find-work.ensures.numbered

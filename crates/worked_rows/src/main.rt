@@ -23,20 +23,23 @@
 //! The lines in front of the first heading say what the rows show.
 #![tactic(auto)]
 
-mod benches;
-mod modules;
 mod question;
-mod shells;
-mod shown;
 
 use crate::question::{Question, bytes_of};
-use anyhow::Result;
+use anyhow::{Result, bail};
+use blz_boxes::{LatestShell, NumberShell, PlainShell, SplitShell};
 use std::alloc::Global;
 use std::env;
+use worked_calls::{PoorShell, TellingShell};
 
-// The headings of a text of rows, each with the text below it.
+// The bench of rows that name none: four shells for modules, and sixteen of each stock body.
+const USUAL_BENCH: &str =
+    "bench plain plain plain plain split split split split split split split split split split split split split split split split latest latest latest latest latest latest latest latest latest latest latest latest latest latest latest latest number number number number number number number number number number number number number number number number";
+
+// The headings of a text of rows, each with the text below it; the first is that of the usual bench.
 fn sections<'a>(alloc: Global, text: &'a str) -> Result<Vec<(&'a str, String)>> {
     let mut sections: Vec<(&str, String)> = Vec::new(alloc);
+    sections.push((USUAL_BENCH, String::new(alloc)))?;
     for line in text.lines() {
         if let Some(heading) = line.strip_prefix("== ") {
             sections.push((heading, String::new(alloc)))?;
@@ -93,11 +96,29 @@ fn compared(
 fn right_rows(rt: &HostRuntime, name: &str) -> Result<(u64, u64)> {
     let bytes = bytes_of(rt, name)?;
     let text = str::from_utf8(bytes.as_slice())?;
-    let mut asked = Question::new(rt.alloc())?;
+    let alloc = rt.alloc();
+    let mut asked = Question::new(alloc)?;
     let (mut right, mut all) = (0u64, 0u64);
-    for (heading, below) in &sections(rt.alloc(), text)? {
+    for (heading, below) in &sections(alloc, text)? {
         let kind_and_rest = heading.split_once(' ').unwrap_or((*heading, ""));
-        if let Some(is_right) = compared(rt, &mut asked, kind_and_rest, below.as_str())? {
+        let (kind, rest) = kind_and_rest;
+        if kind == "bench" {
+            asked.bench.clear();
+            // Who owns a bench makes its shells: no function hands one out.
+            for word in rest.split(' ') {
+                match word {
+                    "plain" => asked.bench.push(Box::new(alloc, PlainShell::new(alloc))?)?,
+                    "split" => asked.bench.push(Box::new(alloc, SplitShell::new(alloc))?)?,
+                    "latest" => asked.bench.push(Box::new(alloc, LatestShell::new(alloc))?)?,
+                    "number" => asked.bench.push(Box::new(alloc, NumberShell::new(alloc))?)?,
+                    "telling" => asked
+                        .bench
+                        .push(Box::new(alloc, TellingShell::new(alloc))?)?,
+                    "poor" => asked.bench.push(Box::new(alloc, PoorShell::new(alloc))?)?,
+                    _ => bail!("no shell is {word}"),
+                }
+            }
+        } else if let Some(is_right) = compared(rt, &mut asked, kind_and_rest, below.as_str())? {
             all = all.wrapping_add(1);
             right = right.wrapping_add(is_right as u64);
         } else if !asked.heed(rt, kind_and_rest, below.as_str())? {

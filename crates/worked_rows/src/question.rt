@@ -1,11 +1,10 @@
 //! What the rows of a file ask, heading by heading, and the answer to it.
-use crate::benches::{bench_of, usual_bench};
-use crate::shown::shown;
 use anyhow::Result;
 use blazes_cli::{Status, blazes};
 use blz_boxes::Component;
 use blz_outside::{Files, MemFiles, MemSink, RealFiles, Sink};
 use std::alloc::Global;
+use worked_calls::shown;
 
 // The most bytes of a file of rows, of a file beside it, and of what is written where no other room is
 // given.
@@ -21,7 +20,8 @@ pub(crate) struct Question {
     is_shown: bool,
     failing: u64,
     room: usize,
-    bench: Vec<Box<dyn Component>>,
+    /// The shells that the program is lent, as the last answer left them.
+    pub(crate) bench: Vec<Box<dyn Component>>,
 }
 
 impl Question {
@@ -128,7 +128,6 @@ impl Question {
             "hold" => self.hold_answer(alloc, rest)?,
             "fail" => self.failing = rest.parse::<u64>()?,
             "room" => self.room = rest.parse::<usize>()?,
-            "bench" => self.bench = bench_of(alloc, rest)?,
             _ => return Ok(false),
         }
         Ok(true)

@@ -189,12 +189,19 @@ fn pair(alloc: Global, first: Value, second: i64) -> Result<Record, AllocError>
 fn puts_and_question(alloc: Global) -> Result<Arrivals>
     ensures { IfOk result (AreSetsOf (port_columns (Latest (codes "word" ∷ codes "n" ∷ []) (0 ∷ [])))) }
 {
-    let one = pair(alloc, text_value(alloc, "a")?, 1)?;
-    let two = pair(alloc, text_value(alloc, "a")?, 2)?;
+    let puts = puts(alloc)?;
     let asked = Record::from_values(vec![in alloc; text_value(alloc, "a")?]?);
-    let puts = RecordSet::from_rows(vec![in alloc; one, two]?)?;
     let asks = RecordSet::from_rows(vec![in alloc; asked]?)?;
     Ok(Arrivals::from_sets(vec![in alloc; puts, asks]?))
+}
+
+// The records ("a", 1) and ("a", 2).
+fn puts(alloc: Global) -> Result<RecordSet>
+    ensures { IfOk result (All (λ row. length row ≡ 2)) }
+{
+    let one = pair(alloc, text_value(alloc, "a")?, 1)?;
+    let two = pair(alloc, text_value(alloc, "a")?, 2)?;
+    Ok(RecordSet::from_rows(vec![in alloc; one, two]?)?)
 }
 
 // What arrives at the one port of a program.

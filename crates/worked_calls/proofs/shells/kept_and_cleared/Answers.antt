@@ -1,6 +1,6 @@
 use Rattle.std.proofs.Common.{◌≡◌, ◌<◌, Some, length, arith, ◌∙◌, sym, subst}
 use Rattle.blz_boxes.proofs.Tables.{emptied_tables}
-use Rattle.worked_rows.proofs.shells.kept_and_cleared.Goals as goal
+use Rattle.worked_calls.proofs.shells.kept_and_cleared.Goals as goal
 
 pub show_kept-requires-2-clause-table : goal.show_kept-requires-2-clause-table
 show_kept-requires-2-clause-table g c =

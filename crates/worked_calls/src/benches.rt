@@ -1,51 +1,12 @@
-//! Benches of shells for the rows, with two shells that the program hasn't: one that tells what it kept,
-//! and one that has no memory.
+//! Two shells that the program hasn't: one that tells what it kept, and one that has no memory.
 ghost use Rattle.std.specs.Prelude.{IsSome};
 
-use anyhow::{Result, bail};
 use bloom_ast::Program;
 use bloom_eval::{Arrivals, Outs, StepFault};
-use blz_boxes::{Component, LatestShell, NumberShell, PlainShell, SplitShell};
+use blz_boxes::{Component, LatestShell, PlainShell};
 use blz_set::RecordSet;
 use blz_value::write_record;
 use std::alloc::{AllocError, Global};
-
-/// Four shells for modules, and sixteen of each stock body.
-pub(crate) fn usual_bench(alloc: Global) -> Result<Vec<Box<dyn Component>>> {
-    let mut bench = Vec::new(alloc);
-    for number in 0..16 {
-        if number < 4 {
-            push_shell(alloc, "plain", &mut bench)?;
-        }
-        for word in ["split", "latest", "number"] {
-            push_shell(alloc, word, &mut bench)?;
-        }
-    }
-    Ok(bench)
-}
-
-/// The shells of these words, with a blank between two.
-pub(crate) fn bench_of(alloc: Global, words: &str) -> Result<Vec<Box<dyn Component>>> {
-    let mut bench = Vec::new(alloc);
-    for word in words.split(' ') {
-        push_shell(alloc, word, &mut bench)?;
-    }
-    Ok(bench)
-}
-
-// Adds the shell of a word.
-fn push_shell(alloc: Global, word: &str, bench: &mut Vec<Box<dyn Component>>) -> Result<()> {
-    match word {
-        "plain" => bench.push(Box::new(alloc, PlainShell::new(alloc))?)?,
-        "split" => bench.push(Box::new(alloc, SplitShell::new(alloc))?)?,
-        "latest" => bench.push(Box::new(alloc, LatestShell::new(alloc))?)?,
-        "number" => bench.push(Box::new(alloc, NumberShell::new(alloc))?)?,
-        "telling" => bench.push(Box::new(alloc, TellingShell::new(alloc))?)?,
-        "poor" => bench.push(Box::new(alloc, PoorShell::new(alloc))?)?,
-        _ => bail!("no shell is {word}"),
-    }
-    Ok(())
-}
 
 // Whether a loaded shell of Latest keeps the second put of the word `a` alone.
 fn keeps_second_put(alloc: Global, shell: &LatestShell) -> Result<bool, AllocError>
@@ -60,17 +21,18 @@ fn keeps_second_put(alloc: Global, shell: &LatestShell) -> Result<bool, AllocErr
     Ok(text.as_slice() == b"(\"a\", 2)".as_slice())
 }
 
-// A shell of Latest that wants memory when it is loaded again, where it kept the second put after its
-// last step. So a second run tells what the first one left in it.
+/// A shell of Latest that wants memory when it is loaded again, where it kept the second put after its
+/// last step. So a second run tells what the first one left in it.
 #[derive(Drop)]
-struct TellingShell {
+pub struct TellingShell {
     alloc: Global,
     inner: LatestShell,
     kept_second_put: bool,
 }
 
 impl TellingShell {
-    fn new(alloc: Global) -> TellingShell {
+    /// One that isn't loaded.
+    pub fn new(alloc: Global) -> TellingShell {
         TellingShell {
             alloc,
             inner: LatestShell::new(alloc),
@@ -113,14 +75,15 @@ impl Component for TellingShell {
     }
 }
 
-// A shell for modules that wants memory at each step.
+/// A shell for modules that wants memory at each step.
 #[derive(Drop)]
-struct PoorShell {
+pub struct PoorShell {
     inner: PlainShell,
 }
 
 impl PoorShell {
-    fn new(alloc: Global) -> PoorShell {
+    /// One that isn't loaded.
+    pub fn new(alloc: Global) -> PoorShell {
         PoorShell {
             inner: PlainShell::new(alloc),
         }

@@ -2,10 +2,10 @@
 ghost use Rattle.std.specs.Prelude.{◌≤◌, IfOk, vec_len};
 ghost use Rattle.topo_types.specs.Data.{IsData};
 
-use crate::benches::usual_bench;
 use crate::modules::module_shown;
 use crate::shells::shells_shown;
 use anyhow::{Result, bail, ensure};
+use blz_boxes::{Component, LatestShell, NumberShell, PlainShell, SplitShell};
 use blz_outside::{End, Files, MemFiles};
 use command_checks::valid_topology;
 use coord_synth::{order_plan, seal_plan};
@@ -29,7 +29,7 @@ const FILE_LIMIT: usize = 16_777_216;
 /// - `shells FILE`: what two shells put out and keep, one of them with the module of the file.
 /// - a further word and FILE: what [`module_shown`] shows of the text of a module.
 /// - `placed TOPOLOGY DATA SCHEDULE`: how many records the net keeps after the schedule.
-pub(crate) fn shown(alloc: Global, words: &[String], files: &mut MemFiles) -> Result<Vec<u8>> {
+pub fn shown(alloc: Global, words: &[String], files: &mut MemFiles) -> Result<Vec<u8>> {
     match words {
         [kind, name] => file_shown(alloc, kind.as_str(), name.as_str(), files),
         [_, topology, given, schedule] => {
@@ -133,7 +133,13 @@ fn placed(
 fn placed_after(alloc: Global, valid: &Valid, given: Data, lines: &[(u32, Event)]) -> Result<usize>
     requires { IsData valid.now.view given }
 {
-    let mut bench = usual_bench(alloc)?;
+    let mut bench: Vec<Box<dyn Component>> = Vec::new(alloc);
+    for _ in 0..4 {
+        bench.push(Box::new(alloc, PlainShell::new(alloc))?)?;
+        bench.push(Box::new(alloc, SplitShell::new(alloc))?)?;
+        bench.push(Box::new(alloc, LatestShell::new(alloc))?)?;
+        bench.push(Box::new(alloc, NumberShell::new(alloc))?)?;
+    }
     let mut net = Net::open(alloc, valid, given, &mut bench)?;
     match apply(&mut net, lines) {
         Ok(()) => Ok(net.placed()),

@@ -27,7 +27,7 @@ pub(crate) struct Question {
 impl Question {
     /// No files and no words.
     pub(crate) fn new(alloc: Global) -> Result<Question> {
-        let bench = usual_bench(alloc)?;
+        let bench = Vec::new(alloc);
         let folder = String::from_str(alloc, ".")?;
         Ok(Question {
             files: Vec::new(alloc),

@@ -3,9 +3,9 @@
 #![tactic(auto)]
 
 mod benches;
+mod calls;
 mod modules;
 mod shells;
-mod shown;
 
 pub use benches::{PoorShell, TellingShell};
-pub use shown::shown;
+pub use calls::shown;

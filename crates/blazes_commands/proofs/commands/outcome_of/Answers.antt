@@ -3,7 +3,7 @@ use Rattle.std.proofs.lemmas.List.Sorted.{IsPermutation-refl}
 use Rattle.blazes_commands.specs.Bench.{bench_states}
 use Rattle.blazes_commands.specs.Code.Ran.{RepliesTo}
 use Rattle.blazes_words.specs.Requests.{asked_by, shard_shown}
-use Rattle.blazes_commands.specs.Ends.{files_states, source}
+use Rattle.command_files.specs.Ends.{files_states, source}
 use Rattle.blazes_words.specs.Words.{IsWithin}
 use Rattle.blazes_words.specs.declared.words.Request.{Request}
 use Rattle.blazes_commands.proofs.CommandLemmas.{kept_anyway}

@@ -3,7 +3,7 @@ use Rattle.topo_types.specs.Valid.{Validated}
 use Rattle.topo_types.specs.View.{View}
 use Rattle.sched_hear.specs.Net.{Stands, BooksRun}
 use Rattle.worked_calls.proofs.NetRuns.{runs_after}
-use Rattle.worked_calls.proofs.shown.placed_after.Goals as goal
+use Rattle.worked_calls.proofs.calls.placed_after.Goals as goal
 
 pub placed-requires : goal.placed-requires
 placed-requires g c =

@@ -1,11 +1,11 @@
 //! What the rows themselves show, of calls that the program doesn't make.
-ghost use Rattle.std.specs.Prelude.{◌≤◌, IfOk, vec_len};
+ghost use Rattle.std.specs.Prelude.{◌≤◌, IfOk, length, vec_len};
 ghost use Rattle.topo_types.specs.Data.{IsData};
 
 use crate::modules::module_shown;
 use crate::shells::shells_shown;
 use anyhow::{Result, bail, ensure};
-use blz_boxes::{Component, LatestShell, NumberShell, PlainShell, SplitShell};
+use blz_boxes::{Component, PlainShell, SplitShell};
 use blz_outside::{End, Files, MemFiles};
 use command_checks::valid_topology;
 use coord_synth::{order_plan, seal_plan};
@@ -33,10 +33,12 @@ pub fn shown(alloc: Global, words: &[String], files: &mut MemFiles) -> Result<Ve
     match words {
         [kind, name] => file_shown(alloc, kind.as_str(), name.as_str(), files),
         [_, topology, given, schedule] => {
-            let valid = valid_of(alloc, topology.as_str(), files)?;
-            let given = given_of(alloc, &valid, given.as_str(), files)?;
-            let count = placed(alloc, &valid, given, schedule.as_str(), files)?;
-            Ok(format!(in alloc; "{count}\n")?.into_bytes())
+            placed_shown(
+                alloc,
+                topology.as_str(),
+                (given.as_str(), schedule.as_str()),
+                files,
+            )
         }
         _ => bail!("nothing is shown for so many words"),
     }
@@ -63,13 +65,22 @@ fn valid_of(alloc: Global, name: &str, files: &mut MemFiles) -> Result<Valid> {
 // What is shown of one file.
 fn file_shown(alloc: Global, kind: &str, name: &str, files: &mut MemFiles) -> Result<Vec<u8>> {
     match kind {
-        "written" => written(alloc, &bytes_in(alloc, name, files)?),
-        "seals" => seal_text(alloc, &valid_of(alloc, name, files)?),
-        "sequencers" => order_text(alloc, &valid_of(alloc, name, files)?),
-        "printed" => printed(alloc, &bytes_in(alloc, name, files)?),
-        "event" => event_shown(alloc, &bytes_in(alloc, name, files)?),
-        "shells" => shells_shown(alloc, &bytes_in(alloc, name, files)?),
-        _ => module_shown(alloc, kind, &bytes_in(alloc, name, files)?),
+        "seals" => seal_text(alloc, name, files),
+        "sequencers" => order_text(alloc, name, files),
+        _ => bytes_shown(alloc, kind, &bytes_in(alloc, name, files)?),
+    }
+}
+
+// What is shown of the bytes of one file.
+fn bytes_shown(alloc: Global, kind: &str, bytes: &[u8]) -> Result<Vec<u8>>
+    requires { length bytes.now ≤ FILE_LIMIT }
+{
+    match kind {
+        "written" => written(alloc, bytes),
+        "printed" => printed(alloc, bytes),
+        "event" => event_shown(alloc, bytes),
+        "shells" => shells_shown(alloc, bytes),
+        _ => module_shown(alloc, kind, bytes),
     }
 }
 
@@ -79,12 +90,14 @@ fn written(alloc: Global, text: &[u8]) -> Result<Vec<u8>> {
     Ok(write(alloc, &topology)?)
 }
 
-fn seal_text(alloc: Global, valid: &Valid) -> Result<Vec<u8>> {
-    plan_text(alloc, &seal_plan(alloc, valid)?)
+fn seal_text(alloc: Global, name: &str, files: &mut MemFiles) -> Result<Vec<u8>> {
+    let valid = valid_of(alloc, name, files)?;
+    plan_text(alloc, &seal_plan(alloc, &valid)?)
 }
 
-fn order_text(alloc: Global, valid: &Valid) -> Result<Vec<u8>> {
-    plan_text(alloc, &order_plan(alloc, valid)?)
+fn order_text(alloc: Global, name: &str, files: &mut MemFiles) -> Result<Vec<u8>> {
+    let valid = valid_of(alloc, name, files)?;
+    plan_text(alloc, &order_plan(alloc, &valid)?)
 }
 
 fn plan_text(alloc: Global, planned: &Valid) -> Result<Vec<u8>> {
@@ -115,17 +128,26 @@ fn given_of(alloc: Global, valid: &Valid, name: &str, files: &mut MemFiles) -> R
     Ok(data_read::read(alloc, &text, valid)?.copy()?)
 }
 
-// How many records a net over these data keeps, once the events of a schedule happened.
+// How many records a net keeps over the data of a file, once the events of a schedule happened.
+fn placed_shown(
+    alloc: Global,
+    topology: &str,
+    names: (&str, &str),
+    files: &mut MemFiles,
+) -> Result<Vec<u8>> {
+    let valid = valid_of(alloc, topology, files)?;
+    let count = placed(alloc, &valid, names, files)?;
+    Ok(format!(in alloc; "{count}\n")?.into_bytes())
+}
+
 fn placed(
     alloc: Global,
     valid: &Valid,
-    given: Data,
-    name: &str,
+    names: (&str, &str),
     files: &mut MemFiles,
-) -> Result<usize>
-    requires { IsData valid.now.view given }
-{
-    let schedule = sched_text::read(alloc, &bytes_in(alloc, name, files)?)?;
+) -> Result<usize> {
+    let given = given_of(alloc, valid, names.0, files)?;
+    let schedule = sched_text::read(alloc, &bytes_in(alloc, names.1, files)?)?;
     placed_after(alloc, valid, given, schedule.lines())
 }
 
@@ -134,11 +156,9 @@ fn placed_after(alloc: Global, valid: &Valid, given: Data, lines: &[(u32, Event)
     requires { IsData valid.now.view given }
 {
     let mut bench: Vec<Box<dyn Component>> = Vec::new(alloc);
-    for _ in 0..4 {
+    bench.push(Box::new(alloc, SplitShell::new(alloc))?)?;
+    for _ in 0..8 {
         bench.push(Box::new(alloc, PlainShell::new(alloc))?)?;
-        bench.push(Box::new(alloc, SplitShell::new(alloc))?)?;
-        bench.push(Box::new(alloc, LatestShell::new(alloc))?)?;
-        bench.push(Box::new(alloc, NumberShell::new(alloc))?)?;
     }
     let mut net = Net::open(alloc, valid, given, &mut bench)?;
     match apply(&mut net, lines) {

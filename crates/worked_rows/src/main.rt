@@ -27,7 +27,9 @@ mod question;
 
 use crate::question::{Question, bytes_of};
 use anyhow::{Result, bail};
-use blz_boxes::{LatestShell, NumberShell, PlainShell, SplitShell};
+use blazes_cli::Status;
+use blz_boxes::{Component, LatestShell, NumberShell, PlainShell, SplitShell};
+use blz_outside::MemSink;
 use std::alloc::Global;
 use std::env;
 use worked_calls::{PoorShell, TellingShell};
@@ -61,11 +63,18 @@ fn push_line(line: &str, text: &mut String) -> Result<()> {
     Ok(())
 }
 
-// Whether the answer has this status and this text, as far as there is room; one that differs is shown.
-fn answers(rt: &HostRuntime, asked: &mut Question, status: &str, text: &[u8]) -> Result<bool> {
-    let (ended, out) = asked.answer(rt.alloc())?;
+// Whether what was answered has this status and this text, as far as there is room; one that differs is
+// shown.
+fn is_right(
+    rt: &HostRuntime,
+    room: usize,
+    answered: &(Status, MemSink),
+    status: &str,
+    text: &[u8],
+) -> Result<bool> {
+    let (ended, out) = answered;
     let ended = format!(in rt.alloc(); "{ended:?}")?;
-    let front = text.get(..asked.room()).unwrap_or(text);
+    let front = text.get(..room).unwrap_or(text);
     let is_right = ended.as_str() == status && out.bytes() == front;
     if !is_right {
         let written = str::from_utf8(out.bytes()).unwrap_or("bytes that are no text\n");
@@ -74,21 +83,25 @@ fn answers(rt: &HostRuntime, asked: &mut Question, status: &str, text: &[u8]) ->
     Ok(is_right)
 }
 
-// Whether the answer is as a heading says; None where it doesn't speak of one.
+// Whether what was answered is as a heading says; where it says `hold`, it is held, and nothing is compared.
 fn compared(
     rt: &HostRuntime,
     asked: &mut Question,
+    answered: &(Status, MemSink),
     heading: (&str, &str),
     below: &str,
 ) -> Result<Option<bool>> {
     match heading {
-        ("answer", status) => Ok(Some(answers(rt, asked, status, below.as_bytes())?)),
+        ("hold", name) => {
+            asked.hold(rt.alloc(), name, answered.1.bytes())?;
+            Ok(None)
+        }
         ("writes", rest) => {
             let (status, name) = rest.split_once(' ').unwrap_or((rest, ""));
             let text = asked.text_of(rt, name)?;
-            Ok(Some(answers(rt, asked, status, text.as_slice())?))
+            Ok(Some(is_right(rt, asked.room(), answered, status, text.as_slice())?))
         }
-        _ => Ok(None),
+        (_, status) => Ok(Some(is_right(rt, asked.room(), answered, status, below.as_bytes())?)),
     }
 }
 
@@ -98,31 +111,42 @@ fn right_rows(rt: &HostRuntime, name: &str) -> Result<(u64, u64)> {
     let text = str::from_utf8(bytes.as_slice())?;
     let alloc = rt.alloc();
     let mut asked = Question::new(alloc)?;
+    let mut bench: Vec<Box<dyn Component>> = Vec::new(alloc);
     let (mut right, mut all) = (0u64, 0u64);
     for (heading, below) in &sections(alloc, text)? {
         let kind_and_rest = heading.split_once(' ').unwrap_or((*heading, ""));
         let (kind, rest) = kind_and_rest;
-        if kind == "bench" {
-            asked.bench.clear();
-            // Who owns a bench makes its shells: no function hands one out.
-            for word in rest.split(' ') {
-                match word {
-                    "plain" => asked.bench.push(Box::new(alloc, PlainShell::new(alloc))?)?,
-                    "split" => asked.bench.push(Box::new(alloc, SplitShell::new(alloc))?)?,
-                    "latest" => asked.bench.push(Box::new(alloc, LatestShell::new(alloc))?)?,
-                    "number" => asked.bench.push(Box::new(alloc, NumberShell::new(alloc))?)?,
-                    "telling" => asked
-                        .bench
-                        .push(Box::new(alloc, TellingShell::new(alloc))?)?,
-                    "poor" => asked.bench.push(Box::new(alloc, PoorShell::new(alloc))?)?,
-                    _ => bail!("no shell is {word}"),
+        match kind {
+            "bench" => {
+                bench.clear();
+                // Who owns a bench makes its shells: no function hands one out.
+                for word in rest.split(' ') {
+                    match word {
+                        "plain" => bench.push(Box::new(alloc, PlainShell::new(alloc))?)?,
+                        "split" => bench.push(Box::new(alloc, SplitShell::new(alloc))?)?,
+                        "latest" => bench.push(Box::new(alloc, LatestShell::new(alloc))?)?,
+                        "number" => bench.push(Box::new(alloc, NumberShell::new(alloc))?)?,
+                        "telling" => bench.push(Box::new(alloc, TellingShell::new(alloc))?)?,
+                        "poor" => bench.push(Box::new(alloc, PoorShell::new(alloc))?)?,
+                        _ => bail!("no shell is {word}"),
+                    }
                 }
             }
-        } else if let Some(is_right) = compared(rt, &mut asked, kind_and_rest, below.as_str())? {
-            all = all.wrapping_add(1);
-            right = right.wrapping_add(is_right as u64);
-        } else if !asked.heed(rt, kind_and_rest, below.as_str())? {
-            println!(rt; "no heading: {heading}")?;
+            "answer" | "writes" | "hold" => {
+                let answered = if asked.is_shown() {
+                    asked.shown(alloc)?
+                } else {
+                    asked.answer(alloc, &mut bench)?
+                };
+                let found = compared(rt, &mut asked, &answered, kind_and_rest, below.as_str())?;
+                all = all.wrapping_add(found.is_some() as u64);
+                right = right.wrapping_add((found == Some(true)) as u64);
+            }
+            _ => {
+                if !asked.heed(rt, kind_and_rest, below.as_str())? {
+                    println!(rt; "no heading: {heading}")?;
+                }
+            }
         }
     }
     Ok((right, all))

@@ -11,7 +11,7 @@ use worked_calls::shown;
 const TEXT_LIMIT: usize = 65_536;
 
 /// What rows ask: files, of which the first with a name counts, and words, of the program or of the rows
-/// themselves; the folder for further files, the read that fails, the room of the sink, and the bench.
+/// themselves; the folder for further files, the read that fails, and the room of the sink.
 #[derive(Drop)]
 pub(crate) struct Question {
     files: Vec<(String, Vec<u8>)>,
@@ -20,14 +20,11 @@ pub(crate) struct Question {
     is_shown: bool,
     failing: u64,
     room: usize,
-    /// The shells that the program is lent, as the last answer left them.
-    pub(crate) bench: Vec<Box<dyn Component>>,
 }
 
 impl Question {
     /// No files and no words.
     pub(crate) fn new(alloc: Global) -> Result<Question> {
-        let bench = Vec::new(alloc);
         let folder = String::from_str(alloc, ".")?;
         Ok(Question {
             files: Vec::new(alloc),
@@ -36,7 +33,6 @@ impl Question {
             is_shown: false,
             failing: 0,
             room: TEXT_LIMIT,
-            bench,
         })
     }
 
@@ -45,8 +41,8 @@ impl Question {
         self.room
     }
 
-    // Holds a file, in place of another of this name.
-    fn hold(&mut self, alloc: Global, name: &str, text: &[u8]) -> Result<()> {
+    /// Holds a file, in place of another of this name.
+    pub(crate) fn hold(&mut self, alloc: Global, name: &str, text: &[u8]) -> Result<()> {
         let file = (
             String::from_str(alloc, name)?,
             Vec::from_slice(alloc, text)?,
@@ -76,12 +72,6 @@ impl Question {
     fn hold_beside(&mut self, rt: &HostRuntime, name: &str) -> Result<()> {
         let text = self.beside(rt, name)?;
         self.hold(rt.alloc(), name, text.as_slice())
-    }
-
-    // Holds what is written as the answer.
-    fn hold_answer(&mut self, alloc: Global, name: &str) -> Result<()> {
-        let (_, out) = self.answer(alloc)?;
-        self.hold(alloc, name, out.bytes())
     }
 
     // The bytes of a file of the folder.
@@ -125,7 +115,6 @@ impl Question {
             "more" => self.hold_more(alloc, rest, below)?,
             "ask" => self.ask(alloc, rest, false)?,
             "show" => self.ask(alloc, rest, true)?,
-            "hold" => self.hold_answer(alloc, rest)?,
             "fail" => self.failing = rest.parse::<u64>()?,
             "room" => self.room = rest.parse::<usize>()?,
             _ => return Ok(false),
@@ -143,24 +132,31 @@ impl Question {
         Ok(MemFiles::new(files, vec![in alloc; self.failing]?))
     }
 
-    // Writes what the program answers, or what the rows themselves show.
-    fn write(&mut self, alloc: Global, files: &mut MemFiles, out: &mut MemSink) -> Result<Status> {
-        if !self.is_shown {
-            return Ok(blazes(alloc, &self.words, files, out, &mut self.bench));
-        }
-        let text = shown(alloc, &self.words, files)?;
-        match out.put(text.as_slice()) {
-            Ok(()) => Ok(Status::Done),
-            Err(_) => Ok(Status::WriteFault),
-        }
+    /// Whether the rows themselves answer, and not the program.
+    pub(crate) fn is_shown(&self) -> bool {
+        self.is_shown
     }
 
-    /// The status that the program ends with, and what it writes; or what the rows themselves show.
-    pub(crate) fn answer(&mut self, alloc: Global) -> Result<(Status, MemSink)> {
+    /// The status that the program ends with over shells of this bench, and what it writes.
+    pub(crate) fn answer(
+        &self,
+        alloc: Global,
+        bench: &mut Vec<Box<dyn Component>>,
+    ) -> Result<(Status, MemSink)> {
         let mut files = self.copied(alloc)?;
         let mut out = MemSink::new(alloc, self.room)?;
-        let status = self.write(alloc, &mut files, &mut out)?;
+        let status = blazes(alloc, &self.words, &mut files, &mut out, bench);
         Ok((status, out))
+    }
+
+    /// What the rows themselves show, and whether there was room for it.
+    pub(crate) fn shown(&self, alloc: Global) -> Result<(Status, MemSink)> {
+        let mut out = MemSink::new(alloc, self.room)?;
+        let text = shown(alloc, &self.words, &mut self.copied(alloc)?)?;
+        match out.put(text.as_slice()) {
+            Ok(()) => Ok((Status::Done, out)),
+            Err(_) => Ok((Status::WriteFault, out)),
+        }
     }
 }
 

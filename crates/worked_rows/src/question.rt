@@ -3,7 +3,7 @@ use anyhow::Result;
 use blazes_cli::{Status, blazes};
 use blz_boxes::Component;
 use blz_outside::{Files, MemFiles, MemSink, RealFiles, Sink};
-use std::alloc::Global;
+use std::alloc::{AllocError, Global};
 use worked_calls::shown;
 
 // The most bytes of a file of rows, of a file beside it, and of what is written where no other room is
@@ -123,7 +123,7 @@ impl Question {
     }
 
     // The files once more.
-    fn copied(&self, alloc: Global) -> Result<MemFiles> {
+    fn copied(&self, alloc: Global) -> Result<MemFiles, AllocError> {
         let mut files = Vec::new(alloc);
         for (name, text) in &self.files {
             let name = String::from_str(alloc, name.as_str())?;
@@ -142,7 +142,7 @@ impl Question {
         &self,
         alloc: Global,
         bench: &mut Vec<Box<dyn Component>>,
-    ) -> Result<(Status, MemSink)> {
+    ) -> Result<(Status, MemSink), AllocError> {
         let mut files = self.copied(alloc)?;
         let mut out = MemSink::new(alloc, self.room)?;
         let status = blazes(alloc, &self.words, &mut files, &mut out, bench);

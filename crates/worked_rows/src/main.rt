@@ -27,7 +27,7 @@ mod question;
 
 use crate::question::{Question, bytes_of};
 use anyhow::{Result, bail};
-use blazes_cli::Status;
+use blazes_cli::{Status, blazes};
 use blz_boxes::{Component, LatestShell, NumberShell, PlainShell, SplitShell};
 use blz_outside::MemSink;
 use std::alloc::Global;
@@ -136,7 +136,10 @@ fn right_rows(rt: &HostRuntime, name: &str) -> Result<(u64, u64)> {
                 let answered = if asked.is_shown() {
                     asked.shown(alloc)?
                 } else {
-                    asked.answer(alloc, &mut bench)?
+                    let mut files = asked.copied(alloc)?;
+                    let mut out = MemSink::new(alloc, asked.room())?;
+                    let status = blazes(alloc, asked.words(), &mut files, &mut out, &mut bench);
+                    (status, out)
                 };
                 let found = compared(rt, &mut asked, &answered, kind_and_rest, below.as_str())?;
                 all = all.wrapping_add(found.is_some() as u64);

@@ -1,7 +1,6 @@
 //! What the rows of a file ask, heading by heading, and the answer to it.
 use anyhow::Result;
-use blazes_cli::{Status, blazes};
-use blz_boxes::Component;
+use blazes_cli::Status;
 use blz_outside::{Files, MemFiles, MemSink, RealFiles, Sink};
 use std::alloc::{AllocError, Global};
 use worked_calls::shown;
@@ -122,8 +121,8 @@ impl Question {
         Ok(true)
     }
 
-    // The files once more.
-    fn copied(&self, alloc: Global) -> Result<MemFiles, AllocError> {
+    /// The files once more, for an answer.
+    pub(crate) fn copied(&self, alloc: Global) -> Result<MemFiles, AllocError> {
         let mut files = Vec::new(alloc);
         for (name, text) in &self.files {
             let name = String::from_str(alloc, name.as_str())?;
@@ -137,16 +136,9 @@ impl Question {
         self.is_shown
     }
 
-    /// The status that the program ends with over shells of this bench, and what it writes.
-    pub(crate) fn answer(
-        &self,
-        alloc: Global,
-        bench: &mut Vec<Box<dyn Component>>,
-    ) -> Result<(Status, MemSink), AllocError> {
-        let mut files = self.copied(alloc)?;
-        let mut out = MemSink::new(alloc, self.room)?;
-        let status = blazes(alloc, &self.words, &mut files, &mut out, bench);
-        Ok((status, out))
+    /// The words of the command line.
+    pub(crate) fn words(&self) -> &[String] {
+        &self.words
     }
 
     /// What the rows themselves show, and whether there was room for it.

@@ -11,12 +11,7 @@ use Rattle.inbox.specs.Executions.{Execution, contents, execution_of_events, exe
 use Rattle.inbox.specs.Completeness.{IsComplete}
 use Rattle.inbox.specs.Events.{Event, Step}
 
--- steps that are legal reach this execution
-pub record IsReached (w : Wiring) (given : Data) (x : Execution) : Type 0 where
-  pub steps : List Step
-  pub legal : execution_of w given steps ≡ Ok x
-
--- and it is complete
+-- steps that are legal reach this execution, and it is complete
 pub record IsCompleted (w : Wiring) (given : Data) (x : Execution) : Type 0 where
   pub steps : List Step
   pub legal : execution_of w given steps ≡ Ok x

@@ -10,7 +10,6 @@ use Rattle.topo_types.specs.Graph.{is_cyclic_set}
 use Rattle.topo_types.specs.Modes.{entry_with_mode}
 use Rattle.topo_types.specs.Regions.{edges, regions}
 use Rattle.fd_closure.specs.Bits.{members}
-use Rattle.topo_types.specs.Valid.{Validated}
 use Rattle.topo_types.specs.View.{View, Component, is_order, is_order_mode, is_replicated, mode_of, component_with_mode, port_numbers, streams_from, with_mode}
 use Rattle.label_rules.specs.declared.label.Label.{Label}
 use Rattle.label_rules.specs.Label.{severity}
@@ -116,7 +115,3 @@ order_planned v = planned_by (record { keys = false; orders = true }) v
 -- a topology with the modes of a view
 abbrev pub topology_with_modes : Topology → View → Topology
 topology_with_modes t v = record t { components = map (λ c. entry_with_mode v.attributes (mode_of v c.0) c.1) (enumerate_from 0 t.components) }
-
--- the planned topology, as it is written and by numbers
-abbrev pub planned_topology : Steps → Validated → Validated
-planned_topology steps seen = record { topology = topology_with_modes seen.topology (planned_by steps seen.view); view = planned_by steps seen.view }

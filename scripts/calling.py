@@ -29,9 +29,9 @@ def report(*words, incomplete=False):
     try:
         done = subprocess.run([PROGRAM, *words], stdout=subprocess.PIPE)
     except OSError as fault:
-        end(f"{PROGRAM}: {fault.strerror}")
+        end(f"{PROGRAM}: {fault.strerror or fault}")
     if done.returncode != 0 and not (incomplete and done.returncode == INCOMPLETE):
-        end(done.stdout)
+        end(done.stdout or f"{PROGRAM}: it ended with the status {done.returncode}")
     return done.stdout
 
 

@@ -5,8 +5,10 @@ where there is none, since the words are wrong or the program refused what it wa
 program said then stands on standard error.
 """
 import os
+import re
 import subprocess
 import sys
+import tempfile
 
 YES, NO, NO_ANSWER = 0, 1, 2
 
@@ -24,15 +26,63 @@ def end(why):
     sys.exit(NO_ANSWER)
 
 
+def checked(text, status, incomplete):
+    """The text, where the status says that it is a report. It may be incomplete where that is said."""
+    if status != 0 and not (incomplete and status == INCOMPLETE):
+        end(text or f"{PROGRAM}: it ended with the status {status}")
+    return text
+
+
 def report(*words, incomplete=False):
-    """What the program writes for these words. It may be incomplete where that is said."""
+    """What the program writes for these words."""
     try:
         done = subprocess.run([PROGRAM, *words], stdout=subprocess.PIPE)
     except OSError as fault:
         end(f"{PROGRAM}: {fault.strerror or fault}")
-    if done.returncode != 0 and not (incomplete and done.returncode == INCOMPLETE):
-        end(done.stdout or f"{PROGRAM}: it ended with the status {done.returncode}")
-    return done.stdout
+    return checked(done.stdout, done.returncode, incomplete)
+
+
+def reports(calls, incomplete=False):
+    """What the program writes for each list of words; where there is no build, all of them in one."""
+    if os.environ.get("BLAZES") or is_proved():
+        return [report(*words, incomplete=incomplete) for words in calls]
+    return unproved(calls, incomplete)
+
+
+def is_proved():
+    return subprocess.run([os.path.join(ROOT, "scripts", "proved")], stdout=subprocess.PIPE).returncode == 0
+
+
+def unproved(calls, incomplete):
+    """Runs each call as a case of one unproved run. They run in a folder of their own, so files are named
+    whole, and modules laid there."""
+    script = os.path.basename(sys.argv[0])
+    print(f"{script}: unproved runs, in one build of two minutes or more", file=sys.stderr)
+    flags = []
+    for file in {word for words in calls for word in words if os.path.isfile(word)}:
+        with open(file, "rb") as opened:
+            for name in re.findall(rb"""["']?module["']?\s*=\s*["'](.*?)["']""", opened.read()):
+                name = name.decode()
+                if os.path.isfile(name) and not os.path.isabs(name):
+                    flags += ["--data", f"{name}={os.path.abspath(name)}"]
+    with tempfile.TemporaryDirectory() as folder:
+        for number, words in enumerate(calls):
+            words = [os.path.abspath(word) if os.path.isfile(word) else word for word in words]
+            for name, text in ((f"{number}", ""), (f"{number}.args", "".join(f"{word}\n" for word in words))):
+                with open(os.path.join(folder, name), "w") as file:
+                    file.write(text)
+        words = ["rt", "try", "--seconds", "600", "--cases", folder, *flags]
+        crate = os.path.join(ROOT, "crates", "blazes")
+        try:
+            done = subprocess.run(words, cwd=crate, stdin=subprocess.DEVNULL, capture_output=True)
+        except OSError as fault:
+            end(f"rt: {fault.strerror or fault}")
+    texts = dict(re.findall(rb"^== (\d+)\n((?:(?!== ).*\n)*)", done.stdout, re.M))
+    statuses = dict(re.findall(rb"^case=(\d+) run=ended status=(\d+) ", done.stderr, re.M))
+    if len(statuses) != len(calls):
+        end(done.stderr + b"the run failed\n")
+    numbers = [b"%d" % number for number in range(len(calls))]
+    return [checked(texts.get(number, b""), int(statuses[number]), incomplete) for number in numbers]
 
 
 def read_topology(name):

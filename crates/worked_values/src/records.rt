@@ -1,57 +1,82 @@
-//! Worked rows of the record order, of tests over records and of texts.
-ghost use Rattle.std.specs.Prelude.{◌≡◌, ◌∷◌, [], IfOk};
+//! The record order, tests over records, and texts.
 ghost use Rattle.blz_value.specs.Test.{TestFits};
+ghost use Rattle.std.specs.Prelude.{◌≡◌, IfOk, length};
 
+use crate::lines::Lines;
 use blz_value::{
     Op, Operand, Record, Str, Test, Value, compare, holds, write_escaped, write_record, write_value,
 };
 use std::alloc::{AllocError, Global};
-use std::test::Fail;
 
-fn text_value(alloc: Global, text: &str) -> Result<Value, AllocError> {
-    Ok(Value::Text(Str::from_text(alloc, text)?))
+// A value, as it is written here.
+#[derive(Clone, Copy)]
+enum Cell {
+    Number(i64),
+    Text(&'static str),
 }
 
-fn single(alloc: Global, value: Value) -> Result<Record, AllocError>
-    ensures { IfOk result (λ row. row ≡ value ∷ []) }
-{
-    let mut values = Vec::new(alloc);
-    values.push(value)?;
-    Ok(Record::from_values(values))
+fn value_of(alloc: Global, cell: Cell) -> Result<Value, AllocError> {
+    match cell {
+        Cell::Number(number) => Ok(Value::Int(number)),
+        Cell::Text(text) => Ok(Value::Text(Str::from_text(alloc, text)?)),
+    }
 }
 
-fn pair(alloc: Global, first: Value, second: Value) -> Result<Record, AllocError> {
+fn record_of(alloc: Global, cells: &[Cell]) -> Result<Record, AllocError> {
     let mut values = Vec::new(alloc);
-    values.push(first)?;
-    values.push(second)?;
+    for cell in cells {
+        values.push(value_of(alloc, *cell)?)?;
+    }
     Ok(Record::from_values(values))
 }
 
 // Records in ascending order.
+const ASCENDING: [&'static [Cell]; 11] = [
+    &[],
+    &[Cell::Number(-1)],
+    &[Cell::Number(-1), Cell::Number(-7)],
+    &[Cell::Number(2)],
+    &[Cell::Number(10)],
+    &[Cell::Text("")],
+    &[Cell::Text("a")],
+    &[Cell::Text("a"), Cell::Number(1)],
+    &[Cell::Text("ab")],
+    &[Cell::Text("z")],
+    &[Cell::Text("\u{e9}")],
+];
+
 fn ascending(alloc: Global) -> Result<Vec<Record>, AllocError> {
     let mut rows = Vec::new(alloc);
-    rows.push(Record::from_values(Vec::new(alloc)))?;
-    rows.push(single(alloc, Value::Int(-1))?)?;
-    rows.push(pair(alloc, Value::Int(-1), Value::Int(-7))?)?;
-    rows.push(single(alloc, Value::Int(2))?)?;
-    rows.push(single(alloc, Value::Int(10))?)?;
-    rows.push(single(alloc, text_value(alloc, "")?)?)?;
-    rows.push(single(alloc, text_value(alloc, "a")?)?)?;
-    rows.push(pair(alloc, text_value(alloc, "a")?, Value::Int(1))?)?;
-    rows.push(single(alloc, text_value(alloc, "ab")?)?)?;
-    rows.push(single(alloc, text_value(alloc, "z")?)?)?;
-    rows.push(single(alloc, text_value(alloc, "\u{e9}")?)?)?;
+    for cells in ASCENDING {
+        rows.push(record_of(alloc, cells)?)?;
+    }
     Ok(rows)
 }
 
-#[test]
-fn records_stand_in_record_order(rt: HostRuntime) -> Result<(), Fail> {
-    let rows = ascending(rt.alloc())?;
-    for (i, a) in rows.iter().enumerate() {
-        for (j, b) in rows.iter().enumerate() {
-            assert_eq!(rt; compare(a, b), i.cmp(&j), "rows {i} and {j}");
+// How many of these stand against a record otherwise than their places against its own.
+fn out_of_order(rows: &[Record], place: usize, row: &Record) -> u32 {
+    let mut count = 0u32;
+    for (other, beside) in rows.iter().enumerate() {
+        if compare(row, beside) != place.cmp(&other) {
+            count = count.saturating_add(1);
         }
-        assert!(rt; a.copy()? == *a, "row {i}");
+    }
+    count
+}
+
+fn show_row(lines: &mut Lines, row: &Record) -> Result<(), AllocError> {
+    let alloc = lines.alloc();
+    let copy = row.copy()?;
+    let mut shown = Vec::new(alloc);
+    write_record(alloc, &copy, &mut shown)?;
+    lines.push("ascending", &shown)
+}
+
+fn show_order(lines: &mut Lines) -> Result<(), AllocError> {
+    let rows = ascending(lines.alloc())?;
+    for (place, row) in rows.iter().enumerate() {
+        show_row(lines, row)?;
+        lines.number("out of order", i64::from(out_of_order(&rows, place, row)))?;
     }
     Ok(())
 }
@@ -66,44 +91,61 @@ fn compared(op: Op) -> Test
     }
 }
 
-#[test]
-fn comparisons_hold_by_the_order_of_values(rt: HostRuntime) -> Result<(), Fail> {
-    let table = [
-        (Op::Eq, [false, true, false]),
-        (Op::Ne, [true, false, true]),
-        (Op::Lt, [true, false, false]),
-        (Op::Le, [true, true, false]),
-        (Op::Gt, [false, false, true]),
-        (Op::Ge, [false, true, true]),
-    ];
-    for (op, [less, equal, greater]) in table {
-        for (number, expected) in [(0, less), (1, equal), (2, greater)] {
-            let row = single(rt.alloc(), Value::Int(number))?;
-            assert_eq!(rt;
-                holds(&compared(op), &row),
-                expected,
-                "{op:?} of {number} and 1"
-            );
-        }
+// The record of a number alone.
+fn single(alloc: Global, number: i64) -> Result<Record, AllocError>
+    ensures { IfOk result (λ row. length row ≡ 1) }
+{
+    let mut values = Vec::new(alloc);
+    values.push(Value::Int(number))?;
+    Ok(Record::from_values(values))
+}
+
+// Whether the test holds of a number.
+fn holds_of(alloc: Global, op: Op, number: i64) -> Result<bool, AllocError> {
+    let row = single(alloc, number)?;
+    Ok(holds(&compared(op), &row))
+}
+
+// Whether the test holds of 0, of 1 and of 2.
+fn show_test(lines: &mut Lines, name: &str, op: Op) -> Result<(), AllocError> {
+    for number in [0, 1, 2] {
+        let is_so = holds_of(lines.alloc(), op, number)?;
+        lines.test(name, is_so)?;
     }
     Ok(())
 }
 
-#[test]
-fn texts_of_records_are_escaped(rt: HostRuntime) -> Result<(), Fail> {
-    let odd = text_value(rt.alloc(), "a\"b\\c\n\u{1f}\u{7f}\u{e9}")?;
-    let row = pair(rt.alloc(), Value::Int(-9223372036854775808), odd)?;
-    let mut text = Vec::new(rt.alloc());
-    write_record(rt.alloc(), &row, &mut text)?;
-    let expected = "(-9223372036854775808, \"a\\\"b\\\\c\\x0a\\x1f\\x7f\u{e9}\")";
-    assert_eq!(rt; text.as_slice(), expected.as_bytes());
-    write_value(rt.alloc(), &Value::Int(0), &mut text)?;
-    write_escaped(rt.alloc(), "x\ty", &mut text)?;
-    write_record(
-        rt.alloc(),
-        &Record::from_values(Vec::new(rt.alloc())),
-        &mut text,
-    )?;
-    assert!(rt; text.ends_with(b"\")0x\\x09y()"));
+fn show_tests(lines: &mut Lines) -> Result<(), AllocError> {
+    for (name, op) in [
+        ("= 1", Op::Eq),
+        ("!= 1", Op::Ne),
+        ("< 1", Op::Lt),
+        ("<= 1", Op::Le),
+        ("> 1", Op::Gt),
+        (">= 1", Op::Ge),
+    ] {
+        show_test(lines, name, op)?;
+    }
     Ok(())
+}
+
+fn push_texts(alloc: Global, row: &Record, into: &mut Vec<u8>) -> Result<(), AllocError> {
+    write_record(alloc, row, into)?;
+    write_value(alloc, &Value::Int(0), into)?;
+    write_escaped(alloc, "x\ty", into)
+}
+
+fn show_texts(lines: &mut Lines) -> Result<(), AllocError> {
+    let odd = Cell::Text("a\"b\\c\n\u{1f}\u{7f}\u{e9}");
+    let row = record_of(lines.alloc(), &[Cell::Number(i64::MIN), odd])?;
+    let mut shown = Vec::new(lines.alloc());
+    push_texts(lines.alloc(), &row, &mut shown)?;
+    lines.push("escaped", &shown)
+}
+
+/// Shows records, tests and texts.
+pub(crate) fn show(lines: &mut Lines) -> Result<(), AllocError> {
+    show_order(lines)?;
+    show_tests(lines)?;
+    show_texts(lines)
 }

@@ -1,7 +1,7 @@
 use Rattle.std.proofs.Common.{◌≡◌, All, sym, subst, length, List}
 use Rattle.blz_value.specs.Record.{Row}
 use Rattle.blz_value.proofs.RowSets.{All-set_of}
-use Rattle.worked_values.proofs.sets.lefts.Goals as goal
+use Rattle.worked_values.proofs.sets.pairs.Goals as goal
 
 pub returns : goal.returns
 returns c =

@@ -7,4 +7,5 @@ mod StartLemmas
 mod CountLemmas
 mod TrialLemmas
 mod KeptLemmas
+mod ChosenLemmas
 mod FirstLemmas

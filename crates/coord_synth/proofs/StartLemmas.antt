@@ -27,7 +27,7 @@ use Rattle.topo_types.proofs.Views.ViewNumbers.{site_entry, length_components}
 use Rattle.topo_types.proofs.Views.ViewParts.{sites, attributes, seen, at_component}
 use Rattle.label_walk.proofs.Loops.{below_more}
 use Rattle.coord_steps.specs.Plan.{freed, freed_component, topology_with_modes}
-use Rattle.coord_synth.specs.Code.Start.{free_component, is_free_mode}
+use Rattle.coord_synth.specs.Code.Start.{free_component}
 use Rattle.coord_synth.specs.Code.Written.{IsWritten}
 use Rattle.coord_synth.proofs.TrialLemmas.{set_own}
 use Rattle.coord_synth.proofs.WrittenLemmas.{entry_at, count_entries}
@@ -233,15 +233,6 @@ module _ (now : Validated) where
         let entries = sym (set_own now.topology.components c no_entry (entry_with_mode v.attributes Free entry) (sym written)) in
         let components = sym (set_own v.components c no_component (component_with_mode Free (component_at v c)) (λ i. component_with_mode (own i) (component_at v c))) in
         λ i. record { topology = record now.topology { components = entries i }; view = record v { components = components i } }
-
-    pub free_is : (c : ℕ) → c < length v.components → is_free_mode (mode_of v c) ≡ true → now ≡ free_component now c
-    free_is c lc free = by (mode_of v c) refl free
-      where
-        by : (m : Mode) → mode_of v c ≡ m → is_free_mode m ≡ true → now ≡ free_component now c
-        by Free is free = free_stays c lc is ∙ ap (λ (m : Mode). if is_order_mode m then now else validated_with_mode now c Free) (sym is)
-        by (Pass key) is free = absurd (true≢false (sym free))
-        by (Seal key) is free = absurd (true≢false (sym free))
-        by Order is free = absurd (true≢false (sym free))
 
     free_written : (d : ℕ) → d < length now.topology.components → free_entry d ≡ entry_with_mode v.attributes (if is_order v d then Order else Free) (get_or now.topology.components d no_entry)
     free_written d lt = by (is_order v d) refl

@@ -4,7 +4,7 @@ use Rattle.std.proofs.lemmas.Bool.{true≢false}
 use Rattle.fd_closure.specs.declared.attrs.Attrs.{Attrs}
 use Rattle.topo_types.specs.declared.mode.Mode.{Mode}
 use Rattle.topo_types.specs.declared.mode.Mode.TheVariants.{Free, Pass, Seal, Order}
-use Rattle.topo_types.specs.Laws.{IsKeyOf, CanHaveMode, validated_with_mode}
+use Rattle.topo_types.specs.Laws.{IsKeyOf, CanHaveMode}
 use Rattle.topo_types.specs.Regions.{is_in_cycle}
 use Rattle.topo_types.specs.Valid.{Validated}
 use Rattle.topo_types.specs.View.{View, Component, no_component, component_at, component_with_mode, is_order, is_order_mode, with_mode}
@@ -13,7 +13,6 @@ use Rattle.label_walk.proofs.Tests.{not_so}
 use Rattle.coord_steps.specs.Keys.{IsKeyIn}
 use Rattle.coord_synth.specs.Code.Written.{StaysWritten}
 use Rattle.coord_steps.specs.Plan.{has_order_note, tried_mode, order_member}
-use Rattle.coord_synth.proofs.WrittenLemmas.{written_on}
 
 module _ (v : View) (c : ℕ) (lt : c < length v.components) (free : is_order v c ≡ false) where
   pub can_order : CanHaveMode v c Order
@@ -36,14 +35,8 @@ module _ (v : View) (c : ℕ) (lt : c < length v.components) (free : is_order v 
 
 -- ---- what a mode gives
 
-pub stays_with : (seen next : Validated) (c : ℕ) (m : Mode) → c < length seen.view.components → next ≡ validated_with_mode seen c m → StaysWritten seen next
-stays_with seen next c m lt is = subst (StaysWritten seen) (sym is) (written_on seen c m lt)
-
 pub stays_same : (seen : Validated) → StaysWritten seen seen
 stays_same seen t written = written
-
-pub view_with : (seen next : Validated) (c : ℕ) (m : Mode) → next ≡ validated_with_mode seen c m → next.view ≡ with_mode seen.view c m
-view_with seen next c m is = ap (λ (x : Validated). x.view) is
 
 -- ---- a member of a cyclic region
 

@@ -1,4 +1,5 @@
 -- What only the clauses of private functions speak of.
+pub mod Chosen
 pub mod Regions
 pub mod Shapes
 pub mod Start

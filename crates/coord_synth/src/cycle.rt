@@ -1,23 +1,28 @@
 //! The plan of a cyclic region.
-ghost use Rattle.std.specs.Prelude.{◌≡◌, ◌<◌, ◌&&◌, IfOk, fold, length, not};
+ghost use Rattle.std.specs.Prelude.{◌≡◌, ◌<◌, ◌&&◌, IfOk, fold, length};
+ghost use Rattle.coord_synth.specs.Code.Chosen as chosen;
 ghost use Rattle.coord_synth.specs.Code.Regions as code;
 ghost use Rattle.coord_synth.specs.Code.Written.{StaysWritten};
 ghost use Rattle.coord_steps.specs.Plan as spec;
 ghost use Rattle.label_walk.specs.Paths.{AreComponents, region_at};
 ghost use Rattle.topo_types.specs.Regions as regions;
-ghost use Rattle.topo_types.specs.View as view;
 
+use crate::chosen::with_chosen;
 use coord_steps::{Steps, has_order_note, is_bad};
 use label_walk::{is_order, is_replicated, labels, region_label, region_members};
 use std::alloc::{AllocError, Global};
-use topo_modes::with_mode;
 use topo_types::{Mode, Valid};
 
-fn becomes_order(now: &Valid, component: u32) -> bool
+// Order, where the component has an O note and isn't Order yet.
+fn member_mode(now: &Valid, component: u32) -> Option<Mode>
     requires { component < length now.now.view.components }
-    ensures { result ≡ (spec.has_order_note now.now.view component && not (view.is_order now.now.view component)) }
+    ensures { result ≡ chosen.member_mode now.now.view component }
 {
-    has_order_note(now, component) && !is_order(now, component)
+    if has_order_note(now, component) && !is_order(now, component) {
+        Some(Mode::Order)
+    } else {
+        None
+    }
 }
 
 // The topology in which the component is Order where it has an O note.
@@ -26,11 +31,8 @@ fn order_member(alloc: Global, now: Valid, component: u32) -> Result<Valid, Allo
     ensures view { IfOk result (λ next. next.view ≡ spec.order_member now.view component) }
     ensures written { IfOk result (λ next. StaysWritten now next) }
 {
-    if becomes_order(&now, component) {
-        with_mode(alloc, &now, component, Mode::Order)
-    } else {
-        Ok(now)
-    }
+    let mode = member_mode(&now, component);
+    with_chosen(alloc, now, component, mode)
 }
 
 // The topology in which all of these with an O note are Order.

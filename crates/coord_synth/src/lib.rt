@@ -2,6 +2,7 @@
 //! what arrives in one order.
 #![tactic(auto)]
 
+mod chosen;
 mod component;
 mod cycle;
 mod laws;

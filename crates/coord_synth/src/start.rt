@@ -5,19 +5,19 @@ ghost use Rattle.coord_synth.specs.Code.Written.{IsWritten};
 ghost use Rattle.coord_steps.specs.Plan as spec;
 ghost use Rattle.topo_types.specs.View as view;
 
-use label_walk::is_order;
+use crate::chosen::with_chosen;
 use std::alloc::{AllocError, Global};
 use topo_copy::valid_copy;
-use topo_modes::with_mode;
 use topo_types::{Mode, Valid};
 
-fn is_free(valid: &Valid, component: u32) -> bool
+// Free, where the component has a mode that the plan has to choose anew.
+fn freed_mode(valid: &Valid, component: u32) -> Option<Mode>
     requires { component < length valid.now.view.components }
-    ensures { result ≡ code.is_free_mode (view.mode_of valid.now.view component) }
+    ensures { result ≡ code.freed_mode (view.mode_of valid.now.view component) }
 {
     match valid.mode(component) {
-        Mode::Free => true,
-        Mode::Pass(_) | Mode::Seal(_) | Mode::Order => false,
+        Mode::Pass(_) | Mode::Seal(_) => Some(Mode::Free),
+        Mode::Free | Mode::Order => None,
     }
 }
 
@@ -28,13 +28,8 @@ fn free_component(alloc: Global, now: Valid, component: u32) -> Result<Valid, Al
     ensures { IfOk result (λ next. next ≡ code.free_component now component) }
 {
     now.whole();
-    if is_order(&now, component) {
-        return Ok(now);
-    }
-    if is_free(&now, component) {
-        return Ok(now);
-    }
-    with_mode(alloc, &now, component, Mode::Free)
+    let mode = freed_mode(&now, component);
+    with_chosen(alloc, now, component, mode)
 }
 
 /// The topology in which every component is Free that isn't Order.

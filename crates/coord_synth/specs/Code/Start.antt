@@ -1,16 +1,17 @@
 -- Where a plan begins, component by component.
-use Rattle.std.specs.Prelude.{ℕ, Bool, true, false, if◌then◌else◌}
+use Rattle.std.specs.Prelude.{ℕ, Option, None, Some, if◌then◌else◌}
 use Rattle.topo_types.specs.declared.mode.Mode.{Mode}
 use Rattle.topo_types.specs.declared.mode.Mode.TheVariants.{Free, Pass, Seal, Order}
 use Rattle.topo_types.specs.Laws.{validated_with_mode}
 use Rattle.topo_types.specs.Valid.{Validated}
 use Rattle.topo_types.specs.View.{is_order}
 
-abbrev pub is_free_mode : Mode → Bool
-is_free_mode Free = true
-is_free_mode (Pass key) = false
-is_free_mode (Seal key) = false
-is_free_mode Order = false
+-- Free, where a component has a mode that the plan has to choose anew
+abbrev pub freed_mode : Mode → Option Mode
+freed_mode Free = None
+freed_mode (Pass key) = Some Free
+freed_mode (Seal key) = Some Free
+freed_mode Order = None
 
 -- the component is Free where it isn't Order
 abbrev pub free_component : Validated → (component : ℕ) → Validated

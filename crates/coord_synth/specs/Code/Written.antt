@@ -1,5 +1,5 @@
 -- A topology as it is written, beside its view.
-use Rattle.std.specs.Prelude.{◌≡◌, Option, None, Some}
+use Rattle.std.specs.Prelude.{◌≡◌}
 use Rattle.topo_types.specs.declared.topology.Topology.{Topology}
 use Rattle.topo_types.specs.Valid.{Validated}
 use Rattle.coord_steps.specs.Plan.{topology_with_modes}
@@ -11,8 +11,3 @@ IsWritten t seen = seen.topology ≡ topology_with_modes t seen.view
 -- what was written with the modes of the view is so still
 abbrev pub StaysWritten : Validated → Validated → Type 0
 StaysWritten seen next = (t : Topology) → IsWritten t seen → IsWritten t next
-
--- the topology that comes next: another one, or the same where there is none
-abbrev pub next_of : Validated → Option Validated → Validated
-next_of seen None = seen
-next_of seen (Some next) = next

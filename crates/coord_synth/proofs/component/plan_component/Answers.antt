@@ -1,19 +1,11 @@
--- What is Order stays so.
-use Rattle.std.proofs.Common.{ap, sym, subst, ◌∙◌}
-use Rattle.topo_types.specs.Valid.{Validated}
-use Rattle.coord_synth.specs.Code.Written.{StaysWritten}
-use Rattle.coord_synth.proofs.KeptLemmas.{plan_order, plan_free}
-use Rattle.coord_synth.proofs.TrialLemmas.{stays_same}
+-- What was chosen may be written, and gives what the plan says.
+use Rattle.coord_synth.proofs.ChosenLemmas.{component_fits, component_planned}
 use Rattle.coord_synth.proofs.component.plan_component.Goals as goal
 
-pub returns-then-is_order : goal.returns-then-is_order
-returns-then-is_order c = record {
-  view = plan_order c.args.steps c.args.now.view c.args.component (sym c.is_order.ensures ∙ c.if-is_order.true);
-  written = stays_same c.args.now;
-}
+pub with_chosen-requires : goal.with_chosen-requires
+with_chosen-requires c = component_fits c.args.now c.whole.ensures c.known.ensures c.args.steps c.args.component c.requires.component c.requires.outside c.in_ok-chosen.chosen c.in_ok-chosen.ensures
 
 pub returns : goal.returns
-returns c = record {
-  view = ap (λ (n : Validated). n.view) c.next_or.ensures ∙ c.in_ok-next.ensures.view ∙ plan_free c.args.steps c.args.now.view c.args.component (sym c.is_order.ensures ∙ c.if-is_order.false);
-  written = subst (StaysWritten c.args.now) (sym c.next_or.ensures) c.in_ok-next.ensures.written;
-}
+returns c =
+    let planned = component_planned c.args.now c.whole.ensures c.known.ensures c.args.steps c.args.component c.requires.component c.requires.outside c.in_ok-chosen.chosen c.in_ok-chosen.ensures c.with_chosen.result c.with_chosen.ensures in
+    record { view = planned.view; written = planned.written }

@@ -1,11 +1,15 @@
--- Another mode of a component that isn't Order.
-use Rattle.std.proofs.Common.{sym, ◌∙◌}
-use Rattle.coord_synth.proofs.StartLemmas.{free_is}
-use Rattle.coord_synth.proofs.TrialLemmas.{can_free}
+-- Another mode of a component that is neither Free nor Order.
+use Rattle.std.proofs.Common.{◌≡◌, ◌∙◌}
+use Rattle.std.proofs.lemmas.Result.{IfOk-weaker}
+use Rattle.topo_types.specs.Valid.{Validated}
+use Rattle.coord_synth.specs.Code.Chosen.{with_chosen}
+use Rattle.coord_synth.specs.Code.Start.{free_component}
+use Rattle.coord_synth.proofs.ChosenLemmas.{freed_fits, freed_is}
 use Rattle.coord_synth.proofs.start.free_component.Goals as goal
 
-pub with_mode-requires : goal.with_mode-requires
-with_mode-requires c = can_free c.args.now.view c.args.component c.requires (sym c.is_order.ensures ∙ c.if-is_order.false)
+pub with_chosen-requires : goal.with_chosen-requires
+with_chosen-requires c = freed_fits c.args.now c.whole.ensures c.args.component c.requires c.freed_mode-mode.result c.freed_mode-mode.ensures
 
-pub returns-then-is_free : goal.returns-then-is_free
-returns-then-is_free c = free_is c.args.now c.whole.ensures c.args.component c.requires (sym c.is_free.ensures ∙ c.if-is_free.true)
+pub returns : goal.returns
+returns c = IfOk-weaker c.with_chosen.result (λ n. n ≡ with_chosen c.args.now c.args.component c.freed_mode-mode.result) (λ n. n ≡ free_component c.args.now c.args.component)
+    (λ n is. is ∙ freed_is c.args.now c.whole.ensures c.args.component c.requires c.freed_mode-mode.result c.freed_mode-mode.ensures) c.with_chosen.ensures

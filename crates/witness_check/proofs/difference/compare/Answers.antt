@@ -1,0 +1,29 @@
+use Rattle.std.proofs.Common.{◌≡◌, ◌∙◌, ap, sym, arith, length, get_or}
+use Rattle.witness_check.specs.Difference.{difference_of}
+use Rattle.witness_check.proofs.Places.{stops}
+use Rattle.witness_check.proofs.DifferenceLemmas.{same_length, same_lengths, some_same}
+use Rattle.witness_check.proofs.difference.compare.Goals as goal
+
+pub difference_of-requires-clause-alike : goal.difference_of-requires-clause-alike
+difference_of-requires-clause-alike c =
+    let first = c.as_slice-contents-items.ensures.all in
+    let second = c.as_slice-others.ensures.all in
+    ap length c.as_slice.ensures.all
+    ∙ same_lengths c.args.first.now c.args.second.now c.loop-stream.stream c.contents-item.result c.index-others-stream.result c.requires (omega (arith, ap length first))
+    (c.contents-item.is ∙ ap (λ l. get_or l c.loop-stream.stream c.contents-item.result) first)
+    (c.index-others-stream.is ∙ ap (λ l. get_or l c.loop-stream.stream c.index-others-stream.result) second)
+    ∙ sym (ap length c.as_slice-in-loop-stream.ensures.all)
+
+pub returns-then-is_some-clause-same : goal.returns-then-is_some-clause-same
+returns-then-is_some-clause-same c =
+    let i = c.loop-stream.stream in
+    let x = c.contents-item.result in
+    let y = c.index-others-stream.result in
+    let first = c.as_slice-contents-items.ensures.all in
+    let second = c.as_slice-others.ensures.all in
+    let some = sym c.is_some.ensures ∙ c.if-is_some.true in
+    let own : c.in_ok-found.found ≡ difference_of i x y =
+    c.in_ok-found.ensures.difference ∙ ap (λ rows. difference_of i rows c.as_slice-in-loop-stream.result.now) c.as_slice.ensures.all ∙ ap (difference_of i x) c.as_slice-in-loop-stream.ensures.all in
+    some_same c.args.first.now c.args.second.now c.in_ok-found.found some
+    (stops difference_of c.args.first.now c.args.second.now i x y (omega (arith, ap length first)) (omega (arith, ap length first, same_length c.args.first.now c.args.second.now c.requires))
+    (c.contents-item.is ∙ ap (λ l. get_or l i x) first) (c.index-others-stream.is ∙ ap (λ l. get_or l i y) second) c.in_ok-found.found own some c.loop-stream.invariant)

@@ -1,8 +1,8 @@
 -- The first answer over the places of two lists, place by place, and where it stands.
-use Rattle.std.proofs.Common.{◌≡◌, ◌<◌, ◌≤◌, ◌+◌, ℕ, suc, true, Option, None, Some, is_some, List, [], ◌∷◌, length, get_or, take, drop, refl, ap, ◌∙◌, sym, arith, take_all}
+use Rattle.std.proofs.Common.{◌≡◌, ◌<◌, ◌+◌, ℕ, suc, true, Option, None, Some, is_some, List, [], ◌∷◌, length, get_or, take, drop, refl, ap, ◌∙◌, sym, arith}
 use Rattle.std.specs.List.{slice_get}
 use Rattle.std.specs.Option.{option_or}
-use Rattle.std.proofs.lemmas.List.{drop_more, drop_all, take_more_same}
+use Rattle.std.proofs.lemmas.List.{drop_more}
 use Rattle.witness_check.specs.Difference.{first_answer}
 
 module _ {X Y : Type 0} (answer : ℕ → X → X → Option Y) where
@@ -11,33 +11,16 @@ module _ {X Y : Type 0} (answer : ℕ → X → X → Option Y) where
     pub rest : first_answer answer 0 first second ≡ first_answer answer i (drop i first) (drop i second)
     pub same : take i first ≡ take i second
 
-  pub none_yet : (first second : List X) → HasNone first second 0
-  none_yet first second = record { rest = refl; same = refl }
-
   module _ (first second : List X) (i : ℕ) (x y : X) (there : i < length first) (also : i < length second) (at : x ≡ get_or first i x) (here : y ≡ get_or second i y) where
     from_here : first_answer answer i (drop i first) (drop i second) ≡ option_or (answer i x y) (first_answer answer (i + 1) (drop (i + 1) first) (drop (i + 1) second))
     from_here =
         ap (λ l. first_answer answer i l (drop i second)) (drop_more first i x there ∙ ap (λ (z : X). z ∷ drop (i + 1) first) (sym at))
         ∙ ap (first_answer answer i (x ∷ drop (i + 1) first)) (drop_more second i y also ∙ ap (λ (z : X). z ∷ drop (i + 1) second) (sym here))
 
-    -- one place more without an answer
-    pub one_more : answer i x y ≡ None → x ≡ y → HasNone first second i → HasNone first second (i + 1)
-    one_more none equal so_far = record {
-      rest = so_far.rest ∙ from_here ∙ ap (λ o. option_or o (first_answer answer (i + 1) (drop (i + 1) first) (drop (i + 1) second))) none;
-      same = take_more_same first second i x there also so_far.same (sym at ∙ equal ∙ here ∙ ap (get_or second i) (sym equal));
-    }
-
     -- a place with one
     pub stops : (o : Option Y) → o ≡ answer i x y → is_some o ≡ true → HasNone first second i → o ≡ first_answer answer 0 first second
     stops None e bad so_far = cc
     stops (Some z) e some so_far = sym (so_far.rest ∙ from_here ∙ ap (λ o. option_or o (first_answer answer (i + 1) (drop (i + 1) first) (drop (i + 1) second))) (sym e))
-
-  -- no place has one
-  pub none_at_all : (first second : List X) (i : ℕ) → length first ≤ i → HasNone first second i → None ≡ first_answer answer 0 first second
-  none_at_all first second i past so_far = sym (so_far.rest ∙ ap (λ l. first_answer answer i l (drop i second)) (drop_all i first past))
-
-  pub same_all : (first second : List X) (i : ℕ) → length first ≤ i → length second ≤ i → HasNone first second i → first ≡ second
-  same_all first second i past over so_far = sym (take_all i first past) ∙ so_far.same ∙ take_all i second over
 
   -- the answer is that of a place
   pub record AnswersAt (at : ℕ) (first second : List X) (z : Y) : Type 0 where

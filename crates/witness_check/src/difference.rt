@@ -109,13 +109,13 @@ pub fn compare(first: &Snapshot, second: &Snapshot) -> Result<Option<Difference>
 {
     let others = second.as_slice();
     for (stream, contents) in first.as_slice().iter().enumerate() {
-        let found = difference_of(
+        let difference = difference_of(
             stream as u32,
             contents.as_slice(),
             others[stream].as_slice(),
         )?;
-        if found.is_some() {
-            return Ok(found);
+        if difference.is_some() {
+            return Ok(difference);
         }
     }
     Ok(None)

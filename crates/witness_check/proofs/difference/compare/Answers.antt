@@ -22,8 +22,8 @@ returns-then-is_some-clause-same c =
     let first = c.as_slice-contents-items.ensures.all in
     let second = c.as_slice-others.ensures.all in
     let some = sym c.is_some.ensures ∙ c.if-is_some.true in
-    let own : c.in_ok-found.found ≡ difference_of i x y =
-    c.in_ok-found.ensures.difference ∙ ap (λ rows. difference_of i rows c.as_slice-in-loop-stream.result.now) c.as_slice.ensures.all ∙ ap (difference_of i x) c.as_slice-in-loop-stream.ensures.all in
-    some_same c.args.first.now c.args.second.now c.in_ok-found.found some
+    let own : c.in_ok-difference.difference ≡ difference_of i x y =
+    c.in_ok-difference.ensures.difference ∙ ap (λ rows. difference_of i rows c.as_slice-in-loop-stream.result.now) c.as_slice.ensures.all ∙ ap (difference_of i x) c.as_slice-in-loop-stream.ensures.all in
+    some_same c.args.first.now c.args.second.now c.in_ok-difference.difference some
     (stops difference_of c.args.first.now c.args.second.now i x y (omega (arith, ap length first)) (omega (arith, ap length first, same_length c.args.first.now c.args.second.now c.requires))
-    (c.contents-item.is ∙ ap (λ l. get_or l i x) first) (c.index-others-stream.is ∙ ap (λ l. get_or l i y) second) c.in_ok-found.found own some c.loop-stream.invariant)
+    (c.contents-item.is ∙ ap (λ l. get_or l i x) first) (c.index-others-stream.is ∙ ap (λ l. get_or l i y) second) c.in_ok-difference.difference own some c.loop-stream.invariant)

@@ -1,5 +1,5 @@
 pub mod Trimming
-pub mod PartsOfLists
+pub mod Sublists
 pub mod KeptLemmas
 pub mod OpeningAgain
 pub mod TrialLemmas

@@ -20,8 +20,8 @@ use Rattle.sched_hear.specs.declared.books.Books.{Books}
 use Rattle.sched_run.specs.Applying.{Line, after_lines, steps_of, Applied, AppliesLines}
 use Rattle.sched_run.specs.Reading.{IsRead}
 use Rattle.sched_run.specs.declared.applying.EventRefusal.{EventRefusal}
-use Rattle.why_trace.specs.Trim.{Wanted, has_record, ends_with, yields}
-use Rattle.why_trace.specs.Code.Trials.{Sought, is_enough, Tells}
+use Rattle.why_trace.specs.Trim.{Wanted, has_record, has_at_end, yields}
+use Rattle.why_trace.specs.Code.Trials.{Sought, is_yielded_by, TellsFound}
 
 -- ---- the record among the contents
 
@@ -95,14 +95,14 @@ runs_after v w given lines loaded tables next old new applied same stands applie
 
 -- what is found in it is what the lines end with
 found_where : (sought : Sought) (lines : List Line) (loaded : List (Option Program)) (next : List Sets) (new : Books) (after : Result Execution EventRefusal) (applied : Result (Unit {0}) EventRefusal) (found : Bool)
-    → Applied sought.view sought.given [] loaded next new lines after applied → Tells sought new applied found → found ≡ ends_with sought.view sought.given sought.wanted after
+    → Applied sought.view sought.given [] loaded next new lines after applied → TellsFound sought new applied found → found ≡ has_at_end sought.view sought.given sought.wanted after
 found_where sought lines loaded next new after (Ok done) found reaches tells =
-    tells sought.given ([] ++ steps_of sought.view lines) reaches.stands.books ∙ ap (ends_with sought.view sought.given sought.wanted) (sym reaches.reached)
+    tells sought.given ([] ++ steps_of sought.view lines) reaches.stands.books ∙ ap (has_at_end sought.view sought.given sought.wanted) (sym reaches.reached)
 found_where sought lines loaded next new after (Err refusal) found stops tells =
-    tells.1 ∙ ap (ends_with sought.view sought.given sought.wanted) (sym (stops.0 tells.0))
+    tells.1 ∙ ap (has_at_end sought.view sought.given sought.wanted) (sym (stops.0 tells.0))
 
-pub found_enough : (sought : Sought) (w : View) (lines : List Line) (loaded : List (Option Program)) (tables next : List Sets) (old new : Books) (applied : Result (Unit {0}) EventRefusal) (found : Bool) → w ≡ sought.view
-    → Stands sought.view sought.given [] loaded tables old → AppliesLines w loaded tables next old new lines applied → Tells sought new applied found → found ≡ is_enough sought lines
+pub found_yielded : (sought : Sought) (w : View) (lines : List Line) (loaded : List (Option Program)) (tables next : List Sets) (old new : Books) (applied : Result (Unit {0}) EventRefusal) (found : Bool) → w ≡ sought.view
+    → Stands sought.view sought.given [] loaded tables old → AppliesLines w loaded tables next old new lines applied → TellsFound sought new applied found → found ≡ is_yielded_by sought lines
 unfolding yields
-found_enough sought w lines loaded tables next old new applied found same stands applies tells =
+found_yielded sought w lines loaded tables next old new applied found same stands applies tells =
     found_where sought lines loaded next new (after_lines sought.view sought.given lines first_execution) applied found (made sought.view w sought.given lines loaded tables next old new applied same stands applies) tells

@@ -24,7 +24,7 @@ passes test (suc count) xs = passes test count (one_pass test xs)
 abbrev pub trim_by : {X : Type 0} → (test : List X → Bool) → List X → List X
 trim_by test xs = passes test (length xs) xs
 
--- some of the elements of a list, in their order: its first is left out, or comes first
-abbrev pub IsPart : {X : Type 0} → (part whole : List X) → Type 0
-IsPart part [] = part ≡ []
-IsPart {X} part (x ∷ xs) = IsPart part xs ⊎ ((rest : List X) × (part ≡ x ∷ rest) × IsPart rest xs)
+-- some of the elements of a list, in its order: the first of the list is left out, or comes first
+abbrev pub IsSublist : {X : Type 0} → (kept whole : List X) → Type 0
+IsSublist kept [] = kept ≡ []
+IsSublist {X} kept (x ∷ xs) = IsSublist kept xs ⊎ ((rest : List X) × (kept ≡ x ∷ rest) × IsSublist rest xs)

@@ -25,13 +25,13 @@ abbrev pub has_record : View → Data → Wanted → Execution → Bool
 has_record v given sought x = nat_lt sought.replica (stream_replicas v sought.stream) && list_any (is_same_row sought.row) (contents (wiring_of v) given x sought.stream sought.replica)
 
 -- so it is at the end of lines of which none is refused
-abbrev pub ends_with : View → Data → Wanted → Result Execution EventRefusal → Bool
-ends_with v given sought (Ok x) = has_record v given sought x
-ends_with v given sought (Err refusal) = false
+abbrev pub has_at_end : View → Data → Wanted → Result Execution EventRefusal → Bool
+has_at_end v given sought (Ok x) = has_record v given sought x
+has_at_end v given sought (Err refusal) = false
 
 -- lines yield the record: each event is legal when it comes and meets no limit, and the contents at the end have the record
 unfoldable pub yields : View → Data → Wanted → List Line → Bool
-yields v given sought lines = ends_with v given sought (after_lines v given lines first_execution)
+yields v given sought lines = has_at_end v given sought (after_lines v given lines first_execution)
 
 -- the lines that are needed, with their numbers
 abbrev pub trim : View → Data → Wanted → List Line → List Line

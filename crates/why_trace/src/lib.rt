@@ -1,4 +1,5 @@
-//! The events of a schedule that a record needs: those that are left when all that can be left out are.
+//! The events of a schedule that a record needs: what is left after passes over its lines, each of which
+//! goes where the others still yield the record.
 #![tactic(auto)]
 
 mod copies;

@@ -1,13 +1,13 @@
-//! What a record needs of a schedule: in passes, each from the last line to the first, the lines are left
-//! out without which the others still yield it.
+//! What a record needs of a schedule: in passes, each from the last line to the first, a line is left out
+//! where the others still yield the record.
 ghost use Rattle.std.specs.Prelude.{◌≡◌, ◌<◌, ℕ, IfOk, OnOk, None, length, map, nat_lt, true, false};
 ghost use Rattle.std.specs.List.{remove};
 ghost use Rattle.std.specs.List.Sorted.{IsPermutation};
 ghost use Rattle.sched_bench.specs.Bench.{fault_of_opening};
 ghost use Rattle.topo_types.specs.Data.{IsData};
-ghost use Rattle.why_trace.specs.Passes.{without_needless, one_pass, trim_by, IsPart};
+ghost use Rattle.why_trace.specs.Passes.{without_needless, one_pass, trim_by, IsSublist};
 ghost use Rattle.why_trace.specs.Trim.{wanted, yields, trim};
-ghost use Rattle.why_trace.specs.Code.Trials.{sought_of, is_enough};
+ghost use Rattle.why_trace.specs.Code.Trials.{sought_of, is_yielded_by};
 
 use crate::copies::copies_of_lines;
 use crate::trial::Trial;
@@ -19,7 +19,7 @@ use std::alloc::{AllocError, Global};
 use topo_types::Valid;
 
 impl Trial<'_> {
-    // Leaves the line at a place out where the others are enough.
+    // Leaves the line at a place out where the others yield the record.
     fn leave_out(
         &self,
         lines: &mut Vec<(u32, Event)>,
@@ -29,11 +29,11 @@ impl Trial<'_> {
         requires data { IsData self.now.valid.now.view self.now.given.now }
         requires opens { fault_of_opening self.now.valid.now.view (λ k. k) (map (λ b. kind b) bench.old.items) ≡ None }
         requires there { place < length lines.old.items }
-        ensures lines { OnOk result (lines.new.items ≡ without_needless (is_enough (sought_of self.now)) place lines.old.items) }
+        ensures lines { OnOk result (lines.new.items ≡ without_needless (is_yielded_by (sought_of self.now)) place lines.old.items) }
         ensures kinds { OnOk result (IsPermutation (map (λ b. kind b) bench.old.items) (map (λ b. kind b) bench.new.items)) }
     {
         let line = lines.remove(place);
-        if !self.is_enough(lines, bench)? {
+        if !self.is_yielded_by(lines, bench)? {
             lines.insert(place, line)?;
         }
         Ok(())
@@ -47,7 +47,7 @@ impl Trial<'_> {
     ) -> Result<bool, AllocError>
         requires data { IsData self.now.valid.now.view self.now.given.now }
         requires opens { fault_of_opening self.now.valid.now.view (λ k. k) (map (λ b. kind b) bench.old.items) ≡ None }
-        ensures lines { OnOk result (lines.new.items ≡ one_pass (is_enough (sought_of self.now)) lines.old.items) }
+        ensures lines { OnOk result (lines.new.items ≡ one_pass (is_yielded_by (sought_of self.now)) lines.old.items) }
         ensures fewer { IfOk result (λ fewer. fewer ≡ nat_lt (length lines.new.items) (length lines.old.items)) }
         ensures kinds { OnOk result (IsPermutation (map (λ b. kind b) bench.old.items) (map (λ b. kind b) bench.new.items)) }
     {
@@ -66,7 +66,7 @@ impl Trial<'_> {
     ) -> Result<(), AllocError>
         requires data { IsData self.now.valid.now.view self.now.given.now }
         requires opens { fault_of_opening self.now.valid.now.view (λ k. k) (map (λ b. kind b) bench.old.items) ≡ None }
-        ensures lines { OnOk result (lines.new.items ≡ trim_by (is_enough (sought_of self.now)) lines.old.items) }
+        ensures lines { OnOk result (lines.new.items ≡ trim_by (is_yielded_by (sought_of self.now)) lines.old.items) }
         ensures kinds { OnOk result (IsPermutation (map (λ b. kind b) bench.old.items) (map (λ b. kind b) bench.new.items)) }
     {
         while self.pass(lines, bench)? {}
@@ -74,13 +74,13 @@ impl Trial<'_> {
     }
 }
 
-/// The lines of a schedule that a record at a stream and a sending replica needs, with their numbers: in
-/// passes from the last to the first, each is left out without which the present ones still yield it, until
-/// a pass leaves nothing out. The shells of the bench go back to it, in any order. The error is want of
-/// memory, after which nothing is said of the bench.
+/// The lines of a schedule, with their numbers, that a record at a stream and a sending replica needs.
+/// In passes from the last line to the first, each goes without which the present ones still yield the
+/// record, until a pass leaves nothing out. The shells of the bench go back to it, in any order. The
+/// error is want of memory, after which nothing is said of the bench.
 ///
-/// Each line of each pass takes a trial: a copy of the data, the events up to the first that is refused,
-/// and a copy of the records of the stream's replica.
+/// Each line of each pass takes a trial: a copy of the data, the events up to the first that is
+/// refused, and a copy of the records that the replica has sent.
 pub fn trace(
     alloc: Global,
     valid: &Valid,
@@ -97,11 +97,10 @@ pub fn trace(
 
     ensures trimmed { IfOk result (λ kept. kept ≡ trim valid.now.view given.now (wanted stream replica row.now) schedule.now) }
 
-    // What is kept yields the record, none of it can be left out alone, and it stands in the schedule's
-    // order.
+    // What is kept yields the record, no line of it can go alone, and it is in the schedule's order.
     ensures yields { IfOk result (λ kept. yields valid.now.view given.now (wanted stream replica row.now) kept ≡ true) }
     ensures needed { IfOk result (λ kept. (k : ℕ) → k < length kept → yields valid.now.view given.now (wanted stream replica row.now) (remove kept k) ≡ false) }
-    ensures part { IfOk result (λ kept. IsPart kept schedule.now) }
+    ensures part { IfOk result (λ kept. IsSublist kept schedule.now) }
 
     // As many shells of each kind as before.
     ensures kinds { OnOk result (IsPermutation (map (λ b. kind b) bench.old.items) (map (λ b. kind b) bench.new.items)) }

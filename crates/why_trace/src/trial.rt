@@ -7,7 +7,7 @@ ghost use Rattle.sched_hear.specs.Net.{BooksRun, Stands};
 ghost use Rattle.sched_run.specs.Reading.{IsRead};
 ghost use Rattle.topo_types.specs.Data.{IsData};
 ghost use Rattle.why_trace.specs.Trim.{has_record};
-ghost use Rattle.why_trace.specs.Code.Trials.{sought_of, is_enough, Tells};
+ghost use Rattle.why_trace.specs.Code.Trials.{sought_of, is_yielded_by, TellsFound};
 
 use blz_boxes::Component;
 use blz_value::Record;
@@ -49,8 +49,8 @@ fn found_after(fault: &EventFault) -> Result<bool, AllocError>
     }
 }
 
-/// What each trial goes by: a topology, its data, and the record that is looked for, with its stream
-/// and the sending replica.
+/// What each trial goes by: a topology, its data, and the record that is looked for, with its stream and
+/// the sending replica.
 #[derive(Drop)]
 pub(crate) struct Trial<'a> {
     pub(crate) alloc: Global,
@@ -76,7 +76,7 @@ impl Trial<'_> {
     fn is_found(&self, net: &Net<'_>, applied: Result<(), EventRefusal>) -> Result<bool, AllocError>
         requires same { net.now.valid.now.view ≡ self.now.valid.now.view }
         requires runs { OnOk applied (BooksRun self.now.valid.now.view net.now.books) }
-        ensures { IfOk result (Tells (sought_of self.now) net.now.books applied) }
+        ensures { IfOk result (TellsFound (sought_of self.now) net.now.books applied) }
     {
         match applied {
             Ok(()) => self.is_in(net),
@@ -84,17 +84,17 @@ impl Trial<'_> {
         }
     }
 
-    /// Whether some lines yield the record, by a net of their own with shells of the bench, which go
-    /// back behind the others. Takes a copy of the data, the events up to the first that is refused,
-    /// and a copy of the records of the stream's replica. The error is want of memory.
-    pub(crate) fn is_enough(
+    /// Whether some lines yield the record: they happen on a net of their own with shells of the bench,
+    /// which go back behind the others. Takes a copy of the data, the events up to the first that is
+    /// refused, and a copy of the records that the replica has sent. The error is want of memory.
+    pub(crate) fn is_yielded_by(
         &self,
         lines: &[(u32, Event)],
         bench: &mut Vec<Box<dyn Component>>,
     ) -> Result<bool, AllocError>
         requires data { IsData self.now.valid.now.view self.now.given.now }
         requires opens { fault_of_opening self.now.valid.now.view (λ k. k) (map (λ b. kind b) bench.old.items) ≡ None }
-        ensures found { IfOk result (λ found. found ≡ is_enough (sought_of self.now) lines.now) }
+        ensures found { IfOk result (λ found. found ≡ is_yielded_by (sought_of self.now) lines.now) }
         ensures kinds { OnOk result (IsPermutation (map (λ b. kind b) bench.old.items) (map (λ b. kind b) bench.new.items)) }
     {
         let mut net = opened(self.alloc, self.valid, self.given.copy()?, bench)?;

@@ -21,10 +21,10 @@ abbrev pub sought_of : Trial → Sought
 sought_of trial = record { view = trial.valid.now.view; given = trial.given.now; wanted = wanted trial.stream trial.replica trial.row.now }
 
 -- some lines yield the record
-abbrev pub is_enough : Sought → List Line → Bool
-is_enough sought lines = yields sought.view sought.given sought.wanted lines
+abbrev pub is_yielded_by : Sought → List Line → Bool
+is_yielded_by sought lines = yields sought.view sought.given sought.wanted lines
 
 -- what is found in books to which lines were so applied: the record where the execution has it, and nothing after a refusal
-abbrev pub Tells : Sought → Books → Result (Unit {0}) EventRefusal → Bool → Type 0
-Tells sought b (Ok x) found = IsRead sought.view b (λ given x. has_record sought.view given sought.wanted x) found
-Tells sought b (Err refusal) found = (refusal.fault ≢ NoMemory) × (found ≡ false)
+abbrev pub TellsFound : Sought → Books → Result (Unit {0}) EventRefusal → Bool → Type 0
+TellsFound sought b (Ok x) found = IsRead sought.view b (λ given x. has_record sought.view given sought.wanted x) found
+TellsFound sought b (Err refusal) found = (refusal.fault ≢ NoMemory) × (found ≡ false)

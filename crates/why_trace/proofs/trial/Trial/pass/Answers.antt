@@ -1,7 +1,7 @@
 use Rattle.std.proofs.Common.{◌-◌, ◌∙◌, map, sym, arith}
 use Rattle.std.proofs.lemmas.List.Sorted.{IsPermutation-trans}
 use Rattle.why_trace.specs.Passes.{one_pass}
-use Rattle.why_trace.specs.Code.Trials.{sought_of, is_enough}
+use Rattle.why_trace.specs.Code.Trials.{sought_of, is_yielded_by}
 use Rattle.why_trace.proofs.OpeningAgain.{opening_permuted}
 use Rattle.why_trace.proofs.Trimming.{passed_on, place_inside}
 use Rattle.why_trace.proofs.trial.Trial.pass.Goals as goal
@@ -13,7 +13,7 @@ leave_out-requires-clause-opens g c =
 
 pub loop-place-preserved : goal.loop-place-preserved
 loop-place-preserved g c =
-    let test = is_enough (sought_of c.args.self.now) in
+    let test = is_yielded_by (sought_of c.args.self.now) in
     let place = c.loop-place.place in
     let before = c.loop-place.lines.items in
     let after = c.leave_out.new.lines.items in

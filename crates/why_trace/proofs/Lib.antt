@@ -1,0 +1,6 @@
+pub mod Trimming
+pub mod Sublists
+pub mod KeptLemmas
+pub mod OpeningAgain
+pub mod TrialLemmas
+pub mod WorkedTrims

@@ -1,0 +1,108 @@
+-- A trial answers whether its lines yield the record.
+use Rattle.std.proofs.Common.{◌≡◌, ◌∙◌, ◌++◌, ◌↔◌, ◌<◌, ◌≤◌, ◌&&◌, Bool, true, false, IsTrue, nat_lt, OnOk, List, [], Option, Result, Ok, Err, inl, inr, refl, sym, subst, ap, arith}
+use Rattle.std.specs.List.{list_any}
+use Rattle.std.proofs.lemmas.Bool.{cases_Bool}
+use Rattle.std.proofs.lemmas.Bool.Decides.{nat_tests}
+use Rattle.blz_value.specs.Members.{Has}
+use Rattle.blz_value.specs.Record.{Row}
+use Rattle.blz_value.proofs.Membership.{any_from_Has, Has-from_any}
+use Rattle.bloom_ast.specs.declared.program.Program.{Program}
+use Rattle.bloom_ast.specs.Step.{Sets}
+use Rattle.messages.proofs.MessagesLemmas.{is_same_row-is, is_same_row-itself}
+use Rattle.topo_types.specs.Data.{Data}
+use Rattle.topo_types.specs.Messages.{is_same_row}
+use Rattle.topo_types.specs.View.{View, stream_replicas}
+use Rattle.inbox.specs.Executions.{Execution, first_execution, execution_of, contents}
+use Rattle.inbox.specs.Wiring.{wiring_of}
+use Rattle.inbox.proofs.Executions.Results.{Ok_same}
+use Rattle.sched_hear.specs.Net.{Stands, BooksRun, execution_in}
+use Rattle.sched_hear.specs.declared.books.Books.{Books}
+use Rattle.sched_run.specs.Applying.{Line, after_lines, steps_of, Applied, AppliesLines}
+use Rattle.sched_run.specs.Reading.{IsRead}
+use Rattle.sched_run.specs.declared.applying.EventRefusal.{EventRefusal}
+use Rattle.why_trace.specs.Trim.{Wanted, has_record, has_at_end, yields}
+use Rattle.why_trace.specs.Code.Trials.{Sought, is_yielded_by, TellsFound}
+
+-- ---- the record among the contents
+
+-- what tells whether a list has a row is the test by which the definition asks
+any_told : (r : Row) (rows : List Row) (found : Bool) → IsTrue found ↔ Has r rows → found ≡ list_any (is_same_row r) rows
+any_told r rows true tells = sym (any_from_Has (is_same_row r) r rows (tells.0 refl) (is_same_row-itself r))
+any_told r rows false tells = elim (cases_Bool (list_any (is_same_row r) rows)) [
+  | inl e ↦
+      let m = Has-from_any (is_same_row r) rows e in
+      let is : false ≡ true = tells.1 (subst (λ (q : Row). Has q rows) (sym (is_same_row-is r m.0 m.2)) m.1) in
+      cc
+  | inr e ↦ sym e
+]
+
+module _ (v : View) (b : Books) (sought : Wanted) (rows : List Row) (found : Bool) (tells : IsTrue found ↔ Has sought.row rows) where
+  -- where the replica sends the stream
+  record_sent : nat_lt sought.replica (stream_replicas v sought.stream) ≡ true → IsRead v b (λ given x. contents (wiring_of v) given x sought.stream sought.replica) rows
+      → IsRead v b (λ given x. has_record v given sought x) found
+  record_sent sends read given steps stand =
+      any_told sought.row rows found tells
+      ∙ ap (λ (l : List Row). list_any (is_same_row sought.row) l) (read given steps stand)
+      ∙ ap (λ t. t && list_any (is_same_row sought.row) (contents (wiring_of v) given (execution_in stand) sought.stream sought.replica)) (sym sends)
+
+  -- and where it doesn't
+  record_unsent : nat_lt sought.replica (stream_replicas v sought.stream) ≡ false → rows ≡ [] → IsRead v b (λ given x. has_record v given sought x) found
+  record_unsent sends none given steps stand =
+      any_told sought.row rows found tells
+      ∙ ap (λ (l : List Row). list_any (is_same_row sought.row) l) none
+      ∙ ap (λ t. t && list_any (is_same_row sought.row) (contents (wiring_of v) given (execution_in stand) sought.stream sought.replica)) (sym sends)
+
+  record_told : (sought.replica < stream_replicas v sought.stream → IsRead v b (λ given x. contents (wiring_of v) given x sought.stream sought.replica) rows)
+      → (stream_replicas v sought.stream ≤ sought.replica → rows ≡ []) → IsRead v b (λ given x. has_record v given sought x) found
+  record_told read none = elim (cases_Bool (nat_lt sought.replica (stream_replicas v sought.stream))) [
+    | inl e ↦ record_sent e (read (grind (arith, nat_tests)))
+    | inr e ↦ record_unsent e (none (grind (arith, nat_tests)))
+  ]
+
+-- as a net of an equal topology says it
+pub record_in : (v w : View) (b : Books) (sought : Wanted) (rows : List Row) (found : Bool) → IsTrue found ↔ Has sought.row rows → w ≡ v
+    → (sought.replica < stream_replicas w sought.stream → IsRead w b (λ given x. contents (wiring_of w) given x sought.stream sought.replica) rows) → (stream_replicas w sought.stream ≤ sought.replica → rows ≡ [])
+    → IsRead v b (λ given x. has_record v given sought x) found
+record_in v w b sought rows found tells same read none =
+    record_told v b sought rows found tells
+    (subst (λ (u : View). sought.replica < stream_replicas u sought.stream → IsRead u b (λ given x. contents (wiring_of u) given x sought.stream sought.replica) rows) same read)
+    (subst (λ (u : View). stream_replicas u sought.stream ≤ sought.replica → rows ≡ []) same none)
+
+-- ---- lines that were applied
+
+-- the books of a new net stand for the first execution
+first_books : (v : View) (given : Data) (loaded : List (Option Program)) (tables : List Sets) (b : Books) (stands : Stands v given [] loaded tables b) → execution_in stands.books ≡ first_execution
+first_books v given loaded tables b stands = Ok_same (execution_of (wiring_of v) given []) (execution_in stands.books) first_execution stands.books.stands.run refl
+
+module _ (v w : View) (given : Data) (lines : List Line) (loaded : List (Option Program)) (tables next : List Sets) (old new : Books) (applied : Result (Unit {0}) EventRefusal) (same : w ≡ v)
+    (stands : Stands v given [] loaded tables old) (applies : AppliesLines w loaded tables next old new lines applied) where
+  -- what the lines made of a new net
+  made : Applied v given [] loaded next new lines (after_lines v given lines first_execution) applied
+  made =
+      subst (λ (x : Execution). Applied v given [] loaded next new lines (after_lines v given lines x) applied) (first_books v given loaded tables old stands)
+      (subst (λ (u : View). AppliesLines u loaded tables next old new lines applied) same applies given [] stands)
+
+-- a net to which all lines were applied runs
+runs_where : (v : View) (given : Data) (lines : List Line) (loaded : List (Option Program)) (next : List Sets) (new : Books) (after : Result Execution EventRefusal) (applied : Result (Unit {0}) EventRefusal)
+    → Applied v given [] loaded next new lines after applied → OnOk applied (BooksRun v new)
+runs_where v given lines loaded next new after (Ok done) reaches = record { given = given; steps = [] ++ steps_of v lines; stand = reaches.stands.books }
+runs_where v given lines loaded next new after (Err refusal) stops = tt
+
+pub runs_after : (v w : View) (given : Data) (lines : List Line) (loaded : List (Option Program)) (tables next : List Sets) (old new : Books) (applied : Result (Unit {0}) EventRefusal) → w ≡ v
+    → Stands v given [] loaded tables old → AppliesLines w loaded tables next old new lines applied → OnOk applied (BooksRun v new)
+runs_after v w given lines loaded tables next old new applied same stands applies =
+    runs_where v given lines loaded next new (after_lines v given lines first_execution) applied (made v w given lines loaded tables next old new applied same stands applies)
+
+-- what is found in it is what the lines end with
+found_where : (sought : Sought) (lines : List Line) (loaded : List (Option Program)) (next : List Sets) (new : Books) (after : Result Execution EventRefusal) (applied : Result (Unit {0}) EventRefusal) (found : Bool)
+    → Applied sought.view sought.given [] loaded next new lines after applied → TellsFound sought new applied found → found ≡ has_at_end sought.view sought.given sought.wanted after
+found_where sought lines loaded next new after (Ok done) found reaches tells =
+    tells sought.given ([] ++ steps_of sought.view lines) reaches.stands.books ∙ ap (has_at_end sought.view sought.given sought.wanted) (sym reaches.reached)
+found_where sought lines loaded next new after (Err refusal) found stops tells =
+    tells.1 ∙ ap (has_at_end sought.view sought.given sought.wanted) (sym (stops.0 tells.0))
+
+pub found_yielded : (sought : Sought) (w : View) (lines : List Line) (loaded : List (Option Program)) (tables next : List Sets) (old new : Books) (applied : Result (Unit {0}) EventRefusal) (found : Bool) → w ≡ sought.view
+    → Stands sought.view sought.given [] loaded tables old → AppliesLines w loaded tables next old new lines applied → TellsFound sought new applied found → found ≡ is_yielded_by sought lines
+unfolding yields
+found_yielded sought w lines loaded tables next old new applied found same stands applies tells =
+    found_where sought lines loaded next new (after_lines sought.view sought.given lines first_execution) applied found (made sought.view w sought.given lines loaded tables next old new applied same stands applies) tells

@@ -1,0 +1,9 @@
+//! The events of a schedule that a record needs: what is left after passes over its lines, each of which
+//! goes where the others still yield the record.
+#![tactic(auto)]
+
+mod copies;
+mod tracing;
+mod trial;
+
+pub use tracing::trace;

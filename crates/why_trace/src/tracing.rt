@@ -1,0 +1,119 @@
+//! What a record needs of a schedule: in passes, each from the last line to the first, a line is left out
+//! where the others still yield the record.
+ghost use Rattle.std.specs.Prelude.{◌≡◌, ◌<◌, ℕ, IfOk, OnOk, None, length, map, nat_lt, true, false};
+ghost use Rattle.std.specs.List.{remove};
+ghost use Rattle.std.specs.List.Sorted.{IsPermutation};
+ghost use Rattle.sched_bench.specs.Bench.{fault_of_opening};
+ghost use Rattle.topo_types.specs.Data.{IsData};
+ghost use Rattle.why_trace.specs.Passes.{without_needless, one_pass, trim_by, IsSublist};
+ghost use Rattle.why_trace.specs.Trim.{wanted, yields, trim};
+ghost use Rattle.why_trace.specs.Code.Trials.{sought_of, is_yielded_by};
+
+use crate::copies::copies_of_lines;
+use crate::trial::Trial;
+use blz_boxes::Component;
+use blz_value::Record;
+use data_read::Data;
+use sched_text::{Event, Schedule};
+use std::alloc::{AllocError, Global};
+use topo_types::Valid;
+
+impl Trial<'_> {
+    // Leaves the line at a place out where the others yield the record.
+    fn leave_out(
+        &self,
+        lines: &mut Vec<(u32, Event)>,
+        place: usize,
+        bench: &mut Vec<Box<dyn Component>>,
+    ) -> Result<(), AllocError>
+        requires data { IsData self.now.valid.now.view self.now.given.now }
+        requires opens { fault_of_opening self.now.valid.now.view (λ k. k) (map (λ b. kind b) bench.old.items) ≡ None }
+        requires there { place < length lines.old.items }
+        ensures lines { OnOk result (lines.new.items ≡ without_needless (is_yielded_by (sought_of self.now)) place lines.old.items) }
+        ensures kinds { OnOk result (IsPermutation (map (λ b. kind b) bench.old.items) (map (λ b. kind b) bench.new.items)) }
+    {
+        let line = lines.remove(place);
+        if !self.is_yielded_by(lines, bench)? {
+            lines.insert(place, line)?;
+        }
+        Ok(())
+    }
+
+    // One pass, from the last line to the first, and whether it left one out.
+    fn pass(
+        &self,
+        lines: &mut Vec<(u32, Event)>,
+        bench: &mut Vec<Box<dyn Component>>,
+    ) -> Result<bool, AllocError>
+        requires data { IsData self.now.valid.now.view self.now.given.now }
+        requires opens { fault_of_opening self.now.valid.now.view (λ k. k) (map (λ b. kind b) bench.old.items) ≡ None }
+        ensures lines { OnOk result (lines.new.items ≡ one_pass (is_yielded_by (sought_of self.now)) lines.old.items) }
+        ensures fewer { IfOk result (λ fewer. fewer ≡ nat_lt (length lines.new.items) (length lines.old.items)) }
+        ensures kinds { OnOk result (IsPermutation (map (λ b. kind b) bench.old.items) (map (λ b. kind b) bench.new.items)) }
+    {
+        let count = lines.len();
+        for place in (0..count).rev() {
+            self.leave_out(lines, place, bench)?;
+        }
+        Ok(lines.len() < count)
+    }
+
+    // Passes until one leaves nothing out.
+    fn trim(
+        &self,
+        lines: &mut Vec<(u32, Event)>,
+        bench: &mut Vec<Box<dyn Component>>,
+    ) -> Result<(), AllocError>
+        requires data { IsData self.now.valid.now.view self.now.given.now }
+        requires opens { fault_of_opening self.now.valid.now.view (λ k. k) (map (λ b. kind b) bench.old.items) ≡ None }
+        ensures lines { OnOk result (lines.new.items ≡ trim_by (is_yielded_by (sought_of self.now)) lines.old.items) }
+        ensures kinds { OnOk result (IsPermutation (map (λ b. kind b) bench.old.items) (map (λ b. kind b) bench.new.items)) }
+    {
+        while self.pass(lines, bench)? {}
+        Ok(())
+    }
+}
+
+/// The lines of a schedule, with their numbers, that a record at a stream and a sending replica needs.
+/// In passes from the last line to the first, each goes without which the present ones still yield the
+/// record, until a pass leaves nothing out. The shells of the bench go back to it, in any order. The
+/// error is want of memory, after which nothing is said of the bench.
+///
+/// Each line of each pass takes a trial: a copy of the data, the events up to the first that is
+/// refused, and a copy of the records that the replica has sent.
+pub fn trace(
+    alloc: Global,
+    valid: &Valid,
+    given: &Data,
+    schedule: &Schedule,
+    stream: u32,
+    replica: u32,
+    row: &Record,
+    bench: &mut Vec<Box<dyn Component>>,
+) -> Result<Schedule, AllocError>
+    requires data { IsData valid.now.view given.now }
+    requires yields { yields valid.now.view given.now (wanted stream replica row.now) schedule.now ≡ true }
+    requires opens { fault_of_opening valid.now.view (λ k. k) (map (λ b. kind b) bench.old.items) ≡ None }
+
+    ensures trimmed { IfOk result (λ kept. kept ≡ trim valid.now.view given.now (wanted stream replica row.now) schedule.now) }
+
+    // What is kept yields the record, no line of it can go alone, and it is in the schedule's order.
+    ensures yields { IfOk result (λ kept. yields valid.now.view given.now (wanted stream replica row.now) kept ≡ true) }
+    ensures needed { IfOk result (λ kept. (k : ℕ) → k < length kept → yields valid.now.view given.now (wanted stream replica row.now) (remove kept k) ≡ false) }
+    ensures part { IfOk result (λ kept. IsSublist kept schedule.now) }
+
+    // As many shells of each kind as before.
+    ensures kinds { OnOk result (IsPermutation (map (λ b. kind b) bench.old.items) (map (λ b. kind b) bench.new.items)) }
+{
+    let mut lines = copies_of_lines(alloc, schedule.lines())?;
+    let trial = Trial {
+        alloc,
+        valid,
+        given,
+        stream,
+        replica,
+        row,
+    };
+    trial.trim(&mut lines, bench)?;
+    Ok(Schedule::from_lines(lines))
+}

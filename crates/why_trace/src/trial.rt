@@ -1,0 +1,106 @@
+//! A trial: some lines happen on a net of their own, and then its contents are looked at.
+ghost use Rattle.std.specs.Prelude.{◌≡◌, ◌≢◌, ◌++◌, [], IfOk, OnOk, None, false, map};
+ghost use Rattle.std.specs.List.Sorted.{IsPermutation};
+ghost use Rattle.emitted.specs.declared.fault.EventFault.TheVariants as event_faults;
+ghost use Rattle.sched_bench.specs.Bench.{fault_of_opening};
+ghost use Rattle.sched_hear.specs.Net.{BooksRun, Stands};
+ghost use Rattle.sched_run.specs.Reading.{IsRead};
+ghost use Rattle.topo_types.specs.Data.{IsData};
+ghost use Rattle.why_trace.specs.Trim.{has_record};
+ghost use Rattle.why_trace.specs.Code.Trials.{sought_of, is_yielded_by, TellsFound};
+
+use blz_boxes::Component;
+use blz_value::Record;
+use data_read::Data;
+use sched_run::{EventFault, EventRefusal, Net, OpenFault, apply};
+use sched_text::Event;
+use std::alloc::{AllocError, Global};
+use topo_types::Valid;
+
+// Opens a net where the bench has a shell for each instance.
+fn opened<'a>(
+    alloc: Global,
+    valid: &'a Valid,
+    given: Data,
+    bench: &mut Vec<Box<dyn Component>>,
+) -> Result<Net<'a>, AllocError>
+    requires data { IsData valid.now.view given }
+    requires opens { fault_of_opening valid.now.view (λ k. k) (map (λ b. kind b) bench.old.items) ≡ None }
+    ensures stands { IfOk result (λ net. Stands valid.now.view given [] (map (λ b. loaded b) net.shells.items) (map (λ b. kept b) net.shells.items) net.books) }
+    ensures valid { IfOk result (λ net. net.valid.now ≡ valid.now) }
+    ensures kinds { IfOk result (λ net. IsPermutation (map (λ b. kind b) bench.old.items) (map (λ b. kind b) bench.new.items ++ map (λ b. kind b) net.shells.items)) }
+{
+    match Net::open(alloc, valid, given, bench) {
+        Ok(net) => Ok(net),
+        Err(OpenFault::NoMemory) => Err(AllocError),
+        Err(OpenFault::NoBody { .. }) => unreachable!(),
+        Err(OpenFault::NoShell { .. }) => unreachable!(),
+    }
+}
+
+// Nothing is found after a refusal; want of memory is no answer.
+fn found_after(fault: &EventFault) -> Result<bool, AllocError>
+    ensures answer { IfOk result (λ found. found ≡ false) }
+    ensures other { OnOk result (fault.now ≢ event_faults.NoMemory) }
+{
+    match fault {
+        EventFault::NoMemory => Err(AllocError),
+        _ => Ok(false),
+    }
+}
+
+/// What each trial goes by: a topology, its data, and the record that is looked for, with its stream and
+/// the sending replica.
+#[derive(Drop)]
+pub(crate) struct Trial<'a> {
+    pub(crate) alloc: Global,
+    pub(crate) valid: &'a Valid,
+    pub(crate) given: &'a Data,
+    pub(crate) stream: u32,
+    pub(crate) replica: u32,
+    pub(crate) row: &'a Record,
+}
+
+impl Trial<'_> {
+    // Whether the contents of a net have the record.
+    fn is_in(&self, net: &Net<'_>) -> Result<bool, AllocError>
+        requires same { net.now.valid.now.view ≡ self.now.valid.now.view }
+        requires runs { BooksRun self.now.valid.now.view net.now.books }
+        ensures { IfOk result (IsRead self.now.valid.now.view net.now.books (λ given x. has_record self.now.valid.now.view given (sought_of self.now).wanted x)) }
+    {
+        let contents = net.contents(self.stream, self.replica)?;
+        Ok(contents.contains(self.row))
+    }
+
+    // The same where all lines were applied; where one was refused nothing is found.
+    fn is_found(&self, net: &Net<'_>, applied: Result<(), EventRefusal>) -> Result<bool, AllocError>
+        requires same { net.now.valid.now.view ≡ self.now.valid.now.view }
+        requires runs { OnOk applied (BooksRun self.now.valid.now.view net.now.books) }
+        ensures { IfOk result (TellsFound (sought_of self.now) net.now.books applied) }
+    {
+        match applied {
+            Ok(()) => self.is_in(net),
+            Err(refusal) => found_after(&refusal.fault),
+        }
+    }
+
+    /// Whether some lines yield the record: they happen on a net of their own with shells of the bench,
+    /// which go back behind the others. Takes a copy of the data, the events up to the first that is
+    /// refused, and a copy of the records that the replica has sent. The error is want of memory.
+    pub(crate) fn is_yielded_by(
+        &self,
+        lines: &[(u32, Event)],
+        bench: &mut Vec<Box<dyn Component>>,
+    ) -> Result<bool, AllocError>
+        requires data { IsData self.now.valid.now.view self.now.given.now }
+        requires opens { fault_of_opening self.now.valid.now.view (λ k. k) (map (λ b. kind b) bench.old.items) ≡ None }
+        ensures found { IfOk result (λ found. found ≡ is_yielded_by (sought_of self.now) lines.now) }
+        ensures kinds { OnOk result (IsPermutation (map (λ b. kind b) bench.old.items) (map (λ b. kind b) bench.new.items)) }
+    {
+        let mut net = opened(self.alloc, self.valid, self.given.copy()?, bench)?;
+        let applied = apply(&mut net, lines);
+        let found = self.is_found(&net, applied)?;
+        net.close(bench)?;
+        Ok(found)
+    }
+}

@@ -10,7 +10,7 @@ use Rattle.inbox.specs.Events.{Step}
 use Rattle.inbox.specs.Executions.{Execution, first_execution, execution_of}
 use Rattle.inbox.specs.Wiring.{wiring_of}
 use Rattle.inbox.proofs.Executions.Results.{Ok_same}
-use Rattle.replay_run.specs.Steps.{AppliedSteps, AppliesSteps, StepLine, after_step_lines, steps_of as numbered_steps}
+use Rattle.replay_run.specs.Steps.{AppliedSteps, AppliesSteps, StepLine, after_step_lines, steps_in}
 use Rattle.replay_run.specs.declared.running.StepRefusal.{StepRefusal}
 use Rattle.report_print.specs.declared.refusal.Refusal.TheVariants as refusal
 use Rattle.report_print.specs.declared.refusal.EventKind.TheVariants as event_kinds
@@ -79,7 +79,7 @@ module _ (v w : View) (given : Data) (loaded : List (Option Program)) (tables ne
   -- under steps
   module _ (lines : List StepLine) where
     by_steps : (after : Result Execution StepRefusal) (replayed : Result (Unit {0}) StepRefusal) → AppliedSteps v given [] loaded next new lines after replayed → IsAppliedAs v given loaded next new (check.replayed after) (as_events replayed)
-    by_steps after (Ok done) reaches = record { steps = [] ++ numbered_steps v lines; stands = reaches.stands; tells = ap check.replayed reaches.reached }
+    by_steps after (Ok done) reaches = record { steps = [] ++ steps_in v lines; stands = reaches.stands; tells = ap check.replayed reaches.reached }
     by_steps after (Err refused) stops = λ some. ap check.replayed (stops.0 some)
 
     pub steps_applied : (replayed : Result (Unit {0}) StepRefusal) (applied : Result (Unit {0}) EventRefusal) → AppliesSteps w loaded tables next old new lines replayed → applied ≡ as_events replayed

@@ -32,14 +32,14 @@ entries_in refused None entries = Ok entries
 entries_in refused (Some line) entries = Err (refusal_line (refused line))
 
 -- what is read of a text of steps
-abbrev pub steps_in : Bytes → Result (List StepLine) Bytes
-steps_in text = entries_in (λ line. refusal.ScheduleText line) (bad_line step_reading text) (entries_of step_reading text)
+abbrev pub replay_in : Bytes → Result (List StepLine) Bytes
+replay_in text = entries_in (λ line. refusal.ScheduleText line) (bad_line step_reading text) (entries_of step_reading text)
 
 -- a file of a schedule whose lines may also be forgets: read, length, text
 abbrev pub steps_file : Bytes → Script (List StepLine)
 steps_file name = do
   bytes ← file schedule_limit name
-  checked (steps_in bytes)
+  checked (replay_in bytes)
 
 -- ---- the opening of a net
 

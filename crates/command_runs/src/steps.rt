@@ -14,8 +14,8 @@ use std::alloc::Global;
 const STEPS_LIMIT: usize = 67_108_864;
 
 // The steps that are written in these bytes.
-fn steps_in(alloc: Global, bytes: &[u8]) -> Result<Vec<(u32, Step)>, Stop>
-    ensures { Gives (λ steps. steps.items) result (check.steps_in bytes.now) }
+fn replay_in(alloc: Global, bytes: &[u8]) -> Result<Vec<(u32, Step)>, Stop>
+    ensures { Gives (λ steps. steps.items) result (check.replay_in bytes.now) }
 {
     match read(alloc, bytes) {
         Ok(steps) => Ok(steps),
@@ -36,5 +36,5 @@ pub(crate) fn steps_file<F: Files>(
         result (check.steps_file name.now) }
 {
     let bytes = read_file(alloc, name, STEPS_LIMIT, files)?;
-    steps_in(alloc, &bytes)
+    replay_in(alloc, &bytes)
 }

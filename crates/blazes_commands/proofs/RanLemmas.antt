@@ -13,7 +13,7 @@ use Rattle.command_files.specs.declared.reply.Reply.{Reply}
 use Rattle.command_files.specs.declared.stop.Stop.{Stop}
 use Rattle.command_runs.specs.Bench.{BenchStates}
 use Rattle.command_runs.specs.Replies.{RepliesWith}
-use Rattle.command_runs.specs.Runs.{RunWork, SaysRun, run_work, running_by, runs}
+use Rattle.command_runs.specs.Runs.{RunWork, SaysRun, run_work, restarts, running_by, runs}
 use Rattle.command_runs.proofs.RepliesLemmas.{in_turn, turned, work_replies}
 use Rattle.blazes_commands.specs.Checks as check
 use Rattle.blazes_commands.specs.Code.Ran.{RepliesTo}
@@ -72,3 +72,9 @@ module _ (a b : Source) (bench : BenchStates) (result : Result Reply Stop) (aske
       subst (λ (checks : Script Work). RepliesWith Says (files_states a b) bench result checks)
       (files_turned asked (check.schedule_file asked.schedule) check.execution bench.kinds)
       (work_replies SaysRun Says a b bench (runs bench.kinds asked) ran_work result (λ found answer says. says) told)
+
+  pub restart_replies : RepliesWith SaysRun (files_states a b) bench result (restarts bench.kinds asked) → RepliesTo (Asked.restart asked) (files_states a b) bench result
+  restart_replies told =
+      subst (λ (checks : Script Work). RepliesWith Says (files_states a b) bench result checks)
+      (files_turned asked (check.steps_file asked.schedule) check.restarted bench.kinds)
+      (work_replies SaysRun Says a b bench (restarts bench.kinds asked) ran_work result (λ found answer says. says) told)

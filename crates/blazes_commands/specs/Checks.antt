@@ -15,7 +15,7 @@ use Rattle.command_files.specs.Script.{Bytes, Script}
 pub use Rattle.command_files.specs.Checks.{checked, schedule_file}
 pub use Rattle.command_checks.specs.Checks.{with_modules, valid_topology, data_file}
 pub use Rattle.command_labels.specs.Shards.{sharding}
-pub use Rattle.command_runs.specs.Checks.{opened, opening, execution}
+pub use Rattle.command_runs.specs.Checks.{steps_file, opened, opening, execution, restarted}
 
 -- ---- a schedule that is made
 

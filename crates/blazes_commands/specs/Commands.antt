@@ -48,7 +48,7 @@ pub data Work : Type 0 where
   -- a topology with copies of a component, which is to be written with their modules
   sharded : Sharded → Work
 
--- what follows in a run on the checks of its files: the net is opened, and what happens makes an execution
+-- what follows in `run` and `restart` on the checks of their files: the net is opened, and what happens makes an execution
 abbrev pub running : List ProgramKind → View → Data → Script Execution → Script Work
 running kinds v given happens = do
   opened ← check.opening v kinds
@@ -99,6 +99,11 @@ script kinds (Asked.shard words) = do
   found ← check.with_modules words.topology
   copies ← check.sharding found words
   Script.gives (Work.sharded copies)
+script kinds (Asked.restart files) = do
+  seen ← check.valid_topology files.topology
+  given ← check.data_file seen files.given
+  lines ← check.steps_file files.schedule
+  running kinds seen.view given (check.restarted seen.view given lines)
 
 -- the answer is the text of a schedule that reads as these events, which leave nothing; it is Done where nothing is held either
 pub record HasSchedule (v : View) (given : Data) (events : List Event) (answer : Answer) : Type 0 where

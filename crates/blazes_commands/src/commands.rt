@@ -14,7 +14,7 @@ use blz_boxes::Component;
 use blz_outside::Files;
 use command_files::{Reply, Stop};
 use command_labels::{derive, label, plan, shard};
-use command_runs::run;
+use command_runs::{restart, run};
 use std::alloc::Global;
 
 /// The reply of the command that is asked for, or what stopped it: its checks go in their order, and it
@@ -46,5 +46,6 @@ pub fn outcome_of<F: Files>(
         Request::Make(words) => make(alloc, words, files, bench),
         Request::Soak(words) => soak(alloc, words, bench),
         Request::Shard(words) => shard(alloc, &words, files),
+        Request::Restart(names) => restart(alloc, names, files, bench),
     }
 }

@@ -8,7 +8,7 @@ use Rattle.blazes_words.specs.declared.words.Request.{Request}
 use Rattle.command_runs.specs.Bench.{bench_states}
 use Rattle.command_runs.proofs.RepliesLemmas.{kept_anyway}
 use Rattle.blazes_commands.proofs.LabelLemmas.{derive_replies, label_replies, plan_replies, shard_replies}
-use Rattle.blazes_commands.proofs.RanLemmas.{run_replies}
+use Rattle.blazes_commands.proofs.RanLemmas.{restart_replies, run_replies}
 use Rattle.blazes_commands.proofs.commands.outcome_of.Goals as goal
 
 pub returns-in-Label : goal.returns-in-Label
@@ -77,6 +77,16 @@ returns-in-Shard g c =
     record {
       replies = subst (λ (request : Request). RepliesTo (asked_by request) (files_states a b) bench c.shard.result) (sym c.in-Shard.is) (shard_replies a b bench c.shard.result (shard_shown c.in-Shard.words) c.shard.ensures);
       kinds = kept_anyway bench c.shard.result (IsPermutation-refl bench.kinds);
+    }
+
+pub returns-in-Restart : goal.returns-in-Restart
+returns-in-Restart g c =
+    let bench = bench_states (map (λ b. (goal.Component-dyn g (b.vtable, b.value)).kind b.value) c.args.bench.now.items) (map (λ b. (goal.Component-dyn g (b.vtable, b.value)).kind b.value) c.restart.new.bench.items) (map (λ b. (goal.Component-dyn g (b.vtable, b.value)).loaded b.value) c.restart.new.bench.items) (map (λ b. (goal.Component-dyn g (b.vtable, b.value)).kept b.value) c.restart.new.bench.items) in
+    let a = source (g.F.Files.held c.args.files.now) (g.F.Files.steady c.args.files.now) (g.F.Files.faults c.args.files.now) in
+    let b = source (g.F.Files.held c.restart.new.files) (g.F.Files.steady c.restart.new.files) (g.F.Files.faults c.restart.new.files) in
+    record {
+      replies = subst (λ (request : Request). RepliesTo (asked_by request) (files_states a b) bench c.restart.result) (sym c.in-Restart.is) (restart_replies a b bench c.restart.result (files_shown c.in-Restart.names) c.restart.ensures.replies);
+      kinds = c.restart.ensures.kinds;
     }
 
 pub shard-requires : goal.shard-requires

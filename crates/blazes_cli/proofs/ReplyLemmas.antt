@@ -3,7 +3,7 @@ use Rattle.std.proofs.Common.{◌≡◌, ◌≢◌, ◌∙◌, ◌<◌, ◌⊎�
 use Rattle.blz_outside.specs.Counts.{Rose}
 use Rattle.blz_outside.specs.Files.{FileMap}
 use Rattle.blz_boxes.specs.declared.kind.ProgramKind.{ProgramKind}
-use Rattle.command_runs.specs.Bench.{BenchStates}
+use Rattle.blazes_commands.specs.Bench.{BenchStates}
 use Rattle.command_files.specs.Script.{Bytes, Script, Ending, IsFailed}
 use Rattle.command_files.specs.Script.Ending.{gave, refused, failed}
 use Rattle.command_files.specs.Ends.{FilesStates, Came, Ends, ended}

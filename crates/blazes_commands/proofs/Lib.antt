@@ -1,7 +1,9 @@
 pub mod CommandLemmas
 pub mod LabelLemmas
-pub mod RanLemmas
+pub mod RunLemmas
 pub mod GivenLemmas
+pub mod OpeningLemmas
+pub mod CommandFiles
 pub mod MakeLemmas
 pub mod TweetsLemmas
 pub mod SoakLemmas

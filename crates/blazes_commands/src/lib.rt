@@ -4,6 +4,8 @@
 mod batches;
 mod commands;
 mod making;
+mod opening;
+mod running;
 mod soaking;
 
 pub use commands::outcome_of;

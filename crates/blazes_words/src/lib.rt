@@ -4,6 +4,4 @@
 mod numbers;
 mod words;
 
-pub use words::{
-    MakeWords, Request, RunFiles, ShardWords, SoakWords, WhyWords, WitnessFiles, request_of,
-};
+pub use words::{MakeWords, Request, RunFiles, ShardWords, SoakWords, request_of};

@@ -5,7 +5,7 @@ ghost use Rattle.sched_bench.specs.Bench.{fault_of_opening};
 ghost use Rattle.sched_hear.specs.Net.{Stands};
 ghost use Rattle.topo_types.specs.Data.{IsData};
 ghost use Rattle.topo_types.specs.View.{component_at};
-ghost use Rattle.command_runs.specs.Checks as check;
+ghost use Rattle.blazes_commands.specs.Checks as check;
 ghost use Rattle.command_files.specs.Ran.{Gives};
 
 use blz_boxes::Component;

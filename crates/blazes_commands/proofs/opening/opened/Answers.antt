@@ -1,5 +1,5 @@
-use Rattle.command_runs.proofs.OpeningLemmas.{opens, opens_not}
-use Rattle.command_runs.proofs.opening.opened.Goals as goal
+use Rattle.blazes_commands.proofs.OpeningLemmas.{opens, opens_not}
+use Rattle.blazes_commands.proofs.opening.opened.Goals as goal
 
 pub returns-in-Ok-clause-gives : goal.returns-in-Ok-clause-gives
 returns-in-Ok-clause-gives g c =

@@ -1,25 +1,94 @@
 //! The command that runs a schedule.
-ghost use Rattle.std.specs.Prelude.{map};
+ghost use Rattle.std.specs.Prelude.{◌≡◌, IfOk, OnOk, Some, map};
+ghost use Rattle.report_print.specs.declared.refusal.Refusal.TheVariants as refusal;
+ghost use Rattle.sched_hear.specs.Net.{BooksRun};
 ghost use Rattle.topo_types.specs.Data.{IsData};
+ghost use Rattle.blazes_commands.specs.Bench.{bench_states};
+ghost use Rattle.blazes_commands.specs.Checks as check;
+ghost use Rattle.command_files.specs.Ran.{answer_of};
+ghost use Rattle.blazes_commands.specs.Code.Ran.{Replies, RepliesTo};
 ghost use Rattle.blazes_words.specs.Requests.{files_shown};
+ghost use Rattle.blazes_commands.specs.Code.Runs.{IsOutcomeOf, KeepsKinds, ReportsBooks, RepliesAtOnce, TellsStatus, running_file};
+ghost use Rattle.blazes_commands.specs.Commands.{running};
 ghost use Rattle.command_files.specs.Ends.{files_states, source};
-ghost use Rattle.command_runs.specs.Bench.{bench_states};
-ghost use Rattle.command_runs.specs.Code.Ran.{running_file};
-ghost use Rattle.command_runs.specs.Replies.{KeepsKinds, RepliesAtOnce, RepliesWith};
-ghost use Rattle.command_runs.specs.Runs.{SaysRun, running, runs};
+ghost use Rattle.blazes_words.specs.Words.{Asked};
 
 use crate::opening::opened;
-use crate::reporting::outcome_of;
 use blazes_words::RunFiles;
 use blz_boxes::Component;
 use blz_outside::Files;
 use command_checks::{data_file, valid_topology};
-use command_files::{Reply, Stop, schedule_file};
+use command_files::{Reply, Status, Stop, schedule_file, stop_at};
 use data_read::Data;
-use sched_run::apply;
+use report_print::{EventKind, Refusal};
+use report_runs::run_text;
+use sched_run::{EventFault, EventRefusal, Net, apply};
 use sched_text::Event;
-use std::alloc::Global;
+use std::alloc::{AllocError, Global};
 use topo_types::Valid;
+
+fn event(line: u32, kind: EventKind) -> Option<Refusal>
+    ensures { result ≡ Some (refusal.Event line kind) }
+{
+    Some(Refusal::Event { line, kind })
+}
+
+// The refusal of the event in a line; want of memory is none.
+fn event_refusal(line: u32, fault: &EventFault) -> Option<Refusal>
+    ensures { result ≡ check.event_refusal line fault.now }
+{
+    match fault {
+        EventFault::NoInstance => event(line, EventKind::NoInstance),
+        EventFault::NoMessage => event(line, EventKind::NoMessage),
+        EventFault::NothingToTake => event(line, EventKind::NothingToTake),
+        EventFault::TooManyRows => event(line, EventKind::TooManyRows),
+        EventFault::TooManyMessages => event(line, EventKind::TooManyMessages),
+        EventFault::NoMemory => None,
+    }
+}
+
+/// The status under which a net is written: Done where its execution is complete, and else Incomplete.
+pub fn status_of(net: &Net<'_>) -> Status
+    requires { BooksRun net.now.valid.now.view net.now.books }
+    ensures { TellsStatus net.now.valid.now.view net.now.books result }
+{
+    if net.is_complete() {
+        Status::Done
+    } else {
+        Status::Incomplete
+    }
+}
+
+// What the instances of a net have emitted, and whether anything is left.
+fn report(alloc: Global, valid: &Valid, net: &Net<'_>) -> Result<Reply, AllocError>
+    requires same { net.now.valid.now.view ≡ valid.now.view }
+    requires runs { BooksRun valid.now.view net.now.books }
+    ensures { IfOk result (λ reply. ReportsBooks valid.now.view net.now.books (answer_of reply)) }
+{
+    // There for the proof alone.
+    valid.known();
+    Ok(Reply {
+        status: status_of(net),
+        text: run_text(alloc, valid, net)?,
+    })
+}
+
+// The outcome of a net to which all events were applied, or not.
+fn outcome_of(
+    alloc: Global,
+    valid: &Valid,
+    net: &Net<'_>,
+    applied: Result<(), EventRefusal>,
+) -> Result<Reply, Stop>
+    requires same { net.now.valid.now.view ≡ valid.now.view }
+    requires runs { OnOk applied (BooksRun valid.now.view net.now.books) }
+    ensures { IsOutcomeOf valid.now.view net.now.books applied result }
+{
+    match applied {
+        Ok(()) => Ok(report(alloc, valid, net)?),
+        Err(refusal) => Err(stop_at(alloc, event_refusal(refusal.line, &refusal.fault))),
+    }
+}
 
 // Opens a net over the data with shells of the bench, applies the events in order and says what
 // they made; then the shells go back to the bench.
@@ -31,7 +100,7 @@ fn run_lines(
     bench: &mut Vec<Box<dyn Component>>,
 ) -> Result<Reply, Stop>
     requires { IsData valid.now.view given }
-    ensures replies { RepliesAtOnce SaysRun
+    ensures replies { RepliesAtOnce
         (bench_states (map (λ b. kind b) bench.old.items) (map (λ b. kind b) bench.new.items)
         (map (λ b. loaded b) bench.new.items) (map (λ b. kept b) bench.new.items))
         result (running (map (λ b. kind b) bench.old.items) valid.now.view given lines.now) }
@@ -57,7 +126,7 @@ fn run_file<F: Files>(
     bench: &mut Vec<Box<dyn Component>>,
 ) -> Result<Reply, Stop>
     requires { IsData valid.now.view given }
-    ensures replies { RepliesWith SaysRun
+    ensures replies { Replies
         (files_states (source (F.held files.old) (F.steady files.old) (F.faults files.old))
         (source (F.held files.new) (F.steady files.new) (F.faults files.new)))
         (bench_states (map (λ b. kind b) bench.old.items) (map (λ b. kind b) bench.new.items)
@@ -80,12 +149,12 @@ pub fn run<F: Files>(
     files: &mut F,
     bench: &mut Vec<Box<dyn Component>>,
 ) -> Result<Reply, Stop>
-    ensures replies { RepliesWith SaysRun
+    ensures replies { RepliesTo (Asked.run (files_shown names.entry))
         (files_states (source (F.held files.old) (F.steady files.old) (F.faults files.old))
         (source (F.held files.new) (F.steady files.new) (F.faults files.new)))
         (bench_states (map (λ b. kind b) bench.old.items) (map (λ b. kind b) bench.new.items)
         (map (λ b. loaded b) bench.new.items) (map (λ b. kept b) bench.new.items))
-        result (runs (map (λ b. kind b) bench.old.items) (files_shown names.entry)) }
+        result }
     ensures kinds { KeepsKinds
         (bench_states (map (λ b. kind b) bench.old.items) (map (λ b. kind b) bench.new.items)
         (map (λ b. loaded b) bench.new.items) (map (λ b. kept b) bench.new.items))

@@ -1,9 +1,9 @@
 use Rattle.std.proofs.Common.{subst}
-use Rattle.sched_hear.specs.Net.{execution_in}
 use Rattle.topo_types.specs.View.{View}
-use Rattle.command_runs.specs.Contents.{TellsStatus}
-use Rattle.command_runs.proofs.ContentsLemmas.{order_replicas}
-use Rattle.command_runs.proofs.reporting.report.Goals as goal
+use Rattle.sched_hear.specs.Net.{execution_in}
+use Rattle.blazes_commands.specs.Code.Runs.{TellsStatus}
+use Rattle.blazes_commands.proofs.RunLemmas.{order_replicas}
+use Rattle.blazes_commands.proofs.running.report.Goals as goal
 
 pub returns : goal.returns
 returns g c given steps stand = record {

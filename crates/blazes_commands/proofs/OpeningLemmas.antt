@@ -9,18 +9,18 @@ use Rattle.sched_bench.specs.declared.fault.OpenFault.{OpenFault}
 use Rattle.sched_bench.specs.declared.fault.OpenFault.TheVariants as open_faults
 use Rattle.sched_bench.proofs.BenchKinds.{opening_by_kinds}
 use Rattle.topo_types.specs.View.{View, component_at}
-use Rattle.command_files.specs.Ends.{Source, files_states}
+use Rattle.blazes_commands.specs.Bench.{BenchStates}
+use Rattle.blazes_commands.specs.Checks as check
 use Rattle.command_files.specs.Ran.{IsStopAt, StopsAs}
-use Rattle.command_files.specs.Reply.{Answer}
+use Rattle.blazes_commands.specs.Code.Ran.{Replies}
+use Rattle.blazes_commands.specs.Commands.{Work}
+use Rattle.command_files.specs.Ends.{Source, files_states}
 use Rattle.command_files.specs.Script.{Script, ◌>>=◌}
 use Rattle.command_files.specs.declared.reply.Reply.{Reply}
 use Rattle.command_files.specs.declared.stop.Stop.{Stop}
+use Rattle.blazes_commands.proofs.CommandLemmas.{stop_replies, then_replies}
 use Rattle.command_files.proofs.RefusedLemmas.{memory_gives, refused_gives}
 use Rattle.command_files.proofs.ScriptLemmas.{came_checked, gives_ran}
-use Rattle.command_runs.specs.Bench.{BenchStates}
-use Rattle.command_runs.specs.Checks as check
-use Rattle.command_runs.specs.Replies.{RepliesWith}
-use Rattle.command_runs.proofs.RepliesLemmas.{stop_replies, then_replies}
 
 -- ---- the call
 
@@ -50,18 +50,18 @@ module _ {X : Type 0} (v : View) (kind : X → ProgramKind) (before : List X) wh
 
 -- ---- the command
 
-module _ {A : Type 0} (Said : A → BenchStates → Answer → Type 0) (v : View) (bench : BenchStates) (next : Script A) (result : Result Reply Stop) (s : Source) where
-  abbrev opening : Script A
+module _ (v : View) (bench : BenchStates) (next : Script Work) (result : Result Reply Stop) (s : Source) where
+  abbrev opening : Script Work
   opening = check.opening v bench.kinds >>= λ opened. next
 
   abbrev checked : Result (Unit {0}) (List ℕ)
   checked = check.opened v (fault_of_opening v (λ k. k) bench.kinds)
 
   -- a command whose net isn't opened stops there
-  pub opening_stops : (stop : Stop) → IsErrAnd result (λ given. given ≡ stop) → StopsAs stop checked → RepliesWith Said (files_states s s) bench result opening
+  pub opening_stops : (stop : Stop) → IsErrAnd result (λ given. given ≡ stop) → StopsAs stop checked → Replies (files_states s s) bench result opening
   opening_stops stop is gives =
-      stop_replies Said (files_states s s) bench (check.opening v bench.kinds) (λ opened. next) result stop is (gives_ran (λ (opened : Unit {0}). opened) s (Err stop) checked gives)
+      stop_replies (files_states s s) bench (check.opening v bench.kinds) (λ opened. next) result stop is (gives_ran (λ (opened : Unit {0}). opened) s (Err stop) checked gives)
 
   -- and else goes on
-  pub opened_then : checked ≡ Ok tt → RepliesWith Said (files_states s s) bench result next → RepliesWith Said (files_states s s) bench result opening
-  opened_then is replies = then_replies Said s s s bench (check.opening v bench.kinds) (λ opened. next) tt result (came_checked s checked tt is) replies
+  pub opened_then : checked ≡ Ok tt → Replies (files_states s s) bench result next → Replies (files_states s s) bench result opening
+  opened_then is replies = then_replies s s s bench (check.opening v bench.kinds) (λ opened. next) tt result (came_checked s checked tt is) replies

@@ -1,6 +1,6 @@
 use Rattle.sched_hear.specs.Net.{execution_in}
-use Rattle.command_runs.proofs.ContentsLemmas.{complete_status, left_status}
-use Rattle.command_runs.proofs.reporting.status_of.Goals as goal
+use Rattle.blazes_commands.proofs.RunLemmas.{complete_status, left_status}
+use Rattle.blazes_commands.proofs.running.status_of.Goals as goal
 
 pub returns-then-is_complete : goal.returns-then-is_complete
 returns-then-is_complete g c given steps stand =

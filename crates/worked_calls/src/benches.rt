@@ -3,7 +3,7 @@ ghost use Rattle.std.specs.Prelude.{IsSome};
 
 use bloom_ast::Program;
 use bloom_eval::{Arrivals, Outs, StepFault};
-use blz_boxes::{Component, LatestShell, PlainShell};
+use blz_boxes::{Component, LatestShell};
 use blz_set::RecordSet;
 use blz_value::write_record;
 use std::alloc::{AllocError, Global};
@@ -75,27 +75,25 @@ impl Component for TellingShell {
     }
 }
 
-/// A shell for modules that wants memory at each step.
+/// A shell as another one, which wants memory at each step.
 #[derive(Drop)]
-pub struct PoorShell {
-    inner: PlainShell,
+pub struct PoorShell<C> {
+    inner: C,
 }
 
-impl PoorShell {
-    /// One that isn't loaded.
-    pub fn new(alloc: Global) -> PoorShell {
-        PoorShell {
-            inner: PlainShell::new(alloc),
-        }
+impl<C: Component> PoorShell<C> {
+    /// One as this one, loaded or not.
+    pub fn new(inner: C) -> PoorShell<C> {
+        PoorShell { inner }
     }
 }
 
-impl Component for PoorShell {
-    ghost kind = { λ shell. ⟦<PlainShell as Component>⟧.kind shell.inner };
+impl<C: Component> Component for PoorShell<C> {
+    ghost kind = { λ shell. C.kind shell.inner };
 
-    ghost loaded = { λ shell. ⟦<PlainShell as Component>⟧.loaded shell.inner };
+    ghost loaded = { λ shell. C.loaded shell.inner };
 
-    ghost kept = { λ shell. ⟦<PlainShell as Component>⟧.kept shell.inner };
+    ghost kept = { λ shell. C.kept shell.inner };
 
     fn fits(&self, program: &Program) -> bool {
         self.inner.fits(program)

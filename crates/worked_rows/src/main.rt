@@ -127,7 +127,12 @@ fn right_rows(rt: &HostRuntime, name: &str) -> Result<(u64, u64)> {
                         "latest" => bench.push(Box::new(alloc, LatestShell::new(alloc))?)?,
                         "number" => bench.push(Box::new(alloc, NumberShell::new(alloc))?)?,
                         "telling" => bench.push(Box::new(alloc, TellingShell::new(alloc))?)?,
-                        "poor" => bench.push(Box::new(alloc, PoorShell::new(alloc))?)?,
+                        "poor" => {
+                            bench.push(Box::new(alloc, PoorShell::new(PlainShell::new(alloc)))?)?
+                        }
+                        "poor-split" => {
+                            bench.push(Box::new(alloc, PoorShell::new(SplitShell::new(alloc)))?)?
+                        }
                         _ => bail!("no shell is {word}"),
                     }
                 }

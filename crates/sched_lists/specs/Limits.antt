@@ -1,9 +1,8 @@
 -- The limits of an event: which of them it meets first, if any.
-use Rattle.std.specs.Prelude.{ℕ, ◌+◌, ◌-◌, ◌==◌, ◌&&◌, not, nat_le, nat_lt, Bool, true, if◌then◌else◌, Option, None, Some, Result, Ok, Err, List, [], ◌∷◌, length, slice_get}
+use Rattle.std.specs.Prelude.{ℕ, ◌+◌, ◌-◌, ◌==◌, not, nat_le, nat_lt, Bool, if◌then◌else◌, Option, None, Some, Result, Ok, Err, List, [], ◌∷◌, length, slice_get}
 use Rattle.std.specs.List.{list_all, flat_map, range_with_len, enumerate_from, sum_by}
 use Rattle.blz_set.specs.RecordSet.{row_limit}
 use Rattle.bloom_ast.specs.declared.program.Program.{Program}
-use Rattle.bloom_ast.specs.ProgramStep.{tables_after_step}
 use Rattle.bloom_ast.specs.Step.{Sets}
 use Rattle.blz_boxes.specs.Step.{counted}
 use Rattle.topo_types.specs.Data.{Data}
@@ -11,8 +10,8 @@ use Rattle.topo_types.specs.View.{End, Stream}
 use Rattle.inbox.specs.Messages.{Pair, Entry, all_pairs}
 use Rattle.inbox.specs.Instances.{Instance}
 use Rattle.inbox.specs.Timesteps.{SetOff, set_off}
-use Rattle.inbox.specs.Emission.{Kept, list_of, emit_step, seal_all, first_tables}
-use Rattle.inbox.specs.Lives.{Lives, all_lives, life_timesteps, of_entry, kept_after}
+use Rattle.inbox.specs.Emission.{Kept, list_of, emit_step, seal_all}
+use Rattle.inbox.specs.Lives.{of_entry, kept_after}
 use Rattle.inbox.specs.Wiring.{Wiring, instances_at, instance_at}
 use Rattle.inbox.specs.Events.{Part, Event, deliver, batch, order, take_one, Refusal}
 use Rattle.inbox.specs.Executions.{Execution, emitted_list, pairs_of}
@@ -104,21 +103,3 @@ limit_of_event w given (deliver part component replica) x = limit_of_hearing w g
 limit_of_event w given (batch parts component replica) x = limit_of_hearing w given parts component replica x
 limit_of_event w given (order part component) x = None
 limit_of_event w given (take_one component replica) x = limit_of_taking w given x component replica (slice_get (x.logs component) (x.lives component replica).last.taken)
-
--- ---- executions in which no event met a limit
-
--- no step of these timesteps has a set that is too long
-abbrev pub steps_fit : Program → (tables : Sets) → List Sets → Bool
-steps_fit program tables [] = true
-steps_fit program tables (now ∷ nows) = step_fits program tables now && steps_fit program (tables_after_step program tables now) nows
-
--- no step of an instance's lives has
-abbrev pub lives_fit : Option Program → Instance → (log : List Entry) → Lives → Bool
-lives_fit None i log lives = true
-lives_fit (Some program) i log lives = list_all (λ life. steps_fit program (first_tables (Some program)) (life_timesteps i log life)) (all_lives lives)
-
--- no step had a set that was too long, and the lists aren't too long together
-abbrev pub is_within_limits : Wiring → Data → Execution → Bool
-is_within_limits w given x =
-    list_all (λ place. list_all (λ replica. lives_fit (instance_at w place.0 replica).program (instance_at w place.0 replica) (x.logs place.0) (x.lives place.0 replica)) (range_with_len 0 (length place.1))) (enumerate_from 0 w.components)
-    && nat_le (all_messages w given x) message_limit

@@ -3,14 +3,14 @@ use Rattle.std.proofs.Common.{◌≡◌, ◌≢◌, ◌∙◌, ◌<◌, ◌⊎�
 use Rattle.blz_outside.specs.Counts.{Rose}
 use Rattle.blz_outside.specs.Files.{FileMap}
 use Rattle.blz_boxes.specs.declared.kind.ProgramKind.{ProgramKind}
-use Rattle.blazes_commands.specs.Bench.{BenchStates}
+use Rattle.command_runs.specs.Bench.{BenchStates}
 use Rattle.command_files.specs.Script.{Bytes, Script, Ending, IsFailed}
 use Rattle.command_files.specs.Script.Ending.{gave, refused, failed}
 use Rattle.command_files.specs.Ends.{FilesStates, Came, Ends, ended}
 use Rattle.blazes_words.specs.Words.{Asked, request_of}
 use Rattle.command_files.specs.Reply.{Answer}
 use Rattle.blazes_commands.specs.Commands.{Work, script}
-use Rattle.blazes_commands.specs.Commands.Work.{labelled, derived, planned, ran, made, soaked, sharded}
+use Rattle.blazes_commands.specs.Commands.Work.{labelled, derived, planned, ran, made, soaked, sharded, witnessed, explained}
 use Rattle.blazes_commands.specs.Answer.{Answers}
 use Rattle.blazes_cli.specs.Answer.{IsReply}
 use Rattle.blazes_cli.specs.Outcome.{SinkStates, WroteAll, IsSaid, IsOutcome, IsUsageOrLost, IsReadFaultOrLost}
@@ -25,6 +25,8 @@ IsStatusAt (gave (derived t)) status = status ≡ Done
 IsStatusAt (gave (planned t)) status = status ≡ Done
 IsStatusAt (gave (soaked batches v given events)) status = status ≡ Done
 IsStatusAt (gave (sharded t)) status = status ≡ Done
+IsStatusAt (gave (witnessed found)) status = status ≡ Done
+IsStatusAt (gave (explained found)) status = status ≡ Done
 IsStatusAt (gave (ran v given x)) status = (status ≡ Done) ⊎ (status ≡ Incomplete)
 IsStatusAt (gave (made v given events)) status = (status ≡ Done) ⊎ (status ≡ Incomplete)
 IsStatusAt (refused line) status = status ≡ Refused
@@ -36,6 +38,8 @@ status_of_answer (gave (derived t)) bench answer has = ap (λ a. a.status) has.s
 status_of_answer (gave (planned t)) bench answer has = has.status
 status_of_answer (gave (soaked batches v given events)) bench answer has = ap (λ a. a.status) has.summary.says
 status_of_answer (gave (sharded t)) bench answer has = ap (λ a. a.status) has.says
+status_of_answer (gave (witnessed found)) bench answer has = ap (λ a. a.status) has.says
+status_of_answer (gave (explained found)) bench answer has = ap (λ a. a.status) has.says
 status_of_answer (gave (ran v given x)) bench answer has = elim has.contents.status [
   | inl done ↦ inl done.0
   | inr not_done ↦ inr not_done.0
@@ -63,6 +67,8 @@ counts_at files s (gave (derived t)) status came is = subst (CountsAs files) (sy
 counts_at files s (gave (planned t)) status came is = subst (CountsAs files) (sym is) came.counts
 counts_at files s (gave (soaked batches v given events)) status came is = subst (CountsAs files) (sym is) came.counts
 counts_at files s (gave (sharded t)) status came is = subst (CountsAs files) (sym is) came.counts
+counts_at files s (gave (witnessed found)) status came is = subst (CountsAs files) (sym is) came.counts
+counts_at files s (gave (explained found)) status came is = subst (CountsAs files) (sym is) came.counts
 counts_at files s (gave (ran v given x)) status came is = elim is [
   | inl done ↦ subst (CountsAs files) (sym done) came.counts
   | inr not_done ↦ subst (CountsAs files) (sym not_done) came.counts
@@ -87,6 +93,8 @@ not_usage (gave (derived t)) status at is = cc
 not_usage (gave (planned t)) status at is = cc
 not_usage (gave (soaked batches v given events)) status at is = cc
 not_usage (gave (sharded t)) status at is = cc
+not_usage (gave (witnessed found)) status at is = cc
+not_usage (gave (explained found)) status at is = cc
 not_usage (gave (ran v given x)) status at is = elim at [
   | inl done ↦ cc
   | inr not_done ↦ cc
@@ -114,6 +122,8 @@ read_failed (gave (derived t)) status at is = absurd (cc)
 read_failed (gave (planned t)) status at is = absurd (cc)
 read_failed (gave (soaked batches v given events)) status at is = absurd (cc)
 read_failed (gave (sharded t)) status at is = absurd (cc)
+read_failed (gave (witnessed found)) status at is = absurd (cc)
+read_failed (gave (explained found)) status at is = absurd (cc)
 read_failed (gave (ran v given x)) status at is = elim at [
   | inl done ↦ absurd (cc)
   | inr not_done ↦ absurd (cc)

@@ -1,7 +1,7 @@
 -- What the program answers to its words and to the files that it reads.
 use Rattle.std.specs.Prelude.{◌≡◌, Option, Some, None}
 use Rattle.blazes_commands.specs.Answer.{IsAnswered}
-use Rattle.blazes_commands.specs.Bench.{BenchStates}
+use Rattle.command_runs.specs.Bench.{BenchStates}
 use Rattle.command_files.specs.Reply.{Answer}
 use Rattle.blazes_commands.specs.Commands.{script}
 use Rattle.command_files.specs.Ends.{FilesStates}

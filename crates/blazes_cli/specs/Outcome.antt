@@ -4,7 +4,7 @@ use Rattle.blz_outside.specs.Counts.{Rose}
 use Rattle.blz_outside.specs.Files.{FileMap}
 use Rattle.blz_outside.specs.Sink.{Grows, Falls}
 use Rattle.blz_boxes.specs.declared.kind.ProgramKind.{ProgramKind}
-use Rattle.blazes_commands.specs.Bench.{BenchStates}
+use Rattle.command_runs.specs.Bench.{BenchStates}
 use Rattle.command_files.specs.Script.{Bytes, IsFailed}
 use Rattle.command_files.specs.Ends.{FilesStates, ended}
 use Rattle.blazes_words.specs.Words.{request_of}

@@ -1,7 +1,7 @@
 //! The call that the program makes.
 ghost use Rattle.std.specs.Prelude.{◌≡◌, ◌≢◌, ◌<◌, None, Some, IfOk, IfSome, IsTrue, map, string_bytes};
 ghost use Rattle.blz_outside.specs.Counts.{Rose};
-ghost use Rattle.blazes_commands.specs.Bench.{bench_states, HasSameKinds};
+ghost use Rattle.command_runs.specs.Bench.{bench_states, HasSameKinds};
 ghost use Rattle.command_files.specs.Ran.{answer_of};
 ghost use Rattle.blazes_words.specs.Requests.{asked_by};
 ghost use Rattle.command_files.specs.Ends.{files_states, source};

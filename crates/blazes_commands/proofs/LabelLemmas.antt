@@ -1,5 +1,5 @@
 -- A command that knows no data is a part of the program that replies of what its checks gave.
-use Rattle.std.proofs.Common.{◌≡◌, Result, Ok, Err, refl, subst}
+use Rattle.std.proofs.Common.{Result, Ok, Err, subst}
 use Rattle.report_derivation.specs.DeriveText.{derive_text}
 use Rattle.report_print.specs.LabelText.{label_text}
 use Rattle.topo_types.specs.Valid.{Validated}
@@ -7,7 +7,7 @@ use Rattle.command_files.specs.Ends.{Source, files_states}
 use Rattle.command_files.specs.Ran.{answer_of}
 use Rattle.command_files.specs.Reply.{Answer}
 use Rattle.command_files.specs.Script.{Bytes, Script, ◌>>=◌}
-use Rattle.command_files.specs.Script.Script.{gives, refuses, reads}
+use Rattle.command_files.specs.Script.Script.{gives}
 use Rattle.command_files.specs.declared.reply.Reply.{Reply}
 use Rattle.command_files.specs.declared.stop.Stop.{Stop}
 use Rattle.command_files.proofs.ScriptLemmas.{stop_then}
@@ -15,24 +15,19 @@ use Rattle.command_labels.specs.Answers.{HasLabels, HasPlan, HasShards}
 use Rattle.command_labels.specs.Replies.{RepliesOf}
 use Rattle.command_labels.specs.Shards.{shards}
 use Rattle.blazes_words.specs.Words.{Asked, ShardWords}
-use Rattle.blazes_commands.specs.Bench.{BenchStates}
+use Rattle.command_runs.specs.Bench.{BenchStates}
+use Rattle.command_runs.specs.Replies.{RepliesWith}
+use Rattle.command_runs.proofs.RepliesLemmas.{followed, in_turn}
 use Rattle.blazes_commands.specs.Checks as check
-use Rattle.blazes_commands.specs.Code.Ran.{Replies, RepliesTo}
+use Rattle.blazes_commands.specs.Code.Ran.{RepliesTo}
 use Rattle.blazes_commands.specs.Commands.{Work, Says}
 use Rattle.blazes_commands.specs.Commands.Work.{labelled, derived, planned, sharded}
-use Rattle.blazes_commands.proofs.CommandLemmas.{followed}
 
 -- a part that replies of what its checks gave replies to the command of these checks
 part_replies : {A : Type 0} (a b : Source) (bench : BenchStates) (s : Script A) (work : A → Work) (Said : A → Answer → Type 0) (result : Result Reply Stop)
-    → ((x : A) (answer : Answer) → Said x answer → Says (work x) bench answer) → RepliesOf Said (files_states a b) result s → Replies (files_states a b) bench result (s >>= λ x. gives (work x))
-part_replies a b bench s work Said (Ok reply) says told = followed a b bench s work told.given (answer_of reply) told.came (says told.given (answer_of reply) told.says)
+    → ((x : A) (answer : Answer) → Said x answer → Says (work x) bench answer) → RepliesOf Said (files_states a b) result s → RepliesWith Says (files_states a b) bench result (s >>= λ x. gives (work x))
+part_replies a b bench s work Said (Ok reply) says told = followed Says a b bench s work told.given (answer_of reply) told.came (says told.given (answer_of reply) told.says)
 part_replies a b bench s work Said (Err stop) says stopped = stop_then (files_states a b) stop s (λ x. gives (work x)) stopped
-
--- what goes on with two parts goes on with the second
-in_turn : {A B C : Type 0} (s : Script A) (next : A → Script B) (last : B → Script C) → ((s >>= next) >>= last) ≡ (s >>= λ x. next x >>= last)
-in_turn (gives x) next last = refl
-in_turn (refuses line) next last = refl
-in_turn (reads name after) next last = λ i. reads name (λ bytes. in_turn (after bytes) next last i)
 
 module _ (a b : Source) (bench : BenchStates) (result : Result Reply Stop) where
   pub label_replies : (name : Bytes) → RepliesOf (λ (seen : Validated). HasLabels label_text seen.view) (files_states a b) result (check.valid_topology name) → RepliesTo (Asked.label name) (files_states a b) bench result
@@ -46,6 +41,6 @@ module _ (a b : Source) (bench : BenchStates) (result : Result Reply Stop) where
 
   pub shard_replies : (asked : ShardWords) → RepliesOf HasShards (files_states a b) result (shards asked) → RepliesTo (Asked.shard asked) (files_states a b) bench result
   shard_replies asked told =
-      subst (λ (checks : Script Work). Replies (files_states a b) bench result checks)
+      subst (λ (checks : Script Work). RepliesWith Says (files_states a b) bench result checks)
       (in_turn (check.with_modules asked.topology) (λ found. check.sharding found asked) (λ copies. gives (sharded copies)))
       (part_replies a b bench (shards asked) sharded HasShards result (λ copies answer says. says) told)

@@ -1,9 +1,8 @@
 pub mod CommandLemmas
 pub mod LabelLemmas
-pub mod RunLemmas
+pub mod RanLemmas
+pub mod FoundLemmas
 pub mod GivenLemmas
-pub mod OpeningLemmas
-pub mod CommandFiles
 pub mod MakeLemmas
 pub mod TweetsLemmas
 pub mod SoakLemmas

@@ -19,22 +19,23 @@ use Rattle.sched_run.specs.declared.fault.MakeFault.{MakeFault}
 use Rattle.sched_text.specs.Text.{numbered_again}
 use Rattle.topo_types.specs.Data.{Data}
 use Rattle.topo_types.specs.View.{View}
-use Rattle.blazes_commands.specs.Bench.{BenchStates}
 use Rattle.blazes_commands.specs.Checks as check
 use Rattle.blazes_commands.specs.Code.Made.{IsMade, IsMadeOf, PrintsBooks}
-use Rattle.blazes_commands.specs.Code.Ran.{Replies}
 use Rattle.command_files.specs.Ran.{answer_of}
 use Rattle.command_files.specs.Reply.{Answer}
-use Rattle.blazes_commands.specs.Commands.{Work, making, making_for, Says, IsStatusOf}
+use Rattle.blazes_commands.specs.Commands.{Work, making, making_for, Says}
 use Rattle.blazes_commands.specs.Commands.Work.{made}
 use Rattle.command_files.specs.Ends.{Source, files_states}
 use Rattle.command_files.specs.Script.{Script, ◌>>=◌}
 use Rattle.command_files.specs.Script.Script.{gives}
 use Rattle.command_files.specs.declared.reply.Reply.{Reply}
 use Rattle.command_files.specs.declared.stop.Stop.{Stop}
-use Rattle.blazes_commands.proofs.CommandLemmas.{followed}
+use Rattle.command_runs.specs.Bench.{BenchStates}
+use Rattle.command_runs.specs.Contents.{IsStatusOf}
+use Rattle.command_runs.specs.Replies.{RepliesWith}
+use Rattle.command_runs.proofs.OpeningLemmas.{opened_then}
+use Rattle.command_runs.proofs.RepliesLemmas.{followed}
 use Rattle.blazes_commands.proofs.GivenLemmas.{made_gives}
-use Rattle.blazes_commands.proofs.OpeningLemmas.{opened_then}
 use Rattle.command_files.proofs.ScriptLemmas.{came_checked, gives_ran, memory_stops, stop_then}
 
 -- ---- the lines
@@ -78,9 +79,9 @@ module _ (v : View) (given : Data) (seed : ℕ) (loaded : List (Option Program))
 
     -- what becomes of the generator's answer
     made_reply : (result : Result (List Line) MakeFault) (outcome : Result Reply Stop) → IsMade Said result outcome → AnswersSo (wiring_of v) given (made_of (wiring_of v) given seed) (events_in v result) → HasMade v given loaded next new result
-        → Replies (files_states s s) bench outcome events
+        → RepliesWith Says (files_states s s) bench outcome events
     made_reply (Ok lines) (Ok reply) said answers stands =
-        followed s s bench (check.making v given seed) work (events_of v lines) (answer_of reply)
+        followed Says s s bench (check.making v given seed) work (events_of v lines) (answer_of reply)
         (came_checked s (check.made (made_of (wiring_of v) given seed)) (events_of v lines) (ap check.made answers.0))
         (follows lines (answer_of reply) stands answers.1 said)
     made_reply (Ok lines) (Err stop) said answers stands = memory_stops (files_states s s) events stop said
@@ -91,9 +92,9 @@ module _ (v : View) (given : Data) (seed : ℕ) (loaded : List (Option Program))
 
     -- the net is opened, and then makes a schedule
     pub making_replies : (w : View) (result : Result (List Line) MakeFault) (outcome : Result Reply Stop) → check.opened v (fault_of_opening v (λ k. k) bench.kinds) ≡ Ok tt → w ≡ v → Stands v given [] loaded tables old
-        → AnswersMade w loaded tables old seed result → LeavesMade w loaded tables next old new result → IsMade Said result outcome → Replies (files_states s s) bench outcome (making_for work bench.kinds v given seed)
+        → AnswersMade w loaded tables old seed result → LeavesMade w loaded tables next old new result → IsMade Said result outcome → RepliesWith Says (files_states s s) bench outcome (making_for work bench.kinds v given seed)
     making_replies w result outcome opens same stands answers leaves said =
-        opened_then v bench events outcome s opens
+        opened_then Says v bench events outcome s opens
         (made_reply result outcome said
         (subst (λ (z : View). AnswersMade z loaded tables old seed result) same answers given stands)
         (subst (λ (z : View). LeavesMade z loaded tables next old new result) same leaves given stands))
@@ -111,6 +112,6 @@ module _ (v : View) (given : Data) (seed : ℕ) (loaded : List (Option Program))
     }
 
     pub make_replies : (w u : View) (result : Result (List Line) MakeFault) (outcome : Result Reply Stop) → check.opened v (fault_of_opening v (λ k. k) bench.kinds) ≡ Ok tt → w ≡ v → u ≡ w → Stands v given [] loaded tables old
-        → AnswersMade w loaded tables old seed result → LeavesMade w loaded tables next old new result → IsMadeOf u new result outcome → Replies (files_states s s) bench outcome (making bench.kinds v given seed)
+        → AnswersMade w loaded tables old seed result → LeavesMade w loaded tables next old new result → IsMadeOf u new result outcome → RepliesWith Says (files_states s s) bench outcome (making bench.kinds v given seed)
     make_replies w u result outcome opens same still stands answers leaves said =
         making_replies bench s (made v given) (PrintsBooks v new) printed_follows w result outcome opens same stands answers leaves (subst (λ (z : View). IsMadeOf z new result outcome) (still ∙ same) said)

@@ -1,10 +1,10 @@
 -- What a command answers to the files that it reads.
 use Rattle.std.specs.Prelude.{◌≡◌}
-use Rattle.blazes_commands.specs.Bench.{BenchStates}
 use Rattle.command_files.specs.Script.{Script, Ending}
 use Rattle.command_files.specs.Ends.{FilesStates, Came}
 use Rattle.command_files.specs.Reply.{Answer}
 use Rattle.blazes_commands.specs.Commands.{Work, Says}
+use Rattle.command_runs.specs.Bench.{BenchStates}
 use Rattle.command_files.specs.Lines.{cannot_read}
 use Rattle.command_files.specs.declared.status.Status.TheVariants.{Refused, ReadFault}
 

@@ -1,5 +1,4 @@
 -- What functions give, beside the scripts that they run.
 pub mod Ran
-pub mod Runs
 pub mod Made
 pub mod Soaked

@@ -1,6 +1,5 @@
 -- What each command does, check by check, and what it has to write.
-use Rattle.std.specs.Prelude.{◌≡◌, ◌⊎◌, ℕ, List, take}
-use Rattle.bloom_ast.specs.declared.program.Program.{Program}
+use Rattle.std.specs.Prelude.{◌≡◌, ℕ, List}
 use Rattle.blz_boxes.specs.declared.kind.ProgramKind.{ProgramKind}
 use Rattle.topo_types.specs.Data.{Data}
 use Rattle.topo_types.specs.Valid.{Validated}
@@ -8,25 +7,22 @@ use Rattle.topo_types.specs.View.{View}
 use Rattle.label_rules.specs.declared.label.Label.{Label}
 use Rattle.label_walk.specs.Labels.{AreLabels}
 use Rattle.confluence.specs.Sound.{Sound, RestartSound}
-use Rattle.inbox.specs.Completeness.{IsComplete}
 use Rattle.inbox.specs.Events.{Event}
-use Rattle.inbox.specs.Executions.{Execution, contents}
-use Rattle.inbox.specs.Folds.{fold_rows}
-use Rattle.inbox.specs.OrderReplicas.{most_taken}
+use Rattle.inbox.specs.Executions.{Execution}
 use Rattle.inbox.specs.Wiring.{wiring_of}
 use Rattle.coord_synth.specs.Laws.{AreCoordinated}
 use Rattle.report_derivation.specs.DeriveText.{derive_text}
 use Rattle.report_print.specs.LabelText.{label_text}
-use Rattle.report_runs.specs.RunText.{run_text}
 use Rattle.report_runs.specs.SoakText.{soak_text}
 use Rattle.sched_run.specs.Applying.{Line}
 use Rattle.sched_run.specs.Made.{LeavesNothing, execution_after}
 use Rattle.sched_run.specs.Making.{events_of}
 use Rattle.shard_copies.specs.declared.sharded.Sharded.{Sharded}
-use Rattle.sched_run.specs.Reading.{IsOrdered}
 use Rattle.sched_text.specs.Reading.{ReadsAs, event_reading}
 use Rattle.sched_text.specs.Text.{schedule_text}
-use Rattle.blazes_commands.specs.Bench.{BenchStates, HasInstances}
+use Rattle.command_runs.specs.Bench.{BenchStates}
+use Rattle.command_runs.specs.Contents.{HasRun, IsStatusOf}
+use Rattle.command_finds.specs.Finds.{Witnessed, Explained, HasWitness, HasReasons, witnessing, explaining}
 use Rattle.command_files.specs.Reply.{Answer}
 use Rattle.command_files.specs.Script.{Script, ◌>>=◌}
 use Rattle.command_labels.specs.Answers.{HasLabels, HasPlan, HasShards}
@@ -34,8 +30,7 @@ use Rattle.blazes_words.specs.Words.{Asked}
 use Rattle.blazes_commands.specs.Checks as check
 use Rattle.command_labels.specs.BuiltIn.{planned_count}
 use Rattle.blazes_commands.specs.Soak.{tweets_data}
-use Rattle.command_files.specs.declared.status.Status.{Status}
-use Rattle.command_files.specs.declared.status.Status.TheVariants.{Done, Incomplete}
+use Rattle.command_files.specs.declared.status.Status.TheVariants.{Done}
 
 -- what a command has found that no check refused
 pub data Work : Type 0 where
@@ -53,12 +48,16 @@ pub data Work : Type 0 where
   soaked : (batches : ℕ) → View → Data → List Event → Work
   -- a topology with copies of a component, which is to be written with their modules
   sharded : Sharded → Work
+  -- two executions over the same data, whose first difference is to be written
+  witnessed : Witnessed → Work
+  -- a record that a schedule yields, which is to be written with the events that it needs
+  explained : Explained → Work
 
--- what follows in a run on the checks of its files: the net is opened, and the events happen
-abbrev pub running : List ProgramKind → View → Data → List Line → Script Work
-running kinds v given lines = do
+-- what follows in `run` and `restart` on the checks of their files: the net is opened, and what happens makes an execution
+abbrev pub running : List ProgramKind → View → Data → Script Execution → Script Work
+running kinds v given happens = do
   opened ← check.opening v kinds
-  x ← check.execution v given lines
+  x ← happens
   Script.gives (Work.ran v given x)
 
 -- a net is opened, and a seed chooses the events, of which there is this work
@@ -93,7 +92,12 @@ script kinds (Asked.run files) = do
   seen ← check.valid_topology files.topology
   given ← check.data_file seen files.given
   lines ← check.schedule_file files.schedule
-  running kinds seen.view given lines
+  running kinds seen.view given (check.execution seen.view given lines)
+script kinds (Asked.restart files) = do
+  seen ← check.valid_topology files.topology
+  given ← check.data_file seen files.given
+  lines ← check.steps_file files.schedule
+  running kinds seen.view given (check.restarted seen.view given lines)
 script kinds (Asked.make words) = do
   seen ← check.valid_topology words.topology
   given ← check.data_file seen words.given
@@ -105,26 +109,12 @@ script kinds (Asked.shard words) = do
   found ← check.with_modules words.topology
   copies ← check.sharding found words
   Script.gives (Work.sharded copies)
-
--- Done where an execution is complete, and else Incomplete
-abbrev pub IsStatusOf : View → Data → Execution → Status → Type 0
-IsStatusOf v given x status = ((status ≡ Done) × IsComplete (wiring_of v) given x) ⊎ ((status ≡ Incomplete) × ¬ IsComplete (wiring_of v) given x)
-
--- the contents of each replica of an Order component are what its program puts out over the first entries of the log, as many as it took in the life in which it took most
-abbrev pub HasOrderReplicas : View → Data → Execution → Type 0
-HasOrderReplicas v given x = (stream replica component output : ℕ) (program : Program) → IsOrdered v stream replica component output program
-    → contents (wiring_of v) given x stream replica ≡ fold_rows program (take (most_taken (x.lives component replica)) (x.logs component)) output
-
--- the answer is the text of the execution, under this status
-pub record HasContents (v : View) (given : Data) (x : Execution) (answer : Answer) : Type 0 where
-  pub text : answer.text ≡ run_text v given x
-  pub status : IsStatusOf v given x answer.status
-  pub ordered : HasOrderReplicas v given x
-
--- and the bench ends with the shells of its instances
-pub record HasRun (v : View) (given : Data) (x : Execution) (bench : BenchStates) (answer : Answer) : Type 0 where
-  pub contents : HasContents v given x answer
-  pub instances : HasInstances v x bench
+script kinds (Asked.witness files) = do
+  found ← witnessing kinds files
+  Script.gives (Work.witnessed found)
+script kinds (Asked.why words) = do
+  found ← explaining kinds words
+  Script.gives (Work.explained found)
 
 -- the answer is the text of a schedule that reads as these events, which leave nothing; it is Done where nothing is held either
 pub record HasSchedule (v : View) (given : Data) (events : List Event) (answer : Answer) : Type 0 where
@@ -158,3 +148,5 @@ Says (Work.ran v given x) bench answer = HasRun v given x bench answer
 Says (Work.made v given events) bench answer = HasSchedule v given events answer
 Says (Work.soaked batches v given events) bench answer = HasSoak batches v given events answer
 Says (Work.sharded copies) bench answer = HasShards copies answer
+Says (Work.witnessed found) bench answer = HasWitness found answer
+Says (Work.explained found) bench answer = HasReasons found answer

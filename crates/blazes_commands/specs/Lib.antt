@@ -1,6 +1,5 @@
 pub mod Checks
 pub mod Soak
-pub mod Bench
 pub mod Commands
 pub mod Answer
 pub mod Code

@@ -1,20 +1,21 @@
 //! The commands by what is asked.
 ghost use Rattle.std.specs.Prelude.{map};
-ghost use Rattle.blazes_commands.specs.Bench.{bench_states};
 ghost use Rattle.blazes_commands.specs.Code.Ran.{RepliesTo};
 ghost use Rattle.blazes_words.specs.Requests.{asked_by};
-ghost use Rattle.blazes_commands.specs.Code.Runs.{KeepsKinds};
 ghost use Rattle.command_files.specs.Ends.{files_states, source};
 ghost use Rattle.blazes_words.specs.Words.{IsWithin};
+ghost use Rattle.command_runs.specs.Bench.{bench_states};
+ghost use Rattle.command_runs.specs.Replies.{KeepsKinds};
 
 use crate::making::make;
-use crate::running::run;
 use crate::soaking::soak;
 use blazes_words::Request;
 use blz_boxes::Component;
 use blz_outside::Files;
 use command_files::{Reply, Stop};
+use command_finds::{why, witness};
 use command_labels::{derive, label, plan, shard};
+use command_runs::{restart, run};
 use std::alloc::Global;
 
 /// The reply of the command that is asked for, or what stopped it: its checks go in their order, and it
@@ -46,5 +47,8 @@ pub fn outcome_of<F: Files>(
         Request::Make(words) => make(alloc, words, files, bench),
         Request::Soak(words) => soak(alloc, words, bench),
         Request::Shard(words) => shard(alloc, &words, files),
+        Request::Restart(names) => restart(alloc, names, files, bench),
+        Request::Witness(names) => witness(alloc, names, files, bench),
+        Request::Why(words) => why(alloc, words, files, bench),
     }
 }

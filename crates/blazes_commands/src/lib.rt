@@ -4,8 +4,6 @@
 mod batches;
 mod commands;
 mod making;
-mod opening;
-mod running;
 mod soaking;
 
 pub use commands::outcome_of;

@@ -5,24 +5,23 @@ ghost use Rattle.sched_run.specs.Making.{CountFromOne};
 ghost use Rattle.sched_hear.specs.Net.{BooksRun};
 ghost use Rattle.sched_text.specs.Text.{IsPrintable};
 ghost use Rattle.topo_types.specs.Data.{IsData};
-ghost use Rattle.blazes_commands.specs.Bench.{bench_states};
 ghost use Rattle.blazes_commands.specs.Checks as check;
 ghost use Rattle.blazes_commands.specs.Code.Made.{IsMadeOf, PrintsBooks};
 ghost use Rattle.command_files.specs.Ran.{answer_of};
 ghost use Rattle.blazes_commands.specs.Code.Ran.{RepliesTo};
 ghost use Rattle.blazes_words.specs.Requests.{make_shown};
-ghost use Rattle.blazes_commands.specs.Code.Runs.{KeepsKinds, RepliesAtOnce};
-ghost use Rattle.blazes_commands.specs.Commands.{making};
+ghost use Rattle.blazes_commands.specs.Commands.{Says, making};
 ghost use Rattle.command_files.specs.Ends.{files_states, source};
 ghost use Rattle.blazes_words.specs.Words.{Asked};
+ghost use Rattle.command_runs.specs.Bench.{bench_states};
+ghost use Rattle.command_runs.specs.Replies.{KeepsKinds, RepliesAtOnce};
 
-use crate::opening::opened;
-use crate::running::status_of;
 use blazes_words::MakeWords;
 use blz_boxes::Component;
 use blz_outside::Files;
 use command_checks::{data_file, valid_topology};
 use command_files::{Reply, Stop, stop_at};
+use command_runs::{opened, status_of};
 use data_read::Data;
 use report_print::{MakeKind, Refusal};
 use sched_run::{MakeFault, Net};
@@ -91,7 +90,7 @@ fn made_over(
     bench: &mut Vec<Box<dyn Component>>,
 ) -> Result<Reply, Stop>
     requires { IsData valid.now.view given }
-    ensures replies { RepliesAtOnce
+    ensures replies { RepliesAtOnce Says
         (bench_states (map (λ b. kind b) bench.old.items) (map (λ b. kind b) bench.new.items)
         (map (λ b. loaded b) bench.new.items) (map (λ b. kept b) bench.new.items))
         result (making (map (λ b. kind b) bench.old.items) valid.now.view given seed) }

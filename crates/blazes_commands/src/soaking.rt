@@ -3,21 +3,21 @@ ghost use Rattle.std.specs.Prelude.{◌≡◌, IfOk, OnOk, map};
 ghost use Rattle.sched_hear.specs.Net.{BooksRun};
 ghost use Rattle.topo_types.specs.Data.{IsData};
 ghost use Rattle.coord_synth.specs.Laws.{AreCoordinated};
-ghost use Rattle.blazes_commands.specs.Bench.{bench_states};
 ghost use Rattle.command_files.specs.Ran.{answer_of};
 ghost use Rattle.blazes_words.specs.Requests.{soak_shown};
-ghost use Rattle.blazes_commands.specs.Code.Runs.{KeepsKinds, RepliesAtOnce};
 ghost use Rattle.blazes_commands.specs.Code.Soaked.{IsSummaryOf, SumsBooks};
-ghost use Rattle.blazes_commands.specs.Commands.{Work, making_for, script, soaking};
+ghost use Rattle.blazes_commands.specs.Commands.{Says, Work, making_for, script, soaking};
 ghost use Rattle.blazes_words.specs.Words.{Asked};
+ghost use Rattle.command_runs.specs.Bench.{bench_states};
+ghost use Rattle.command_runs.specs.Replies.{KeepsKinds, RepliesAtOnce};
 
 use crate::batches::tweets_data;
 use crate::making::make_refusal;
-use crate::opening::opened;
 use blazes_words::SoakWords;
 use blz_boxes::Component;
 use command_files::{Reply, Stop, done, stop_at};
 use command_labels::{planned_count, sound_labels};
+use command_runs::opened;
 use data_read::Data;
 use report_runs::soak_text;
 use sched_run::{MakeFault, Net, make};
@@ -66,7 +66,7 @@ fn soaked_over(
 ) -> Result<Reply, Stop>
     requires fits { IsData valid.now.view given }
     requires coordinated { AreCoordinated valid.now.view }
-    ensures replies { RepliesAtOnce
+    ensures replies { RepliesAtOnce Says
         (bench_states (map (λ b. kind b) bench.old.items) (map (λ b. kind b) bench.new.items)
         (map (λ b. loaded b) bench.new.items) (map (λ b. kept b) bench.new.items))
         result (making_for (Work.soaked words.count valid.now.view given) (map (λ b. kind b) bench.old.items) valid.now.view given words.seed) }
@@ -90,7 +90,7 @@ fn soaked(
     bench: &mut Vec<Box<dyn Component>>,
 ) -> Result<Reply, Stop>
     requires { AreCoordinated valid.now.view }
-    ensures replies { RepliesAtOnce
+    ensures replies { RepliesAtOnce Says
         (bench_states (map (λ b. kind b) bench.old.items) (map (λ b. kind b) bench.new.items)
         (map (λ b. loaded b) bench.new.items) (map (λ b. kept b) bench.new.items))
         result (soaking words.count (map (λ b. kind b) bench.old.items) valid.now.view words.seed) }
@@ -110,7 +110,7 @@ pub fn soak(
     words: SoakWords,
     bench: &mut Vec<Box<dyn Component>>,
 ) -> Result<Reply, Stop>
-    ensures replies { RepliesAtOnce
+    ensures replies { RepliesAtOnce Says
         (bench_states (map (λ b. kind b) bench.old.items) (map (λ b. kind b) bench.new.items)
         (map (λ b. loaded b) bench.new.items) (map (λ b. kept b) bench.new.items))
         result (script (map (λ b. kind b) bench.old.items) (Asked.soak (soak_shown words))) }

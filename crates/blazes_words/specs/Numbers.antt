@@ -52,6 +52,14 @@ count_of (Some word) = count_in word
 abbrev pub IsCount : ℕ → Type 0
 IsCount count = (1 ≤ count) × (count ≤ greatest_count)
 
+-- ---- replicas and indexes
+
+-- a number of at most 10 digits below 2^32
+abbrev pub place_of : Text → Option ℕ
+place_of word = do
+  number ← number_of 10 word
+  only_if (nat_lt number (2 ^ 32)) number
+
 -- ---- bounds
 
 -- a number of at most 19 digits that is an Int

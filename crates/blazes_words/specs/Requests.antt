@@ -8,10 +8,12 @@ use Rattle.blazes_words.specs.Words as spec
 use Rattle.blazes_words.specs.declared.words.Line.{Line}
 use Rattle.blazes_words.specs.declared.words.MakeWords.{MakeWords}
 use Rattle.blazes_words.specs.declared.words.Request.{Request}
-use Rattle.blazes_words.specs.declared.words.Request.TheVariants.{Label, Derive, Plan, Run, Make, Soak, Shard}
+use Rattle.blazes_words.specs.declared.words.Request.TheVariants.{Label, Derive, Plan, Run, Make, Soak, Shard, Restart, Witness, Why}
 use Rattle.blazes_words.specs.declared.words.RunFiles.{RunFiles}
 use Rattle.blazes_words.specs.declared.words.ShardWords.{ShardWords}
 use Rattle.blazes_words.specs.declared.words.SoakWords.{SoakWords}
+use Rattle.blazes_words.specs.declared.words.WhyWords.{WhyWords}
+use Rattle.blazes_words.specs.declared.words.WitnessFiles.{WitnessFiles}
 
 -- the words match the simple command
 abbrev pub Match : List Text → Type 0
@@ -44,6 +46,12 @@ soak_shown words = record { seed = words.seed; count = words.count }
 abbrev pub shard_shown : ShardWords → spec.ShardWords
 shard_shown words = record { topology = words.topology.now; component = words.component.now; column = words.column.now; bounds = words.bounds.items }
 
+abbrev pub witness_shown : WitnessFiles → spec.WitnessFiles
+witness_shown files = record { topology = files.topology.now; given = files.given.now; first = files.first.now; second = files.second.now }
+
+abbrev pub why_shown : WhyWords → spec.WhyWords
+why_shown words = record { topology = words.topology.now; given = words.given.now; schedule = words.schedule.now; stream = words.stream.now; replica = words.replica; index = words.index }
+
 -- what a request asks for
 abbrev pub asked_by : Request → Asked
 asked_by (Label topology) = Asked.label topology.now
@@ -53,3 +61,6 @@ asked_by (Run files) = Asked.run (files_shown files)
 asked_by (Make words) = Asked.make (make_shown words)
 asked_by (Soak words) = Asked.soak (soak_shown words)
 asked_by (Shard words) = Asked.shard (shard_shown words)
+asked_by (Restart files) = Asked.restart (files_shown files)
+asked_by (Witness files) = Asked.witness (witness_shown files)
+asked_by (Why words) = Asked.why (why_shown words)

@@ -4,7 +4,7 @@ use Rattle.std.specs.Option.{option_map_or}
 use Rattle.std.specs.Str.{bytes_eq}
 use Rattle.clap.specs.Kinds.{Kinds}
 use Rattle.clap.specs.Words.{App, Rule, Row, Text, new_app, new_rule, with_rule, fault_of, matches_of, first_of, all_of}
-use Rattle.blazes_words.specs.Numbers.{IsCount, AreFew, seed_of, count_of, bounds_of, ◌>>=◌}
+use Rattle.blazes_words.specs.Numbers.{IsCount, AreFew, seed_of, count_of, place_of, bounds_of, ◌>>=◌}
 use Rattle.clap.specs.declared.builder.ArgAction.TheVariants.{Set, Append}
 
 -- COMMAND, which is required
@@ -54,6 +54,25 @@ pub record ShardWords : Type 0 where
   pub column : Text
   pub bounds : List ℤ
 
+-- the names of the files of two runs of one topology over the same data
+pub record WitnessFiles : Type 0 where
+  pub topology : Text
+  -- the data
+  pub given : Text
+  -- the schedules
+  pub first : Text
+  pub second : Text
+
+-- the names of the files of a run, and the place of a record in an emitted list
+pub record WhyWords : Type 0 where
+  pub topology : Text
+  -- the data
+  pub given : Text
+  pub schedule : Text
+  pub stream : Text
+  pub replica : ℕ
+  pub index : ℕ
+
 -- what a command line asks for, with the names of its files
 pub data Asked : Type 0 where
   -- the labels of the topology in this file
@@ -70,6 +89,12 @@ pub data Asked : Type 0 where
   soak : SoakWords → Asked
   -- the topology with copies of a component
   shard : ShardWords → Asked
+  -- what its instances emit under a schedule over data in which they may forget
+  restart : RunFiles → Asked
+  -- where what they emit differs between two schedules over data
+  witness : WitnessFiles → Asked
+  -- which events of a schedule over data a record needs
+  why : WhyWords → Asked
 
 -- its numbers are in their ranges
 abbrev pub IsWithin : Asked → Type 0
@@ -80,6 +105,9 @@ IsWithin (Asked.run files) = Unit {0}
 IsWithin (Asked.make words) = words.seed < 2 ^ 64
 IsWithin (Asked.soak words) = (words.seed < 2 ^ 64) × IsCount words.count
 IsWithin (Asked.shard words) = AreFew words.bounds
+IsWithin (Asked.restart files) = Unit {0}
+IsWithin (Asked.witness files) = Unit {0}
+IsWithin (Asked.why words) = (words.replica < 2 ^ 32) × (words.index < 2 ^ 32)
 
 -- the words of a command line, taken apart: COMMAND, the words after it, and the values of the options
 pub record Line : Type 0 where
@@ -153,6 +181,27 @@ three_and_bounds texts = None
 abbrev pub shard_words : Line → Option ShardWords
 shard_words line = without_options three_and_bounds line
 
+-- the four texts of a list of four: TOPOLOGY DATA SCHEDULE SCHEDULE
+abbrev pub four : List Text → Option WitnessFiles
+four (topology ∷ given ∷ first ∷ second ∷ []) = Some (record { topology = topology; given = given; first = first; second = second })
+four texts = None
+
+-- the four words after a command without options
+abbrev pub witness_files : Line → Option WitnessFiles
+witness_files line = without_options four line
+
+-- the texts of a list of six: TOPOLOGY DATA SCHEDULE STREAM REPLICA INDEX
+abbrev pub four_and_place : List Text → Option WhyWords
+four_and_place (topology ∷ given ∷ schedule ∷ stream ∷ replica ∷ index ∷ []) = do
+  r ← place_of replica
+  i ← place_of index
+  Some (record { topology = topology; given = given; schedule = schedule; stream = stream; replica = r; index = i })
+four_and_place texts = None
+
+-- the six words after a command without options, of which the last two are numbers
+abbrev pub why_words : Line → Option WhyWords
+why_words line = without_options four_and_place line
+
 -- a command: its name, and what a line with it asks for
 pub record Command : Type 0 where
   pub name : Text
@@ -168,6 +217,9 @@ commands =
     ∷ record { name = codes "make"; asks = λ line. option_map Asked.make (make_words line) }
     ∷ record { name = codes "soak"; asks = λ line. option_map Asked.soak (soak_words line) }
     ∷ record { name = codes "shard"; asks = λ line. option_map Asked.shard (shard_words line) }
+    ∷ record { name = codes "restart"; asks = λ line. option_map Asked.restart (run_files line) }
+    ∷ record { name = codes "witness"; asks = λ line. option_map Asked.witness (witness_files line) }
+    ∷ record { name = codes "why"; asks = λ line. option_map Asked.why (why_words line) }
     ∷ []
 
 -- what a line asks for

@@ -4,4 +4,6 @@
 mod numbers;
 mod words;
 
-pub use words::{MakeWords, Request, RunFiles, ShardWords, SoakWords, request_of};
+pub use words::{
+    MakeWords, Request, RunFiles, ShardWords, SoakWords, WhyWords, WitnessFiles, request_of,
+};

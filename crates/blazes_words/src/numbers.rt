@@ -23,6 +23,8 @@ const OPTION_DIGITS: usize = 20;
 
 const BOUND_DIGITS: usize = 19;
 
+const PLACE_DIGITS: usize = 10;
+
 fn has_digits(word: &[u8]) -> bool
     ensures { result ≡ list_all is_ascii_digit word.now }
 {
@@ -77,6 +79,14 @@ pub(crate) fn count_of(value: Option<&str>) -> Option<u32>
         Some(word) => count_in(word),
         None => Some(DEFAULT_COUNT),
     }
+}
+
+/// The replica or the index that a word is: 1 to 10 digits below 2^32.
+pub(crate) fn place_of(word: &str) -> Option<u32>
+    ensures { result ≡ spec.place_of word.now }
+{
+    let number = number_of(word, PLACE_DIGITS)?;
+    u32::try_from(number).ok()
 }
 
 // The bound that a word is.

@@ -1,12 +1,12 @@
 //! What the words of a command line ask for.
 ghost use Rattle.std.specs.Prelude.{◌≡◌, IfOk, IfSome, map, option_map, option_and_then, string_bytes, false};
 ghost use Rattle.clap.specs.Words.{all_of, app_of, first_of, found_of, rows_of, rule_of};
-ghost use Rattle.blazes_words.specs.Requests.{AreMatches, asked_by, files_shown, line_shown, make_shown, shard_shown, soak_shown};
+ghost use Rattle.blazes_words.specs.Requests.{AreMatches, asked_by, files_shown, line_shown, make_shown, shard_shown, soak_shown, why_shown, witness_shown};
 ghost use Rattle.blazes_words.specs.Numbers.{AreFew, IsCount};
 ghost use Rattle.blazes_words.specs.Words.{bare_command, simple_command, command_rule, file_rule, option_rule};
 ghost use Rattle.blazes_words.specs.Words as spec;
 
-use crate::numbers::{bounds_of, count_of, seed_of};
+use crate::numbers::{bounds_of, count_of, place_of, seed_of};
 use clap::error::ErrorKind;
 use clap::{Arg, ArgAction, ArgMatches, Command};
 use std::alloc::{AllocError, Global};
@@ -46,6 +46,33 @@ pub struct ShardWords<'a> {
     pub bounds: Vec<i64>,
 }
 
+/// The names of the files of two runs of one topology over the same data.
+#[derive(Clone, Copy, Debug, PartialEq, Eq)]
+pub struct WitnessFiles<'a> {
+    pub topology: &'a str,
+    /// The data.
+    pub given: &'a str,
+    /// The first schedule.
+    pub first: &'a str,
+    /// The second schedule.
+    pub second: &'a str,
+}
+
+/// The names of the files of a run, and the record that is asked about: its place in an emitted list.
+#[derive(Clone, Copy, Debug, PartialEq, Eq)]
+pub struct WhyWords<'a> {
+    pub topology: &'a str,
+    /// The data.
+    pub given: &'a str,
+    pub schedule: &'a str,
+    /// The stream's name.
+    pub stream: &'a str,
+    /// The sender's replica, counted from 0.
+    pub replica: u32,
+    /// The place in the emitted list, counted from 0.
+    pub index: u32,
+}
+
 /// What a command line asks for.
 #[derive(Debug, Drop)]
 pub enum Request<'a> {
@@ -63,6 +90,12 @@ pub enum Request<'a> {
     Soak(SoakWords),
     /// The topology with copies of a component.
     Shard(ShardWords<'a>),
+    /// What its instances emit under a schedule over data in which they may forget.
+    Restart(RunFiles<'a>),
+    /// Where what they emit differs between two schedules over data.
+    Witness(WitnessFiles<'a>),
+    /// Which events of a schedule over data a record needs.
+    Why(WhyWords<'a>),
 }
 
 // The words of a command line, taken apart.
@@ -252,6 +285,44 @@ fn shard_words<'a>(alloc: Global, line: &Line<'_, 'a>) -> Result<Option<ShardWor
     }
 }
 
+// The four words after a command without options.
+fn witness_files<'a>(line: &Line<'_, 'a>) -> Option<WitnessFiles<'a>>
+    ensures { option_map witness_shown result ≡ spec.witness_files (line_shown line.now) }
+{
+    if line.seed.is_some() || line.count.is_some() {
+        return None;
+    }
+    match line.words {
+        Some([topology, given, first, second]) => Some(WitnessFiles {
+            topology: *topology,
+            given: *given,
+            first: *first,
+            second: *second,
+        }),
+        _ => None,
+    }
+}
+
+// The six words after a command without options, of which the last two are numbers.
+fn why_words<'a>(line: &Line<'_, 'a>) -> Option<WhyWords<'a>>
+    ensures { option_map why_shown result ≡ spec.why_words (line_shown line.now) }
+{
+    if line.seed.is_some() || line.count.is_some() {
+        return None;
+    }
+    match line.words {
+        Some([topology, given, schedule, stream, replica, index]) => Some(WhyWords {
+            topology: *topology,
+            given: *given,
+            schedule: *schedule,
+            stream: *stream,
+            replica: place_of(replica)?,
+            index: place_of(index)?,
+        }),
+        _ => None,
+    }
+}
+
 // What a line asks for.
 fn request_for<'a>(alloc: Global, line: &Line<'_, 'a>) -> Result<Option<Request<'a>>, AllocError>
     ensures within { IfOk result (λ request. IfSome request (λ request. spec.IsWithin (asked_by request))) }
@@ -268,6 +339,9 @@ fn request_for<'a>(alloc: Global, line: &Line<'_, 'a>) -> Result<Option<Request<
             None => None,
         },
         "shard" => shard_words(alloc, line)?.map(Request::Shard),
+        "restart" => run_files(line).map(Request::Restart),
+        "witness" => witness_files(line).map(Request::Witness),
+        "why" => why_words(line).map(Request::Why),
         _ => None,
     };
     Ok(request)

@@ -57,7 +57,8 @@ fn order(sent: &Sent, component: &Str, port: &Str) -> Result<Event, AllocError>
     })
 }
 
-fn copy_of_event(alloc: Global, event: &Event) -> Result<Event, AllocError>
+/// A copy of an event.
+pub fn copy_of_event(alloc: Global, event: &Event) -> Result<Event, AllocError>
     ensures { IfOk result (λ copy. copy ≡ event.now) }
 {
     match event {

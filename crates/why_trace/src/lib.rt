@@ -6,4 +6,5 @@ mod copies;
 mod tracing;
 mod trial;
 
+pub use copies::copy_of_event;
 pub use tracing::trace;

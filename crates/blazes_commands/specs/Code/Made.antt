@@ -9,7 +9,7 @@ use Rattle.sched_text.specs.Text.{schedule_text}
 use Rattle.blazes_commands.specs.Checks.{make_refusal}
 use Rattle.command_files.specs.Reply.{Answer}
 use Rattle.command_files.specs.Ran.{answer_of, IsStopAt}
-use Rattle.blazes_commands.specs.Code.Runs.{TellsStatus}
+use Rattle.command_runs.specs.Contents.{TellsStatus}
 use Rattle.command_files.specs.declared.reply.Reply.{Reply}
 use Rattle.command_files.specs.declared.stop.Stop.{Stop}
 use Rattle.command_files.specs.declared.stop.Stop.TheVariants.{NoMemory}

@@ -1,5 +1,5 @@
 use Rattle.std.proofs.Common.{map}
-use Rattle.blazes_commands.specs.Bench.{bench_states}
+use Rattle.command_runs.specs.Bench.{bench_states}
 use Rattle.blazes_words.specs.Requests.{asked_by}
 use Rattle.blazes_commands.specs.Commands.{script}
 use Rattle.command_files.specs.Ends.{files_states, source}

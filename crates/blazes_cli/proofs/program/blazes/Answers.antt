@@ -1,6 +1,6 @@
 use Rattle.std.proofs.Common.{◌≡◌, ◌≢◌, None, map, string_bytes, subst}
 use Rattle.blz_outside.specs.Counts.{Rose}
-use Rattle.blazes_commands.specs.Bench.{bench_states}
+use Rattle.command_runs.specs.Bench.{bench_states}
 use Rattle.command_files.specs.Ran.{answer_of}
 use Rattle.command_files.specs.Ends.{files_states, source}
 use Rattle.blazes_cli.specs.Outcome.{sink_states, IsSaid, IsUsageOrLost, IsReadFaultOrLost, Misses}

@@ -1,13 +1,15 @@
 use Rattle.std.proofs.Common.{map, subst, sym}
 use Rattle.std.proofs.lemmas.List.Sorted.{IsPermutation-refl}
-use Rattle.blazes_commands.specs.Bench.{bench_states}
 use Rattle.blazes_commands.specs.Code.Ran.{RepliesTo}
-use Rattle.blazes_words.specs.Requests.{asked_by, shard_shown}
+use Rattle.blazes_words.specs.Requests.{asked_by, files_shown, shard_shown, why_shown, witness_shown}
 use Rattle.command_files.specs.Ends.{files_states, source}
 use Rattle.blazes_words.specs.Words.{IsWithin}
 use Rattle.blazes_words.specs.declared.words.Request.{Request}
-use Rattle.blazes_commands.proofs.CommandLemmas.{kept_anyway}
+use Rattle.command_runs.specs.Bench.{bench_states}
+use Rattle.command_runs.proofs.RepliesLemmas.{kept_anyway}
 use Rattle.blazes_commands.proofs.LabelLemmas.{derive_replies, label_replies, plan_replies, shard_replies}
+use Rattle.blazes_commands.proofs.FoundLemmas.{why_replies, witness_replies}
+use Rattle.blazes_commands.proofs.RanLemmas.{restart_replies, run_replies}
 use Rattle.blazes_commands.proofs.commands.outcome_of.Goals as goal
 
 pub returns-in-Label : goal.returns-in-Label
@@ -43,9 +45,10 @@ returns-in-Plan g c =
 pub returns-in-Run : goal.returns-in-Run
 returns-in-Run g c =
     let bench = bench_states (map (λ b. (goal.Component-dyn g (b.vtable, b.value)).kind b.value) c.args.bench.now.items) (map (λ b. (goal.Component-dyn g (b.vtable, b.value)).kind b.value) c.run.new.bench.items) (map (λ b. (goal.Component-dyn g (b.vtable, b.value)).loaded b.value) c.run.new.bench.items) (map (λ b. (goal.Component-dyn g (b.vtable, b.value)).kept b.value) c.run.new.bench.items) in
-    let files = files_states (source (g.F.Files.held c.args.files.now) (g.F.Files.steady c.args.files.now) (g.F.Files.faults c.args.files.now)) (source (g.F.Files.held c.run.new.files) (g.F.Files.steady c.run.new.files) (g.F.Files.faults c.run.new.files)) in
+    let a = source (g.F.Files.held c.args.files.now) (g.F.Files.steady c.args.files.now) (g.F.Files.faults c.args.files.now) in
+    let b = source (g.F.Files.held c.run.new.files) (g.F.Files.steady c.run.new.files) (g.F.Files.faults c.run.new.files) in
     record {
-      replies = subst (λ (request : Request). RepliesTo (asked_by request) files bench c.run.result) (sym c.in-Run.is) c.run.ensures.replies;
+      replies = subst (λ (request : Request). RepliesTo (asked_by request) (files_states a b) bench c.run.result) (sym c.in-Run.is) (run_replies a b bench c.run.result (files_shown c.in-Run.names) c.run.ensures.replies);
       kinds = c.run.ensures.kinds;
     }
 
@@ -75,6 +78,36 @@ returns-in-Shard g c =
     record {
       replies = subst (λ (request : Request). RepliesTo (asked_by request) (files_states a b) bench c.shard.result) (sym c.in-Shard.is) (shard_replies a b bench c.shard.result (shard_shown c.in-Shard.words) c.shard.ensures);
       kinds = kept_anyway bench c.shard.result (IsPermutation-refl bench.kinds);
+    }
+
+pub returns-in-Restart : goal.returns-in-Restart
+returns-in-Restart g c =
+    let bench = bench_states (map (λ b. (goal.Component-dyn g (b.vtable, b.value)).kind b.value) c.args.bench.now.items) (map (λ b. (goal.Component-dyn g (b.vtable, b.value)).kind b.value) c.restart.new.bench.items) (map (λ b. (goal.Component-dyn g (b.vtable, b.value)).loaded b.value) c.restart.new.bench.items) (map (λ b. (goal.Component-dyn g (b.vtable, b.value)).kept b.value) c.restart.new.bench.items) in
+    let a = source (g.F.Files.held c.args.files.now) (g.F.Files.steady c.args.files.now) (g.F.Files.faults c.args.files.now) in
+    let b = source (g.F.Files.held c.restart.new.files) (g.F.Files.steady c.restart.new.files) (g.F.Files.faults c.restart.new.files) in
+    record {
+      replies = subst (λ (request : Request). RepliesTo (asked_by request) (files_states a b) bench c.restart.result) (sym c.in-Restart.is) (restart_replies a b bench c.restart.result (files_shown c.in-Restart.names) c.restart.ensures.replies);
+      kinds = c.restart.ensures.kinds;
+    }
+
+pub returns-in-Witness : goal.returns-in-Witness
+returns-in-Witness g c =
+    let bench = bench_states (map (λ b. (goal.Component-dyn g (b.vtable, b.value)).kind b.value) c.args.bench.now.items) (map (λ b. (goal.Component-dyn g (b.vtable, b.value)).kind b.value) c.witness.new.bench.items) (map (λ b. (goal.Component-dyn g (b.vtable, b.value)).loaded b.value) c.witness.new.bench.items) (map (λ b. (goal.Component-dyn g (b.vtable, b.value)).kept b.value) c.witness.new.bench.items) in
+    let a = source (g.F.Files.held c.args.files.now) (g.F.Files.steady c.args.files.now) (g.F.Files.faults c.args.files.now) in
+    let b = source (g.F.Files.held c.witness.new.files) (g.F.Files.steady c.witness.new.files) (g.F.Files.faults c.witness.new.files) in
+    record {
+      replies = subst (λ (request : Request). RepliesTo (asked_by request) (files_states a b) bench c.witness.result) (sym c.in-Witness.is) (witness_replies a b bench c.witness.result (witness_shown c.in-Witness.names) c.witness.ensures.replies);
+      kinds = c.witness.ensures.kinds;
+    }
+
+pub returns-in-Why : goal.returns-in-Why
+returns-in-Why g c =
+    let bench = bench_states (map (λ b. (goal.Component-dyn g (b.vtable, b.value)).kind b.value) c.args.bench.now.items) (map (λ b. (goal.Component-dyn g (b.vtable, b.value)).kind b.value) c.why.new.bench.items) (map (λ b. (goal.Component-dyn g (b.vtable, b.value)).loaded b.value) c.why.new.bench.items) (map (λ b. (goal.Component-dyn g (b.vtable, b.value)).kept b.value) c.why.new.bench.items) in
+    let a = source (g.F.Files.held c.args.files.now) (g.F.Files.steady c.args.files.now) (g.F.Files.faults c.args.files.now) in
+    let b = source (g.F.Files.held c.why.new.files) (g.F.Files.steady c.why.new.files) (g.F.Files.faults c.why.new.files) in
+    record {
+      replies = subst (λ (request : Request). RepliesTo (asked_by request) (files_states a b) bench c.why.result) (sym c.in-Why.is) (why_replies a b bench c.why.result (why_shown c.in-Why.words) c.why.ensures.replies);
+      kinds = c.why.ensures.kinds;
     }
 
 pub shard-requires : goal.shard-requires

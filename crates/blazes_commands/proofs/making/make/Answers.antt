@@ -1,10 +1,10 @@
 use Rattle.std.proofs.Common.{map}
 use Rattle.std.proofs.lemmas.List.Sorted.{IsPermutation-refl}
-use Rattle.blazes_commands.specs.Bench.{bench_states}
-use Rattle.blazes_commands.specs.Commands.{making}
+use Rattle.blazes_commands.specs.Commands.{Says, making}
 use Rattle.command_files.specs.Ends.{source, files_states}
-use Rattle.blazes_commands.proofs.CommandFiles.{topology_stops, data_stops, files_then}
-use Rattle.blazes_commands.proofs.CommandLemmas.{kept_anyway}
+use Rattle.command_runs.specs.Bench.{bench_states}
+use Rattle.command_runs.proofs.FilesLemmas.{topology_stops, data_stops, files_then}
+use Rattle.command_runs.proofs.RepliesLemmas.{kept_anyway}
 use Rattle.blazes_commands.proofs.making.make.Goals as goal
 
 pub returns-in_err-valid : goal.returns-in_err-valid
@@ -13,7 +13,7 @@ returns-in_err-valid g c =
     let a = source (g.F.Files.held c.args.files.now) (g.F.Files.steady c.args.files.now) (g.F.Files.faults c.args.files.now) in
     let b = source (g.F.Files.held c.valid_topology.new.files) (g.F.Files.steady c.valid_topology.new.files) (g.F.Files.faults c.valid_topology.new.files) in
     record {
-      replies = topology_stops bench c.args.words.topology.now c.args.words.given.now (λ seen given. making bench.kinds seen.view given c.args.words.seed) c.from_residual.result (files_states a b) c.in_err-valid.field-0.0
+      replies = topology_stops Says bench c.args.words.topology.now c.args.words.given.now (λ seen given. making bench.kinds seen.view given c.args.words.seed) c.from_residual.result (files_states a b) c.in_err-valid.field-0.0
           c.from_residual.ensures.1 c.in_err-valid.ensures;
       kinds = kept_anyway bench c.from_residual.result (IsPermutation-refl bench.kinds);
     }
@@ -25,7 +25,7 @@ returns-in_err-given g c =
     let b = source (g.F.Files.held c.valid_topology.new.files) (g.F.Files.steady c.valid_topology.new.files) (g.F.Files.faults c.valid_topology.new.files) in
     let d = source (g.F.Files.held c.data_file.new.files) (g.F.Files.steady c.data_file.new.files) (g.F.Files.faults c.data_file.new.files) in
     record {
-      replies = data_stops bench c.args.words.topology.now c.args.words.given.now (λ seen given. making bench.kinds seen.view given c.args.words.seed) c.from_residual-in_err-given.result a b d c.in_ok-valid.valid c.in_err-given.field-0.0
+      replies = data_stops Says bench c.args.words.topology.now c.args.words.given.now (λ seen given. making bench.kinds seen.view given c.args.words.seed) c.from_residual-in_err-given.result a b d c.in_ok-valid.valid c.in_err-given.field-0.0
           c.from_residual-in_err-given.ensures.1 c.in_ok-valid.ensures c.in_err-given.ensures.ran;
       kinds = kept_anyway bench c.from_residual-in_err-given.result (IsPermutation-refl bench.kinds);
     }
@@ -37,7 +37,7 @@ returns g c =
     let b = source (g.F.Files.held c.valid_topology.new.files) (g.F.Files.steady c.valid_topology.new.files) (g.F.Files.faults c.valid_topology.new.files) in
     let d = source (g.F.Files.held c.data_file.new.files) (g.F.Files.steady c.data_file.new.files) (g.F.Files.faults c.data_file.new.files) in
     record {
-      replies = files_then bench c.args.words.topology.now c.args.words.given.now (λ seen given. making bench.kinds seen.view given c.args.words.seed) c.made_over.result a b d d c.in_ok-valid.valid c.in_ok-given.given
+      replies = files_then Says bench c.args.words.topology.now c.args.words.given.now (λ seen given. making bench.kinds seen.view given c.args.words.seed) c.made_over.result a b d d c.in_ok-valid.valid c.in_ok-given.given
           c.in_ok-valid.ensures c.in_ok-given.ensures.ran (c.made_over.ensures.replies d);
       kinds = c.made_over.ensures.kinds;
     }

@@ -1,13 +1,13 @@
 use Rattle.std.proofs.Common.{◌∙◌, ap, map}
 use Rattle.topo_types.specs.Valid.{Validated}
-use Rattle.blazes_commands.specs.Bench.{bench_states}
 use Rattle.blazes_commands.specs.Checks as check
-use Rattle.blazes_commands.specs.Commands.{Work}
+use Rattle.blazes_commands.specs.Commands.{Says, Work}
 use Rattle.command_files.specs.Script.{Script, ◌>>=◌}
-use Rattle.blazes_commands.proofs.CommandLemmas.{kept_anyway}
+use Rattle.command_runs.specs.Bench.{bench_states}
+use Rattle.command_runs.proofs.BenchLemmas.{same_kinds}
+use Rattle.command_runs.proofs.OpeningLemmas.{opening_stops}
+use Rattle.command_runs.proofs.RepliesLemmas.{kept_anyway}
 use Rattle.blazes_commands.proofs.MakeLemmas.{runs_first}
-use Rattle.blazes_commands.proofs.OpeningLemmas.{opening_stops}
-use Rattle.blazes_commands.proofs.RunLemmas.{same_kinds}
 use Rattle.blazes_commands.proofs.SoakLemmas.{runs_on, sums_reply}
 use Rattle.blazes_commands.proofs.soaking.soaked_over.Goals as goal
 
@@ -34,7 +34,7 @@ returns-in_err-net g c =
     let v = c.args.valid.now.view in
     let bench = bench_states (map (λ b. (goal.Component-dyn g (b.vtable, b.value)).kind b.value) c.args.bench.now.items) (map (λ b. (goal.Component-dyn g (b.vtable, b.value)).kind b.value) c.opened.new.bench.items) (map (λ b. (goal.Component-dyn g (b.vtable, b.value)).loaded b.value) c.opened.new.bench.items) (map (λ b. (goal.Component-dyn g (b.vtable, b.value)).kept b.value) c.opened.new.bench.items) in
     record {
-      replies = λ s. opening_stops v bench (check.making v c.args.given c.args.words.seed >>= λ events. Script.gives (Work.soaked c.args.words.count v c.args.given events)) c.from_residual.result s c.in_err-net.field-0.0
+      replies = λ s. opening_stops Says v bench (check.making v c.args.given c.args.words.seed >>= λ events. Script.gives (Work.soaked c.args.words.count v c.args.given events)) c.from_residual.result s c.in_err-net.field-0.0
           c.from_residual.ensures.1 c.in_err-net.ensures.gives;
       kinds = kept_anyway bench c.from_residual.result c.in_err-net.ensures.unopened;
     }

@@ -1,0 +1,8 @@
+pub mod ScriptsLemmas
+pub mod RepliesLemmas
+pub mod FilesLemmas
+pub mod NetLemmas
+pub mod SeenLemmas
+pub mod WitnessLemmas
+pub mod LookedLemmas
+pub mod ReasonsLemmas

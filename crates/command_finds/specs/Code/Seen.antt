@@ -1,0 +1,81 @@
+-- What is taken of an execution that is compared with another.
+use Rattle.std.specs.Prelude.{◌≡◌, ◌<◌, ◌++◌, List, length, Option, IfSome, Result, Ok, Err}
+use Rattle.blz_boxes.specs.declared.kind.ProgramKind.{ProgramKind}
+use Rattle.topo_types.specs.Data.{Data}
+use Rattle.topo_types.specs.View.{View}
+use Rattle.inbox.specs.Executions.{Execution, first_execution}
+use Rattle.sched_hear.specs.declared.books.Books.{Books}
+use Rattle.sched_run.specs.Applying.{Line, after_lines}
+use Rattle.sched_run.specs.Reading.{IsRead, is_complete}
+use Rattle.sched_run.specs.declared.applying.EventRefusal.{EventRefusal}
+use Rattle.witness_check.specs.Difference.{difference, snapshot}
+use Rattle.witness_check.specs.declared.difference.Difference.{Difference}
+use Rattle.witness_check.specs.declared.difference.Which.{Which}
+use Rattle.witness_check.specs.declared.difference.Which.TheVariants.{First, Second}
+use Rattle.report_print.specs.declared.refusal.Refusal.{Refusal}
+use Rattle.blazes_words.specs.Words.{WitnessFiles}
+use Rattle.command_runs.specs.Checks.{event_refusal}
+use Rattle.command_files.specs.Ends.{Source, files_states, Came}
+use Rattle.command_files.specs.Ran.{IsStopAt, Stopped}
+use Rattle.command_files.specs.Script.{Bytes, Script, Ending, ◌>>=◌}
+use Rattle.command_files.specs.declared.stop.Stop.{Stop}
+use Rattle.command_files.specs.declared.stop.Stop.TheVariants.{NoMemory}
+use Rattle.command_finds.specs.Checks as check
+use Rattle.command_finds.specs.Finds.{Witnessed, comparing}
+use Rattle.command_finds.specs.WitnessText.{difference_line, end_line}
+use Rattle.command_finds.specs.declared.seeing.Seen.{Seen}
+
+-- its contents, and whether it is complete
+abbrev pub seen_of : View → Data → Execution → Seen
+seen_of v given x = record { contents = snapshot v given x; complete = is_complete v given x }
+
+-- the refusal of an event of one of two schedules
+abbrev pub refusal_of : Which → EventRefusal → Option Refusal
+refusal_of First refused = event_refusal refused.line refused.fault
+refusal_of Second refused = check.second_event_refusal refused.line refused.fault
+
+-- what the events of one of two schedules make, or the line of the first that is refused
+abbrev pub executed_of : Which → Result Execution EventRefusal → Result Execution Bytes
+executed_of First after = check.executed after
+executed_of Second after = check.second_executed after
+
+-- a net is opened, and the events of one of two schedules happen
+abbrev pub run_in : Which → List ProgramKind → View → Data → List Line → Script Execution
+run_in which kinds v given lines = do
+  opened ← check.opening v kinds
+  check.checked (executed_of which (after_lines v given lines first_execution))
+
+-- this is taken of the execution at the end of a script
+pub record IsSeen (v : View) (given : Data) (run : Script Execution) (seen : Seen) : Type 0 where
+  pub execution : Execution
+  pub came : (files : Source) → Came (files_states files files) run (Ending.gave execution)
+  pub says : seen ≡ seen_of v given execution
+
+-- so it is, or the script stops so
+abbrev pub Sees : View → Data → Script Execution → Result Seen Stop → Type 0
+Sees v given run (Ok seen) = IsSeen v given run seen
+Sees v given run (Err stop) = (files : Source) → Stopped (files_states files files) stop run
+
+-- what is taken of a net that has these books, to which the events of one of two schedules were so applied
+abbrev pub IsSeenOf : Which → View → Books → Result (Unit {0}) EventRefusal → Result Seen Stop → Type 0
+IsSeenOf which v b (Ok x) (Ok seen) = IsRead v b (seen_of v) seen
+IsSeenOf which v b (Ok x) (Err stop) = stop ≡ NoMemory
+IsSeenOf which v b (Err refused) (Ok seen) = ⊥
+IsSeenOf which v b (Err refused) (Err stop) = IsStopAt (refusal_of which refused) stop
+
+-- ---- the text of two of them
+
+-- the stream of a difference is one of the topology
+abbrev pub IsWithin : View → Option Difference → Type 0
+IsWithin v difference = IfSome difference (λ d. d.stream < length v.streams)
+
+-- the text of what was taken of two executions
+abbrev pub seen_text : View → (first second : Seen) → Bytes
+seen_text v first second = difference_line v (difference first.contents second.contents) ++ end_line First first.complete ++ end_line Second second.complete
+
+-- what follows in `witness` on a topology and its data
+abbrev pub comparing_files : List ProgramKind → WitnessFiles → View → Data → Script Witnessed
+comparing_files kinds files v given = do
+  first ← check.schedule_file files.first
+  second ← check.second_file files.second
+  comparing kinds v given first second

@@ -1,0 +1,5 @@
+pub mod Checks
+pub mod WitnessText
+pub mod WhyText
+pub mod Finds
+pub mod Code

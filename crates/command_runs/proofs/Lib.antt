@@ -1,0 +1,6 @@
+pub mod RepliesLemmas
+pub mod FilesLemmas
+pub mod OpeningLemmas
+pub mod ContentsLemmas
+pub mod BenchLemmas
+pub mod RunLemmas

@@ -1,0 +1,148 @@
+-- A run replies as its script says: the net is opened, the events or steps make an execution, and the shells go back.
+use Rattle.std.proofs.Common.{◌≡◌, ◌≢◌, ◌∙◌, ◌++◌, ℕ, OnOk, List, [], Option, Result, Ok, Err, map, refl, sym, subst, ap}
+use Rattle.std.specs.List.Sorted.{IsPermutation}
+use Rattle.bloom_ast.specs.declared.program.Program.{Program}
+use Rattle.bloom_ast.specs.Step.{Sets}
+use Rattle.blz_boxes.specs.declared.kind.ProgramKind.{ProgramKind}
+use Rattle.emitted.specs.declared.fault.EventFault.{EventFault}
+use Rattle.emitted.specs.declared.fault.EventFault.TheVariants as event_faults
+use Rattle.inbox.specs.Events.{Step}
+use Rattle.inbox.specs.Executions.{Execution, first_execution, execution_of}
+use Rattle.inbox.specs.Wiring.{wiring_of}
+use Rattle.inbox.proofs.Executions.Results.{Ok_same}
+use Rattle.replay_run.specs.Steps.{AppliedSteps, AppliesSteps, StepLine, after_step_lines, steps_in}
+use Rattle.replay_run.specs.declared.running.StepRefusal.{StepRefusal}
+use Rattle.report_print.specs.declared.refusal.Refusal.TheVariants as refusal
+use Rattle.report_print.specs.declared.refusal.EventKind.TheVariants as event_kinds
+use Rattle.sched_bench.specs.Bench.{fault_of_opening}
+use Rattle.sched_hear.specs.Net.{Stands, BooksRun, execution_in}
+use Rattle.sched_hear.specs.declared.books.Books.{Books}
+use Rattle.sched_run.specs.Applying.{Line, after_lines, steps_of, Applied, AppliesLines}
+use Rattle.sched_run.specs.declared.applying.EventRefusal.{EventRefusal}
+use Rattle.sched_run.proofs.TablesLemmas.{tables_are_last}
+use Rattle.topo_types.specs.Data.{Data}
+use Rattle.topo_types.specs.View.{View}
+use Rattle.command_files.specs.Checks.{line_of}
+use Rattle.command_files.specs.Ends.{Source, files_states}
+use Rattle.command_files.specs.Ran.{Gives, IsStopAt, answer_of}
+use Rattle.command_files.specs.Script.{Bytes, Script, ◌>>=◌}
+use Rattle.command_files.specs.Script.Script.{gives}
+use Rattle.command_files.specs.declared.reply.Reply.{Reply}
+use Rattle.command_files.specs.declared.stop.Stop.{Stop}
+use Rattle.command_files.proofs.RefusedLemmas.{memory_gives, refused_gives}
+use Rattle.command_files.proofs.ScriptLemmas.{came_checked, gives_ran, memory_stops, stop_then}
+use Rattle.command_runs.specs.Bench.{BenchStates, bench_states, HasInstances, HasSameKinds}
+use Rattle.command_runs.specs.Checks as check
+use Rattle.command_runs.specs.Code.Ran.{IsOutcomeOf, as_events}
+use Rattle.command_runs.specs.Replies.{RepliesWith}
+use Rattle.command_runs.specs.Runs.{RunWork, SaysRun, run_work, running_by}
+use Rattle.command_runs.proofs.BenchLemmas.{has_instances, same_kinds}
+use Rattle.command_runs.proofs.OpeningLemmas.{opened_then}
+use Rattle.command_runs.proofs.RepliesLemmas.{followed}
+
+-- ---- what became of a net, beside what the check of its events or steps tells
+
+-- the net stands for some steps, and the check gives their execution
+pub record HasReached (v : View) (given : Data) (loaded : List (Option Program)) (tables : List Sets) (b : Books) (told : Result Execution Bytes) : Type 0 where
+  pub steps : List Step
+  pub stands : Stands v given steps loaded tables b
+  pub tells : told ≡ Ok (execution_in stands.books)
+
+-- so it is where all was applied; else the check refuses the line that was refused, unless memory ran out
+abbrev pub IsAppliedAs : View → Data → (loaded : List (Option Program)) → (tables : List Sets) → Books → (told : Result Execution Bytes) → Result (Unit {0}) EventRefusal → Type 0
+IsAppliedAs v given loaded tables b told (Ok done) = HasReached v given loaded tables b told
+IsAppliedAs v given loaded tables b told (Err refused) = refused.fault ≢ event_faults.NoMemory → told ≡ Err (line_of (check.event_refusal refused.line refused.fault))
+
+-- a net to which all was applied runs
+pub applied_runs : (v : View) (given : Data) (loaded : List (Option Program)) (tables : List Sets) (b : Books) (told : Result Execution Bytes) (applied : Result (Unit {0}) EventRefusal)
+    → IsAppliedAs v given loaded tables b told applied → OnOk applied (BooksRun v b)
+applied_runs v given loaded tables b told (Ok done) reached = record { given = given; steps = reached.steps; stand = reached.stands.books }
+applied_runs v given loaded tables b told (Err refused) refuses = tt
+
+-- the books of a new net stand for the first execution
+first_books : (v : View) (given : Data) (loaded : List (Option Program)) (tables : List Sets) (b : Books) (stands : Stands v given [] loaded tables b) → execution_in stands.books ≡ first_execution
+first_books v given loaded tables b stands = Ok_same (execution_of (wiring_of v) given []) (execution_in stands.books) first_execution stands.books.stands.run refl
+
+module _ (v w : View) (given : Data) (loaded : List (Option Program)) (tables next : List Sets) (old new : Books) (same : w ≡ v) (stands : Stands v given [] loaded tables old) where
+  -- under events
+  module _ (lines : List Line) where
+    by_events : (after : Result Execution EventRefusal) (applied : Result (Unit {0}) EventRefusal) → Applied v given [] loaded next new lines after applied → IsAppliedAs v given loaded next new (check.executed after) applied
+    by_events after (Ok done) reaches = record { steps = [] ++ steps_of v lines; stands = reaches.stands; tells = ap check.executed reaches.reached }
+    by_events after (Err refused) stops = λ some. ap check.executed (stops.0 some)
+
+    pub events_applied : (applied : Result (Unit {0}) EventRefusal) → AppliesLines w loaded tables next old new lines applied → IsAppliedAs v given loaded next new (check.executed (after_lines v given lines first_execution)) applied
+    events_applied applied applies =
+        by_events (after_lines v given lines first_execution) applied
+        (subst (λ (x : Execution). Applied v given [] loaded next new lines (after_lines v given lines x) applied) (first_books v given loaded tables old stands)
+        (subst (λ (u : View). AppliesLines u loaded tables next old new lines applied) same applies given [] stands))
+
+  -- under steps
+  module _ (lines : List StepLine) where
+    by_steps : (after : Result Execution StepRefusal) (replayed : Result (Unit {0}) StepRefusal) → AppliedSteps v given [] loaded next new lines after replayed → IsAppliedAs v given loaded next new (check.replayed after) (as_events replayed)
+    by_steps after (Ok done) reaches = record { steps = [] ++ steps_in v lines; stands = reaches.stands; tells = ap check.replayed reaches.reached }
+    by_steps after (Err refused) stops = λ some. ap check.replayed (stops.0 some)
+
+    pub steps_applied : (replayed : Result (Unit {0}) StepRefusal) (applied : Result (Unit {0}) EventRefusal) → AppliesSteps w loaded tables next old new lines replayed → applied ≡ as_events replayed
+        → IsAppliedAs v given loaded next new (check.replayed (after_step_lines v given lines first_execution)) applied
+    steps_applied replayed applied applies is =
+        subst (IsAppliedAs v given loaded next new (check.replayed (after_step_lines v given lines first_execution))) (sym is)
+        (by_steps (after_step_lines v given lines first_execution) replayed
+        (subst (λ (x : Execution). AppliedSteps v given [] loaded next new lines (after_step_lines v given lines x) replayed) (first_books v given loaded tables old stands)
+        (subst (λ (u : View). AppliesSteps u loaded tables next old new lines replayed) same applies given [] stands)))
+
+-- ---- the command
+
+-- the stop at an event or a step that is refused
+pub event_gives : (told : Result Execution Bytes) (line : ℕ) (fault : EventFault) (stop : Stop) → (fault ≢ event_faults.NoMemory → told ≡ Err (line_of (check.event_refusal line fault))) → IsStopAt (check.event_refusal line fault) stop
+    → Gives (λ (x : Execution). x) (Err stop) told
+event_gives told line event_faults.NoInstance stop is said = refused_gives (λ (x : Execution). x) told (refusal.Event line event_kinds.NoInstance) stop (is (λ bad. cc)) said
+event_gives told line event_faults.NoMessage stop is said = refused_gives (λ (x : Execution). x) told (refusal.Event line event_kinds.NoMessage) stop (is (λ bad. cc)) said
+event_gives told line event_faults.NothingToTake stop is said = refused_gives (λ (x : Execution). x) told (refusal.Event line event_kinds.NothingToTake) stop (is (λ bad. cc)) said
+event_gives told line event_faults.TooManyRows stop is said = refused_gives (λ (x : Execution). x) told (refusal.Event line event_kinds.TooManyRows) stop (is (λ bad. cc)) said
+event_gives told line event_faults.TooManyMessages stop is said = refused_gives (λ (x : Execution). x) told (refusal.Event line event_kinds.TooManyMessages) stop (is (λ bad. cc)) said
+event_gives told line event_faults.NoMemory stop is said = memory_gives (λ (x : Execution). x) told stop said
+
+module _ (v : View) (given : Data) (told : Result Execution Bytes) (bench : BenchStates) (loaded : List (Option Program)) (tables : List Sets) (b : Books) (s : Source) where
+  abbrev happening : Script RunWork
+  happening = check.checked told >>= λ x. gives (run_work v given x)
+
+  -- what becomes of the events or steps
+  happening_replies : (applied : Result (Unit {0}) EventRefusal) (outcome : Result Reply Stop) → IsOutcomeOf v b applied outcome → IsAppliedAs v given loaded tables b told applied
+      → ((r : HasReached v given loaded tables b told) → HasInstances v (execution_in r.stands.books) bench)
+      → RepliesWith SaysRun (files_states s s) bench outcome happening
+  happening_replies (Ok done) (Ok reply) said reached instances =
+      let x = execution_in reached.stands.books in
+      followed SaysRun s s bench (check.checked told) (run_work v given) x (answer_of reply) (came_checked s told x reached.tells)
+      (record { contents = said given reached.steps reached.stands.books; instances = instances reached })
+  happening_replies (Ok done) (Err stop) said reached instances = memory_stops (files_states s s) happening stop said
+  happening_replies (Err refused) (Ok reply) said refuses instances = absurd said
+  happening_replies (Err refused) (Err stop) said refuses instances =
+      stop_then (files_states s s) stop (check.checked told) (λ x. gives (run_work v given x))
+      (gives_ran (λ (x : Execution). x) s (Err stop) told (event_gives told refused.line refused.fault stop refuses said))
+
+  -- the net is opened, and then they happen
+  pub net_replies : (applied : Result (Unit {0}) EventRefusal) (outcome : Result Reply Stop) → check.opened v (fault_of_opening v (λ kind. kind) bench.kinds) ≡ Ok tt → IsAppliedAs v given loaded tables b told applied
+      → IsOutcomeOf v b applied outcome → ((r : HasReached v given loaded tables b told) → HasInstances v (execution_in r.stands.books) bench)
+      → RepliesWith SaysRun (files_states s s) bench outcome (running_by (check.checked told) bench.kinds v given)
+  net_replies applied outcome opens is said instances = opened_then SaysRun v bench happening outcome s opens (happening_replies applied outcome said is instances)
+
+-- ---- the shells of a bench
+
+module _ {X : Type 0} (v : View) (given : Data) (told : Result Execution Bytes) (kind : X → ProgramKind) (loaded : X → Option Program) (kept : X → Sets) (before : List X) where
+  -- the bench when these shells are on it
+  abbrev states : List X → BenchStates
+  states all = bench_states (map kind before) (map kind all) (map loaded all) (map kept all)
+
+  module _ (others opened shells all : List X) (put : all ≡ others ++ shells) where
+    -- the net is opened with shells of the bench, all is applied or not, and the shells go back
+    pub bench_replies : (b : Books) (applied : Result (Unit {0}) EventRefusal) (outcome : Result Reply Stop)
+        → check.opened v (fault_of_opening v (λ k. k) (map kind before)) ≡ Ok tt → map loaded shells ≡ map loaded opened → IsAppliedAs v given (map loaded opened) (map kept shells) b told applied
+        → IsOutcomeOf v b applied outcome → (s : Source) → RepliesWith SaysRun (files_states s s) (states all) outcome (running_by (check.checked told) (map kind before) v given)
+    bench_replies b applied outcome opens programs is said s =
+        net_replies v given told (states all) (map loaded opened) (map kept shells) b s applied outcome opens is said
+        (λ r. has_instances v (execution_in r.stands.books) (map kind before) (map kind all) loaded kept others shells all put (programs ∙ r.stands.programs)
+        (tables_are_last v given r.steps (map loaded opened) (map kept shells) b r.stands))
+
+    -- and no shell is lost
+    pub bench_keeps : IsPermutation (map kind before) (map kind others ++ map kind opened) → map kind shells ≡ map kind opened → HasSameKinds (states all)
+    bench_keeps taken same = same_kinds kind (map kind before) others opened shells all taken same put

@@ -1,0 +1,32 @@
+-- Steps stop the run, or they are made.
+use Rattle.std.proofs.Common.{List, map, subst}
+use Rattle.std.proofs.lemmas.List.Sorted.{IsPermutation-refl}
+use Rattle.replay_run.specs.Steps.{StepLine}
+use Rattle.command_files.specs.Ends.{files_states, source}
+use Rattle.command_runs.specs.Bench.{bench_states}
+use Rattle.command_runs.specs.Checks as check
+use Rattle.command_runs.specs.Replies.{RepliesAtOnce}
+use Rattle.command_runs.specs.Runs.{SaysRun, restarting}
+use Rattle.command_runs.proofs.RepliesLemmas.{kept_anyway, stop_replies, then_replies}
+use Rattle.command_runs.proofs.restarting.restart_file.Goals as goal
+
+pub returns-in_err-steps : goal.returns-in_err-steps
+returns-in_err-steps g c =
+    let bench = bench_states (map (λ b. (goal.Component-dyn g (b.vtable, b.value)).kind b.value) c.args.bench.now.items) (map (λ b. (goal.Component-dyn g (b.vtable, b.value)).kind b.value) c.args.bench.now.items) (map (λ b. (goal.Component-dyn g (b.vtable, b.value)).loaded b.value) c.args.bench.now.items) (map (λ b. (goal.Component-dyn g (b.vtable, b.value)).kept b.value) c.args.bench.now.items) in
+    let a = source (g.F.Files.held c.args.files.now) (g.F.Files.steady c.args.files.now) (g.F.Files.faults c.args.files.now) in
+    let b = source (g.F.Files.held c.steps_file.new.files) (g.F.Files.steady c.steps_file.new.files) (g.F.Files.faults c.steps_file.new.files) in
+    record {
+      replies = stop_replies SaysRun (files_states a b) bench (check.steps_file c.args.name.now) (restarting bench.kinds c.args.valid.now.view c.args.given) c.from_residual.result c.in_err-steps.field-0.0 c.from_residual.ensures.1 c.in_err-steps.ensures;
+      kinds = kept_anyway bench c.from_residual.result (IsPermutation-refl bench.kinds);
+    }
+
+pub returns : goal.returns
+returns g c =
+    let bench = bench_states (map (λ b. (goal.Component-dyn g (b.vtable, b.value)).kind b.value) c.args.bench.now.items) (map (λ b. (goal.Component-dyn g (b.vtable, b.value)).kind b.value) c.restart_lines.new.bench.items) (map (λ b. (goal.Component-dyn g (b.vtable, b.value)).loaded b.value) c.restart_lines.new.bench.items) (map (λ b. (goal.Component-dyn g (b.vtable, b.value)).kept b.value) c.restart_lines.new.bench.items) in
+    let a = source (g.F.Files.held c.args.files.now) (g.F.Files.steady c.args.files.now) (g.F.Files.faults c.args.files.now) in
+    let b = source (g.F.Files.held c.steps_file.new.files) (g.F.Files.steady c.steps_file.new.files) (g.F.Files.faults c.steps_file.new.files) in
+    record {
+      replies = then_replies SaysRun a b b bench (check.steps_file c.args.name.now) (restarting bench.kinds c.args.valid.now.view c.args.given) c.in_ok-steps.steps.items c.restart_lines.result c.in_ok-steps.ensures
+          (subst (λ (lines : List StepLine). RepliesAtOnce SaysRun bench c.restart_lines.result (restarting bench.kinds c.args.valid.now.view c.args.given lines)) c.deref.ensures.value c.restart_lines.ensures.replies b);
+      kinds = c.restart_lines.ensures.kinds;
+    }

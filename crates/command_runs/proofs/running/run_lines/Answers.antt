@@ -1,0 +1,66 @@
+use Rattle.std.proofs.Common.{[], ap, map, subst, sym, ◌∙◌}
+use Rattle.sched_hear.specs.Net.{Stands}
+use Rattle.topo_types.specs.Valid.{Validated}
+use Rattle.topo_types.specs.View.{View}
+use Rattle.inbox.specs.Executions.{first_execution}
+use Rattle.sched_run.specs.Applying.{after_lines}
+use Rattle.command_files.specs.Script.{Script, ◌>>=◌}
+use Rattle.command_runs.specs.Bench.{bench_states}
+use Rattle.command_runs.specs.Checks as check
+use Rattle.command_runs.specs.Runs.{SaysRun, run_work}
+use Rattle.command_runs.proofs.OpeningLemmas.{opening_stops}
+use Rattle.command_runs.proofs.RepliesLemmas.{kept_anyway}
+use Rattle.command_runs.proofs.RunLemmas.{applied_runs, bench_keeps, bench_replies, events_applied}
+use Rattle.command_runs.proofs.running.run_lines.Goals as goal
+
+pub apply-applied-requires : goal.apply-applied-requires
+apply-applied-requires g c =
+    let net = c.in_ok-net.net in
+    record {
+      runs = record {
+        given = c.args.given;
+        steps = [];
+        stands = subst (λ (v : View). Stands v c.args.given [] (map (λ b. (goal.Component-dyn g (b.vtable, b.value)).loaded b.value) net.shells.items) (map (λ b. (goal.Component-dyn g (b.vtable, b.value)).kept b.value) net.shells.items) net.books)
+            (sym (ap (λ (t : Validated). t.view) c.in_ok-net.ensures.valid)) c.in_ok-net.ensures.stands;
+      };
+    }
+
+pub outcome_of-outcome-requires : goal.outcome_of-outcome-requires
+outcome_of-outcome-requires g c =
+    let net = c.in_ok-net.net in
+    let after = c.apply-applied.new.net in
+    let same = ap (λ (t : Validated). t.view) c.in_ok-net.ensures.valid in
+    record {
+      same = ap (λ valid. valid.now.view) c.apply-applied.ensures.valid ∙ same;
+      runs = applied_runs c.args.valid.now.view c.args.given (map (λ b. (goal.Component-dyn g (b.vtable, b.value)).loaded b.value) net.shells.items) (map (λ b. (goal.Component-dyn g (b.vtable, b.value)).kept b.value) after.shells.items) after.books (check.executed (after_lines c.args.valid.now.view c.args.given c.args.lines.now first_execution)) c.apply-applied.result
+          (events_applied c.args.valid.now.view net.valid.now.view c.args.given (map (λ b. (goal.Component-dyn g (b.vtable, b.value)).loaded b.value) net.shells.items) (map (λ b. (goal.Component-dyn g (b.vtable, b.value)).kept b.value) net.shells.items) (map (λ b. (goal.Component-dyn g (b.vtable, b.value)).kept b.value) after.shells.items) net.books after.books same c.in_ok-net.ensures.stands c.args.lines.now
+          c.apply-applied.result c.apply-applied.ensures.applies);
+    }
+
+pub returns-in_err-net : goal.returns-in_err-net
+returns-in_err-net g c =
+    let v = c.args.valid.now.view in
+    let bench = bench_states (map (λ b. (goal.Component-dyn g (b.vtable, b.value)).kind b.value) c.args.bench.now.items) (map (λ b. (goal.Component-dyn g (b.vtable, b.value)).kind b.value) c.opened.new.bench.items) (map (λ b. (goal.Component-dyn g (b.vtable, b.value)).loaded b.value) c.opened.new.bench.items) (map (λ b. (goal.Component-dyn g (b.vtable, b.value)).kept b.value) c.opened.new.bench.items) in
+    record {
+      replies = λ s. opening_stops SaysRun v bench (check.checked (check.executed (after_lines c.args.valid.now.view c.args.given c.args.lines.now first_execution)) >>= λ x. Script.gives (run_work v c.args.given x)) c.from_residual.result s c.in_err-net.field-0.0
+          c.from_residual.ensures.1 c.in_err-net.ensures.gives;
+      kinds = kept_anyway bench c.from_residual.result c.in_err-net.ensures.unopened;
+    }
+
+pub returns : goal.returns
+returns g c =
+    let net = c.in_ok-net.net in
+    let after = c.apply-applied.new.net in
+    let all = c.close.new.bench.items in
+    let put = c.in_ok-close.ensures.ok in
+    let same = ap (λ (t : Validated). t.view) c.in_ok-net.ensures.valid in
+    let bench = bench_states (map (λ b. (goal.Component-dyn g (b.vtable, b.value)).kind b.value) c.args.bench.now.items) (map (λ b. (goal.Component-dyn g (b.vtable, b.value)).kind b.value) all) (map (λ b. (goal.Component-dyn g (b.vtable, b.value)).loaded b.value) all) (map (λ b. (goal.Component-dyn g (b.vtable, b.value)).kept b.value) all) in
+    record {
+      replies = bench_replies c.args.valid.now.view c.args.given (check.executed (after_lines c.args.valid.now.view c.args.given c.args.lines.now first_execution)) (λ b. (goal.Component-dyn g (b.vtable, b.value)).kind b.value) (λ b. (goal.Component-dyn g (b.vtable, b.value)).loaded b.value) (λ b. (goal.Component-dyn g (b.vtable, b.value)).kept b.value) c.args.bench.now.items c.opened.new.bench.items net.shells.items after.shells.items all put
+          after.books c.apply-applied.result c.outcome_of-outcome.result c.in_ok-net.ensures.gives c.apply-applied.ensures.loaded
+          (events_applied c.args.valid.now.view net.valid.now.view c.args.given (map (λ b. (goal.Component-dyn g (b.vtable, b.value)).loaded b.value) net.shells.items) (map (λ b. (goal.Component-dyn g (b.vtable, b.value)).kept b.value) net.shells.items) (map (λ b. (goal.Component-dyn g (b.vtable, b.value)).kept b.value) after.shells.items) net.books after.books same c.in_ok-net.ensures.stands c.args.lines.now
+          c.apply-applied.result c.apply-applied.ensures.applies)
+          c.outcome_of-outcome.ensures;
+      kinds = kept_anyway bench c.outcome_of-outcome.result
+          (bench_keeps c.args.valid.now.view c.args.given (check.executed (after_lines c.args.valid.now.view c.args.given c.args.lines.now first_execution)) (λ b. (goal.Component-dyn g (b.vtable, b.value)).kind b.value) (λ b. (goal.Component-dyn g (b.vtable, b.value)).loaded b.value) (λ b. (goal.Component-dyn g (b.vtable, b.value)).kept b.value) c.args.bench.now.items c.opened.new.bench.items net.shells.items after.shells.items all put c.in_ok-net.ensures.kinds c.apply-applied.ensures.kinds);
+    }

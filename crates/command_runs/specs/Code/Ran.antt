@@ -1,0 +1,43 @@
+-- What the functions of a run return.
+use Rattle.std.specs.Prelude.{◌≡◌, List, Result, Ok, Err}
+use Rattle.blz_boxes.specs.declared.kind.ProgramKind.{ProgramKind}
+use Rattle.inbox.specs.Events.{Step}
+use Rattle.replay_run.specs.declared.running.StepRefusal.{StepRefusal}
+use Rattle.sched_hear.specs.Net.{BooksStand, execution_in}
+use Rattle.sched_hear.specs.declared.books.Books.{Books}
+use Rattle.sched_run.specs.declared.applying.EventRefusal.{EventRefusal}
+use Rattle.topo_types.specs.Data.{Data}
+use Rattle.topo_types.specs.View.{View}
+use Rattle.command_files.specs.Ran.{answer_of, IsStopAt}
+use Rattle.command_files.specs.Reply.{Answer}
+use Rattle.command_files.specs.Script.{Bytes, Script, ◌>>=◌}
+use Rattle.command_files.specs.declared.reply.Reply.{Reply}
+use Rattle.command_files.specs.declared.stop.Stop.{Stop}
+use Rattle.command_files.specs.declared.stop.Stop.TheVariants.{NoMemory}
+use Rattle.command_runs.specs.Checks as check
+use Rattle.command_runs.specs.Contents.{HasContents}
+use Rattle.command_runs.specs.Runs.{RunWork, restarting, running}
+
+-- the contents of whatever execution the books stand for
+abbrev pub ReportsBooks : View → Books → Answer → Type 0
+ReportsBooks v b answer = (given : Data) (steps : List Step) (stand : BooksStand v given steps b) → HasContents v given (execution_in stand) answer
+
+-- the outcome of a run to whose books the events were so applied
+abbrev pub IsOutcomeOf : View → Books → Result (Unit {0}) EventRefusal → Result Reply Stop → Type 0
+IsOutcomeOf v b (Ok x) (Ok reply) = ReportsBooks v b (answer_of reply)
+IsOutcomeOf v b (Ok x) (Err stop) = stop ≡ NoMemory
+IsOutcomeOf v b (Err refused) (Ok reply) = ⊥
+IsOutcomeOf v b (Err refused) (Err stop) = IsStopAt (check.event_refusal refused.line refused.fault) stop
+
+-- the answer to steps as one to events
+abbrev pub as_events : Result (Unit {0}) StepRefusal → Result (Unit {0}) EventRefusal
+as_events (Ok x) = Ok x
+as_events (Err refused) = Err (record { line = refused.line; fault = refused.fault })
+
+-- a run of a topology over its data, from the file of the schedule on
+abbrev pub running_file : List ProgramKind → View → Data → Bytes → Script RunWork
+running_file kinds v given name = check.schedule_file name >>= running kinds v given
+
+-- and so with restarts
+abbrev pub restarting_file : List ProgramKind → View → Data → Bytes → Script RunWork
+restarting_file kinds v given name = check.steps_file name >>= restarting kinds v given

@@ -1,5 +1,5 @@
 -- The end of a command is the answer at the end of its script.
-use Rattle.std.proofs.Common.{◌≡◌, Ok, Err, IfOk, Result, sym, subst}
+use Rattle.std.proofs.Common.{Ok, Err, IfOk, Result, sym, subst}
 use Rattle.std.specs.declared.alloc.AllocError.{AllocError}
 use Rattle.command_files.specs.Script.{Script}
 use Rattle.command_files.specs.Script.Ending.{gave, refused, failed}

@@ -14,7 +14,7 @@ use Rattle.report_print.specs.Refusals.{refusal_line}
 use Rattle.report_print.specs.declared.refusal.Refusal.TheVariants as refusal
 use Rattle.report_print.specs.declared.refusal.WhyKind.TheVariants as why_kinds
 use Rattle.sched_bench.specs.Bench.{fault_of_opening}
-use Rattle.sched_hear.specs.Net.{BooksStand, execution_in}
+use Rattle.sched_hear.specs.Net.{execution_in}
 use Rattle.sched_hear.specs.declared.books.Books.{Books}
 use Rattle.sched_run.specs.Applying.{Line, after_lines, steps_of, Applied}
 use Rattle.sched_run.specs.declared.applying.EventRefusal.{EventRefusal}

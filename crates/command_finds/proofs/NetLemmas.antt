@@ -1,16 +1,14 @@
 -- A net of an opened bench comes to the execution of its lines, or the check of events refuses what it refuses.
 use Rattle.std.proofs.Common.{◌≡◌, ◌≢◌, ◌∙◌, ◌++◌, List, [], ◌∷◌, Option, None, Some, OnOk, Result, Ok, Err, map, refl, sym, subst, ap}
 use Rattle.std.specs.List.{fold}
-use Rattle.std.specs.Result.{IsErrAnd}
 use Rattle.std.proofs.lemmas.Simd.{map-map}
 use Rattle.bloom_ast.specs.declared.program.Program.{Program}
 use Rattle.bloom_ast.specs.Step.{Sets}
 use Rattle.blz_boxes.specs.declared.kind.ProgramKind.{ProgramKind}
 use Rattle.confluence.specs.Complete.{IsRun}
-use Rattle.emitted.specs.declared.fault.EventFault.{EventFault}
 use Rattle.emitted.specs.declared.fault.EventFault.TheVariants.{NoMemory}
 use Rattle.inbox.specs.Completeness.{IsComplete}
-use Rattle.inbox.specs.Events.{Step, event, Refusal}
+use Rattle.inbox.specs.Events.{event, Refusal}
 use Rattle.inbox.specs.Executions.{Execution, after_event, after_step, execution_of, first_execution, result_and_then}
 use Rattle.inbox.specs.Wiring.{wiring_of}
 use Rattle.inbox.proofs.Executions.Results.{Ok_same, and_then_Ok}
@@ -20,7 +18,7 @@ use Rattle.sched_hear.specs.Net.{Stands, BooksRun, execution_in}
 use Rattle.sched_hear.specs.Numbered.{numbered}
 use Rattle.sched_hear.specs.declared.books.Books.{Books}
 use Rattle.sched_lists.specs.Limits.{Limit, limit_of_event}
-use Rattle.sched_run.specs.Applying.{Line, after_line, after_lines, in_line, made_by, within, steps_of, Applied, AppliesLines, Reaches}
+use Rattle.sched_run.specs.Applying.{Line, after_line, after_lines, in_line, made_by, steps_of, Applied, AppliesLines}
 use Rattle.sched_run.specs.declared.applying.EventRefusal.{EventRefusal}
 use Rattle.topo_types.specs.Data.{Data}
 use Rattle.topo_types.specs.View.{View}
@@ -29,7 +27,7 @@ use Rattle.witness_check.specs.declared.difference.Which.TheVariants.{First, Sec
 use Rattle.command_files.specs.Checks.{line_of}
 use Rattle.command_files.specs.Ends.{Told, Source, files_states, Came, Ends}
 use Rattle.command_files.specs.Ran.{IsStopAt, Stopped, StopsAs}
-use Rattle.command_files.specs.Script.{Bytes, Script, ◌>>=◌}
+use Rattle.command_files.specs.Script.{Script, ◌>>=◌}
 use Rattle.command_files.specs.Script.Ending.{gave}
 use Rattle.command_files.specs.declared.stop.Stop.{Stop}
 use Rattle.command_files.proofs.ScriptLemmas.{came_checked, gives_ran, stop_then}

@@ -1,7 +1,7 @@
 -- What a record that was found is known by: its schedule yields it, and the events that it needs can be printed.
-use Rattle.std.proofs.Common.{◌≡◌, ◌∙◌, ◌+◌, ◌<◌, ◌⊎◌, inl, inr, ℕ, Bool, true, false, List, [], ◌∷◌, length, Option, None, Some, Result, Ok, Err, refl, sym, subst, ap, arith}
-use Rattle.std.specs.Prelude.{nat_lt, if◌then◌else◌, slice_get}
-use Rattle.std.specs.List.{AllPass, list_all, list_any, position_from}
+use Rattle.std.proofs.Common.{◌≡◌, ◌∙◌, ◌<◌, inl, inr, ℕ, Bool, true, false, List, [], ◌∷◌, length, Option, None, Some, Result, Ok, Err, refl, sym, subst, ap}
+use Rattle.std.specs.Prelude.{nat_lt, slice_get}
+use Rattle.std.specs.List.{AllPass, list_all, list_any}
 use Rattle.std.specs.List.Sorted.{IsPermutation}
 use Rattle.std.specs.Option.{option_and_then}
 use Rattle.std.specs.Result.{IsErrAnd}
@@ -19,7 +19,6 @@ use Rattle.inbox.proofs.TimestepLemmas.Entries.{Has-rows_in}
 use Rattle.messages.proofs.MessagesLemmas.{is_same_row-itself}
 use Rattle.sched_bench.specs.Bench.{fault_of_opening}
 use Rattle.sched_run.specs.Applying.{Line, after_lines}
-use Rattle.sched_run.specs.declared.applying.EventRefusal.{EventRefusal}
 use Rattle.sched_text.specs.Text.{IsPrintable, is_printable}
 use Rattle.topo_types.specs.Data.{Data}
 use Rattle.topo_types.specs.Messages.{Message, row, seal, is_same_row, row_in, rows_in}
@@ -32,7 +31,7 @@ use Rattle.witness_check.specs.declared.difference.Which.TheVariants.{First}
 use Rattle.blazes_words.specs.Words.{WhyWords}
 use Rattle.command_files.specs.Ends.{Told, Source, source, files_states, Ends}
 use Rattle.command_files.specs.Ran.{RanAtOnce, answer_of}
-use Rattle.command_files.specs.Script.{Script, ◌>>=◌}
+use Rattle.command_files.specs.Script.{◌>>=◌}
 use Rattle.command_files.specs.Script.Script.{gives}
 use Rattle.command_files.specs.Script.Ending.{gave}
 use Rattle.command_files.specs.declared.reply.Reply.{Reply}
@@ -42,7 +41,7 @@ use Rattle.command_runs.specs.Replies.{RepliesAtOnce}
 use Rattle.command_runs.proofs.RepliesLemmas.{followed, stop_replies}
 use Rattle.command_finds.specs.Checks as check
 use Rattle.command_finds.specs.Code.Looked.{explained_by, wanted_shown}
-use Rattle.command_finds.specs.Finds.{Explained, HasReasons, SaysReasons, finding, looking, run_of}
+use Rattle.command_finds.specs.Finds.{HasReasons, SaysReasons, finding, looking, run_of}
 use Rattle.command_finds.specs.declared.finding.Wanted.{Wanted}
 use Rattle.command_finds.proofs.LookedLemmas.{is_there}
 use Rattle.command_finds.proofs.NetLemmas.{run_gave}

@@ -4,9 +4,9 @@ use Rattle.report_print.specs.declared.refusal.Refusal.{Refusal}
 use Rattle.command_files.specs.Checks.{checked, line_of}
 use Rattle.command_files.specs.Ends.{Told, Source, files_states, Ends}
 use Rattle.command_files.specs.Ran.{IsStopAt, Stopped}
-use Rattle.command_files.specs.Script.{Bytes, Script, Ending, ◌>>=◌}
+use Rattle.command_files.specs.Script.{Bytes, Script, ◌>>=◌}
 use Rattle.command_files.specs.Script.Script.{gives, refuses, reads}
-use Rattle.command_files.specs.Script.Ending.{gave, refused, failed}
+use Rattle.command_files.specs.Script.Ending.{gave, refused}
 use Rattle.command_files.specs.declared.stop.Stop.{Stop}
 use Rattle.command_files.proofs.RefusedLemmas.{refused_gives}
 use Rattle.command_files.proofs.ScriptLemmas.{gives_ran, memory_stops}

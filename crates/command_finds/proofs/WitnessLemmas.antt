@@ -1,12 +1,10 @@
 -- Two executions are compared as the script of `witness` says, and where both are complete they don't differ in a stream of which the labels promise that they don't.
-use Rattle.std.proofs.Common.{◌≡◌, ◌∙◌, ◌<◌, List, length, Option, None, Some, IfSome, Result, Ok, Err, refl, sym, subst, ap}
+use Rattle.std.proofs.Common.{◌≡◌, ◌∙◌, List, Option, None, Some, Result, Ok, Err, refl, sym, subst, ap}
 use Rattle.std.specs.List.Sorted.{IsPermutation}
 use Rattle.std.specs.Result.{IsErrAnd}
 use Rattle.blz_boxes.specs.declared.kind.ProgramKind.{ProgramKind}
 use Rattle.confluence.specs.Laws.{RegionLaw}
 use Rattle.inbox.specs.Executions.{Execution, contents, first_execution}
-use Rattle.inbox.specs.Wiring.{wiring_of}
-use Rattle.label_walk.specs.Paths.{label_at}
 use Rattle.sched_bench.specs.Bench.{fault_of_opening}
 use Rattle.sched_run.specs.Applying.{Line, after_lines}
 use Rattle.sched_run.specs.Reading.{is_complete}
@@ -21,14 +19,12 @@ use Rattle.why_trace.proofs.OpeningAgain.{opening_permuted}
 use Rattle.witness_check.proofs.DifferenceLemmas.{differs, snapshots_alike}
 use Rattle.command_files.specs.Ends.{Source, files_states, Came}
 use Rattle.command_files.specs.Ran.{Stopped, answer_of}
-use Rattle.command_files.specs.Reply.{Answer}
 use Rattle.command_files.specs.Script.{Script, ◌>>=◌}
 use Rattle.command_files.specs.Script.Script.{gives}
 use Rattle.command_files.specs.Script.Ending.{gave}
 use Rattle.command_files.specs.declared.reply.Reply.{Reply}
 use Rattle.command_files.specs.declared.status.Status.TheVariants.{Done}
 use Rattle.command_files.specs.declared.stop.Stop.{Stop}
-use Rattle.command_files.proofs.ScriptLemmas.{came_at_once, came_then, stop_then}
 use Rattle.command_runs.specs.Bench.{BenchStates}
 use Rattle.command_runs.specs.Replies.{RepliesAtOnce}
 use Rattle.command_runs.proofs.RepliesLemmas.{followed, stop_replies, then_replies}

@@ -1,5 +1,5 @@
 //! The text of `witness`.
-ghost use Rattle.std.specs.Prelude.{◌≡◌, ◌<◌, ◌++◌, IfOk, IfSome, OnOk, length};
+ghost use Rattle.std.specs.Prelude.{◌≡◌, ◌<◌, ◌++◌, IfOk, OnOk};
 ghost use Rattle.witness_check.specs.Difference.{AreAlike, difference};
 ghost use Rattle.command_finds.specs.Code.Seen.{IsWithin, seen_text};
 ghost use Rattle.command_finds.specs.WitnessText as spec;

@@ -20,6 +20,9 @@ pub mod LookingLemmas
 pub mod NamesLemmas
 pub mod PartsLemmas
 pub mod WorksLemmas
+pub mod SameBooks
+pub mod Untouched
+pub mod WatchLemmas
 pub mod ApplyingLemmas
 pub mod TurnsLemmas
 pub mod FrontsLemmas

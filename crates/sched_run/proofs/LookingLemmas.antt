@@ -48,7 +48,7 @@ use Rattle.sched_hear.proofs.Showing.{emitted_shown, is_there-true}
 
 -- ---- windows by a test that is the same
 
-window_same : (f g : ℕ → Bool) (n m : ℕ) (window : Looked) → ((k : ℕ) → f k ≡ g k) → n ≡ m → IsWindow f n window → IsWindow g m window
+pub window_same : (f g : ℕ → Bool) (n m : ℕ) (window : Looked) → ((k : ℕ) → f k ≡ g k) → n ≡ m → IsWindow f n window → IsWindow g m window
 window_same f g n m window same e is = subst (λ k. IsWindow g k window) e (subst (λ (p : ℕ → Bool). IsWindow p n window) (λ i k. same k i) is)
 
 shows_same : (f g : ℕ → Bool) (window : Looked) → ((k : ℕ) → f k ≡ g k) → MayShow f window → MayShow g window
@@ -114,7 +114,7 @@ unordered_at records log port messages index pool logged given =
 
 module _ (v : View) (b : Books) (valid : IsValid v) where
   module _ (c r n : ℕ) (feed : Feed) (is : IsDelivery v c r n feed) (seated : Seated) (at : slice_get b.seats.items (instance_place v c r) ≡ Some seated) (inbox : Inbox) (known : BTreeSet (ℕ × ℕ)) (ear : seated.ear ≡ Hears inbox known) (messages : List IdMessage) (are : messages ≡ list_seen v b.lists.lists feed.stream feed.sender) (count : ℕ) (many : count ≡ length messages) where
-    heard_open : (given : Data) (steps : List Step) (stand : BooksStand v given steps b) (index : ℕ) → is_unknown_at known.keys n count index ≡ is_open_in (wiring_of v) given (execution_in stand) (Deliver c r n feed) index
+    pub heard_open : (given : Data) (steps : List Step) (stand : BooksStand v given steps b) (index : ℕ) → is_unknown_at known.keys n count index ≡ is_open_in (wiring_of v) given (execution_in stand) (Deliver c r n feed) index
     heard_open given steps stand index =
         unheard_at list (all_pairs ((execution_in stand).lives c r).last.heard) known.keys n count index (many ∙ seen_length v given steps b stand valid feed.stream feed.sender is.is.sender messages are)
         (λ k m found. subst (λ (batches : List Batch). list_any (is_same_entry_id (n, k)) known.keys ≡ list_any (is_same_pair (n, m)) (all_pairs batches)) (stand.stands.stands.seats c r (is_there-true v c r is.is.there is.within)).heard
@@ -179,7 +179,7 @@ takes_nothing v b given steps stand c r taken seated there within free at is =
 
 module _ (v : View) (b : Books) (given : Data) (steps : List Step) (stand : BooksStand v given steps b) where
   -- how many entries a replica of an Order component took
-  took : (c r : ℕ) (seated : Seated) → c < length v.components → r < replicas_of v c → is_order v c ≡ true → slice_get b.seats.items (instance_place v c r) ≡ Some seated → taken_in seated.ear ≡ ((execution_in stand).lives c r).last.taken
+  pub took : (c r : ℕ) (seated : Seated) → c < length v.components → r < replicas_of v c → is_order v c ≡ true → slice_get b.seats.items (instance_place v c r) ≡ Some seated → taken_in seated.ear ≡ ((execution_in stand).lives c r).last.taken
   took c r seated there within order at = by_ear seated.ear (stand.instances.each c r seated there within at).ear
     where
       by_ear : (ear : Ear) → ShowsEar v b.lists c r (stand.seats.seats c r) ear → taken_in ear ≡ ((execution_in stand).lives c r).last.taken

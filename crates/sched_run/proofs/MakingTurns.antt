@@ -19,6 +19,7 @@ use Rattle.sched_run.specs.Made.{event_limit, Course, after_turns, chosen_events
 use Rattle.sched_run.specs.Making.{events_of}
 use Rattle.sched_hear.specs.Net.{BooksStand, execution_in}
 use Rattle.sched_run.specs.Code.Making.{AppliedSo, AppliesEvents, AreLines, MeetNone, HasRun, HasTurned, IsReady, FailsAt, FailsIn, TurnedSo, Turns}
+use Rattle.sched_run.specs.Code.Watch.{IsWatched}
 use Rattle.sched_run.specs.Code.Works.{AreShown, AreWorksOf, IsOpenWork, work_event}
 use Rattle.sched_hear.specs.declared.books.Books.{Books}
 use Rattle.sched_run.specs.declared.fault.MakeFault.{MakeFault}
@@ -217,8 +218,8 @@ module _ (v : View) (loaded : List (Option Program)) (tables next : List Sets) (
 
 -- ---- what is shown, by an equal topology
 
-pub ready_on : (v also : View) → also ≡ v → (b : Books) (m : Making) → AreWorksOf also m.works → AreShown also b m.works → AreLines m.lines.items → IsReady v b m
-ready_on v also same b m works shown lines = subst (λ (u : View). IsReady u b m) same (record { works = works; shown = shown; lines = lines })
+pub ready_on : (v also : View) → also ≡ v → (b : Books) (m : Making) → AreWorksOf also m.watch.works → IsWatched also m.watch → AreShown also b m.watch.works → AreLines m.lines.items → IsReady v b m
+ready_on v also same b m works watched shown lines = subst (λ (u : View). IsReady u b m) same (record { works = works; watched = watched; shown = shown; lines = lines })
 
 pub ready_at : (v also : View) → also ≡ v → (b : Books) (m : Making) → IsReady v b m → IsReady also b m
 ready_at v also same b m = subst (λ (u : View). IsReady u b m) (sym same)

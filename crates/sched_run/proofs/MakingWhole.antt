@@ -75,11 +75,11 @@ module _ (v also : View) (same : also ≡ v) (seed : ℕ) (loaded running : List
   no_more [] few = refl
   no_more (x ∷ xs) few = absurd (omega arith)
 
-  pub made_whole : IsValid v → IsReady v b m → (total : ℕ) → total ≡ sum m.works.sizes → total ≤ 0 → (lines : List Line) → lines ≡ m.lines.items → AnswersMade v loaded tables first seed (Ok lines)
+  pub made_whole : IsValid v → IsReady v b m → (total : ℕ) → total ≡ sum m.watch.works.sizes → total ≤ 0 → (lines : List Line) → lines ≡ m.lines.items → AnswersMade v loaded tables first seed (Ok lines)
   made_whole valid ready total all none lines are given stands =
       let has : HasTurned v given seed loaded now b m = turned given stands in
       let stand = has.run.stands.books in
-      let many : sum m.works.sizes ≡ length (open_works (wiring_of v) given (execution_in stand)) = total_is v given (steps_of v m.lines.items) b stand m.works ready.works (ready.shown given (steps_of v m.lines.items) stand) in
+      let many : sum m.watch.works.sizes ≡ length (open_works (wiring_of v) given (execution_in stand)) = total_is v given (steps_of v m.lines.items) b stand m.watch.works ready.works (ready.shown given (steps_of v m.lines.items) stand) in
       let idle : open_works (wiring_of v) given (execution_in stand) ≡ [] = no_more (open_works (wiring_of v) given (execution_in stand)) (omega (arith, many, all, none)) in
       subst (λ (l : List Line). AnswersSo (wiring_of v) given (made_of (wiring_of v) given seed) (Ok (events_of v l))) (sym are)
       (ends_so v given seed loaded now b m has (few_lines m.lines.items ready.lines) idle (nothing_left v valid given (execution_in stand) idle))

@@ -1,37 +1,50 @@
 -- The work that is chosen is legal, also once more where it isn't a take; and after its events each window may be looked at again.
-use Rattle.std.proofs.Common.{◌≡◌, ◌∙◌, ◌++◌, ◌&&◌, ℕ, Bool, true, false, not, List, [], ◌∷◌, Option, Some, Result, Ok, map, slice_get, append_assoc, refl, sym, subst, ap}
-use Rattle.std.proofs.lemmas.Option.{get_or_from_slice_get, slice_get_within}
+use Rattle.std.proofs.Common.{◌≡◌, ◌∙◌, ◌<◌, ◌+◌, ◌-◌, ◌++◌, ◌&&◌, ℕ, Bool, true, false, not, List, [], ◌∷◌, Option, Some, Result, Ok, map, length, get_or, slice_get, append_assoc, refl, sym, subst, ap, inl, inr, arith}
+use Rattle.std.specs.Prelude.{if◌then◌else◌}
+use Rattle.std.proofs.lemmas.Bool.{cases_lt}
+use Rattle.std.proofs.lemmas.Option.{get_or_from_slice_get, slice_get-get_or, slice_get_within}
 use Rattle.blz_value.specs.Members.{Has}
 use Rattle.blz_value.proofs.Membership.{Has-get_or}
 use Rattle.bloom_ast.specs.declared.program.Program.{Program}
 use Rattle.bloom_ast.specs.Step.{Sets}
 use Rattle.topo_types.specs.Data.{Data}
+use Rattle.topo_types.specs.Messages.{Message as Sent}
 use Rattle.topo_types.specs.Valid.{IsValid}
 use Rattle.topo_types.specs.View.{View}
-use Rattle.inbox.specs.Events.{Event, event}
+use Rattle.inbox.specs.Events.{Event, Step, event}
 use Rattle.inbox.specs.Executions.{Execution, after_event, execution_of_events}
 use Rattle.inbox.specs.Wiring.{Wiring, wiring_of}
+use Rattle.inbox.proofs.Executions.Lengthening.{takes_within_logs}
 use Rattle.inbox.proofs.Executions.Results.{Ok_same}
+use Rattle.sched_turns.specs.Windows.{IsWindow}
+use Rattle.sched_turns.specs.declared.windows.Stale.TheVariants.{Nothing}
 use Rattle.sched_run.specs.Applying.{Line, steps_of}
-use Rattle.sched_run.specs.Made.{chosen_events, is_take, open_works, says_again}
+use Rattle.sched_run.specs.Made.{all_lanes, can_take, chosen_events, is_open_in, is_take, lane_list, open_works, says_again}
 use Rattle.sched_run.specs.Making.{events_of}
-use Rattle.sched_hear.specs.Net.{BooksRun, execution_in}
+use Rattle.sched_hear.specs.Net.{BooksRun, BooksStand, execution_in}
 use Rattle.sched_run.specs.Code.Making.{AppliedSo, AppliesEvents, HasRun, Goes, GoesOn, IsDue}
+use Rattle.sched_run.specs.Code.Looking.{IsTaker, LooksAt}
 use Rattle.sched_run.specs.Code.Stale.{stale_on}
-use Rattle.sched_run.specs.Code.Works.{AreShown, AreWorksOf, IsOpenWork, MayLookAt, is_taking, window_at, work_event}
+use Rattle.sched_run.specs.Code.Watch.{IsUntouched, StillShows, touches, touches_taker}
+use Rattle.sched_run.specs.Code.Works.{AreShown, AreWorksOf, IsOpenWork, MayLookAt, ShowWorks, is_taking, sizes_shown, window_at, work_event}
 use Rattle.sched_hear.specs.declared.books.Books.{Books}
 use Rattle.sched_run.specs.declared.fault.MakeFault.{MakeFault}
 use Rattle.sched_run.specs.declared.lanes.Lane.{Lane}
 use Rattle.sched_run.specs.declared.lanes.Lane.TheVariants.{Deliver, Order}
+use Rattle.sched_run.specs.declared.lanes.Taker.{Taker}
 use Rattle.sched_run.specs.declared.works.Work.{Work}
 use Rattle.sched_run.specs.declared.works.Work.TheVariants.{Message, Take}
 use Rattle.sched_run.specs.declared.works.Works.{Works}
-use Rattle.sched_run.proofs.LanesKnown.{IsLaneIn, lanes_in}
+use Rattle.sched_run.proofs.LanesKnown.{IsLaneIn, lanes_are, lanes_in, takers_are}
+use Rattle.sched_run.proofs.LookingLemmas.{window_same}
 use Rattle.sched_run.proofs.MakingRuns.{events_legal, events_run, next_is}
 use Rattle.sched_run.proofs.OpenBefore.{OpensOnlyNew, event_opens, opens_on, window_inside, window_shown}
 use Rattle.sched_run.proofs.OpenWorksLegal.{legal_again, open_legal}
+use Rattle.sched_run.proofs.SameBooks.{shown_same, takes_same}
 use Rattle.sched_run.proofs.StayOpen.{StaysOpen, event_stays, stays_on, window_fresh}
 use Rattle.sched_run.proofs.TurnsLemmas.{chosen_once, chosen_twice}
+use Rattle.sched_run.proofs.Untouched.{list_kept, open_still, stale_nothing, take_kept}
+use Rattle.sched_run.proofs.WorksLemmas.{lane_size, no_taker, taker_size_is}
 
 -- ---- the chosen work
 
@@ -137,6 +150,31 @@ module _ (v : View) (loaded : List (Option Program)) (tables : List Sets) (old :
             (event_stays w due.given (steps_of v lines) work x first.0 due.run.stands.books.stands.run (legal_of x first.0 first.1) lane there)
             (event_stays w due.given (map event (events_of v lines ++ e ∷ [])) work first.0 y once_legal (legal_of first.0 y (twice_legal are other)) lane there)
 
+        -- an untouched lane has the list that it had, and an untouched taker can take as before
+        list_once : events_of v after ≡ events_of v lines ++ e ∷ [] → (lane : Lane) → touches v work lane ≡ false → lane_list w due.given y lane ≡ lane_list w due.given x lane
+        list_once are lane off = list_kept v due.given x y work (takes_within_logs w due.given (steps_of v lines) x due.run.stands.books.stands.run) (legal_of x y (one_legal are)) lane off
+
+        list_twice : events_of v after ≡ events_of v lines ++ e ∷ e ∷ [] → is_take e ≡ false → (lane : Lane) → touches v work lane ≡ false → lane_list w due.given y lane ≡ lane_list w due.given x lane
+        list_twice are other lane off =
+            list_kept v due.given first.0 y work (takes_within_logs w due.given (map event (events_of v lines ++ e ∷ [])) first.0 once_legal) (legal_of first.0 y (twice_legal are other)) lane off
+            ∙ list_kept v due.given x first.0 work (takes_within_logs w due.given (steps_of v lines) x due.run.stands.books.stands.run) (legal_of x first.0 first.1) lane off
+
+        pub list_by : (number : ℕ) (b : Bool) → (not (is_take e) && says_again number) ≡ b → events_of v after ≡ events_of v lines ++ chosen_events number e → (lane : Lane) → touches v work lane ≡ false → lane_list w due.given y lane ≡ lane_list w due.given x lane
+        list_by number true b are = list_twice (are ∙ ap (λ (l : List Event). events_of v lines ++ l) (chosen_twice number e b)) (not_take (is_take e) (says_again number) b)
+        list_by number false b are = list_once (are ∙ ap (λ (l : List Event). events_of v lines ++ l) (chosen_once number e b))
+
+        take_once : events_of v after ≡ events_of v lines ++ e ∷ [] → (taker : Taker) → touches_taker work taker ≡ false → can_take x taker ≡ can_take y taker
+        take_once are taker off = take_kept v due.given x y work (legal_of x y (one_legal are)) taker off
+
+        take_twice : events_of v after ≡ events_of v lines ++ e ∷ e ∷ [] → is_take e ≡ false → (taker : Taker) → touches_taker work taker ≡ false → can_take x taker ≡ can_take y taker
+        take_twice are other taker off =
+            take_kept v due.given x first.0 work (legal_of x first.0 first.1) taker off
+            ∙ take_kept v due.given first.0 y work (legal_of first.0 y (twice_legal are other)) taker off
+
+        pub take_by : (number : ℕ) (b : Bool) → (not (is_take e) && says_again number) ≡ b → events_of v after ≡ events_of v lines ++ chosen_events number e → (taker : Taker) → touches_taker work taker ≡ false → can_take x taker ≡ can_take y taker
+        take_by number true b are = take_twice (are ∙ ap (λ (l : List Event). events_of v lines ++ l) (chosen_twice number e b)) (not_take (is_take e) (says_again number) b)
+        take_by number false b are = take_once (are ∙ ap (λ (l : List Event). events_of v lines ++ l) (chosen_once number e b))
+
         pub stays_by : (number : ℕ) (b : Bool) → (not (is_take e) && says_again number) ≡ b → events_of v after ≡ events_of v lines ++ chosen_events number e → (lane : Lane) → IsLaneIn w lane → StaysOpen w due.given x y lane (stale_on work lane)
         stays_by number true b are = stays_twice (are ∙ ap (λ (l : List Event). events_of v lines ++ l) (chosen_twice number e b)) (not_take (is_take e) (says_again number) b)
         stays_by number false b are = stays_once (are ∙ ap (λ (l : List Event). events_of v lines ++ l) (chosen_once number e b))
@@ -157,6 +195,45 @@ module _ (v : View) (loaded : List (Option Program)) (tables : List Sets) (old :
             fresh = window_fresh w due.given x y lane (stale_on work lane) (window_at k place) stays window;
           }
 
+      -- and what the work doesn't touch is shown still
+      pub shows_still : (number : ℕ) (work : Work) → work_event work ≡ e → (k : Works) → AreWorksOf v k → events_of v after ≡ events_of v lines ++ chosen_events number e → AreShown v old k → (place : ℕ) → IsUntouched v k work place → StillShows v new k place
+      shows_still number work of k works are shown place off = record { window = window_still; size = size_still }
+        where
+          before : ShowWorks w due.given x k
+          before = shown due.given (steps_of v lines) due.run.stands.books
+
+          window_still : (lane : Lane) → slice_get k.lanes.items place ≡ Some lane → LooksAt v new lane (window_at k place)
+          window_still lane at given steps stand =
+              let has : Has lane (all_lanes w) = subst (Has lane) works.lanes_are (has_at k.lanes.items place lane at) in
+              let there : IsLaneIn w lane = lanes_in w lane has in
+              let apart : touches v work lane ≡ false = off.lane lane at in
+              let opens : OpensOnlyNew w due.given x y lane = opens_by number (not (is_take e) && says_again number) refl are lane in
+              let stays : StaysOpen w due.given x y lane Nothing = subst (StaysOpen w due.given x y lane) (stale_nothing v work lane apart) (stays_by work of number (not (is_take e) && says_again number) refl are lane there) in
+              let list : lane_list w due.given y lane ≡ lane_list w due.given x lane = list_by work of number (not (is_take e) && says_again number) refl are lane apart in
+              let now : IsWindow (is_open_in w due.given y lane) (length (lane_list w due.given y lane)) (window_at k place) =
+              window_same (is_open_in w due.given x lane) (is_open_in w due.given y lane) (length (lane_list w due.given x lane)) (length (lane_list w due.given y lane)) (window_at k place)
+              (open_still w due.given x y lane opens stays list) (ap (λ (l : List Sent). length l) (sym list)) (before.windows place lane at) in
+              shown_same v new valid due.given given (steps_of v after) steps later.stands.books stand lane (lanes_are v valid lane has) (window_at k place) now
+
+          size_still : (given : Data) (steps : List Step) (stand : BooksStand v given steps new) → get_or k.sizes place 0 ≡ get_or (sizes_shown (execution_in stand) k) place 0
+          size_still given steps stand = elim (cases_lt place (length k.windows.items)) [
+            | inl less ↦ ap (λ (l : List ℕ). get_or l place 0) before.sizes ∙ lane_size x k place less ∙ sym (lane_size (execution_in stand) k place less)
+            | inr more ↦
+                let n : ℕ = place - length k.windows.items in
+                let number_at : place ≡ length k.windows.items + n = omega (arith, more) in
+                let inside : n < length k.takers.items = omega (arith, more, off.there, works.as_many, works.many) in
+                of_taker given steps stand n number_at (get_or k.takers.items n no_taker) (slice_get-get_or k.takers.items n no_taker inside)
+          ]
+            where
+              of_taker : (given : Data) (steps : List Step) (stand : BooksStand v given steps new) (n : ℕ) → place ≡ length k.windows.items + n → (taker : Taker) → slice_get k.takers.items n ≡ Some taker → get_or k.sizes place 0 ≡ get_or (sizes_shown (execution_in stand) k) place 0
+              of_taker given steps stand n number_at taker at =
+                  let apart : touches_taker work taker ≡ false = off.taker n taker (omega (arith, number_at, works.many)) at in
+                  let is : IsTaker v taker = takers_are v valid taker (subst (Has taker) works.takers_are (has_at k.takers.items n taker at)) in
+                  ap (λ (l : List ℕ). get_or l place 0) before.sizes
+                  ∙ taker_size_is x k place n taker number_at at
+                  ∙ ap (λ b. if b then 1 else 0) (take_by work of number (not (is_take e) && says_again number) refl are taker apart ∙ takes_same v new valid due.given given (steps_of v after) steps later.stands.books stand taker is)
+                  ∙ sym (taker_size_is (execution_in stand) k place n taker number_at at)
+
 -- ---- after the chosen events, of the same topology
 
 module _ (v also : View) (same : also ≡ v) (loaded : List (Option Program)) (tables next : List Sets) (old new : Books) (lines after : List Line) (events : List Event) (called : Result (Unit {0}) MakeFault) (applies : AppliesEvents v loaded tables next old new lines after events called) (x : Unit {0}) (is : called ≡ Ok x) where
@@ -176,6 +253,17 @@ may_look_on v also same loaded tables next old new lines after index number work
     subst (λ (u : View). MayLookAt u new k work place) (sym same)
     (may_look_again v loaded tables old lines valid (work_event work) due next new after
     (ran v also same loaded tables next old new lines after (chosen_events number (work_event work)) called applies x is due.given due.run) number work refl k works are shown place)
+
+-- and what the work doesn't touch is shown still
+pub shows_still_on : (v also : View) (same : also ≡ v) (loaded : List (Option Program)) (tables next : List Sets) (old new : Books) (lines after : List Line) (index number : ℕ) (work : Work) (k : Works) (called : Result (Unit {0}) MakeFault)
+    → AppliesEvents v loaded tables next old new lines after (chosen_events number (work_event work)) called → (x : Unit {0}) → called ≡ Ok x → IsValid v → Goes v loaded tables old lines → IsOpenWork v old index work
+    → events_of v after ≡ events_of v lines ++ chosen_events number (work_event work) → AreWorksOf v k → AreShown v old k → (place : ℕ) → IsUntouched also k work place → StillShows also new k place
+shows_still_on v also same loaded tables next old new lines after index number work k called applies x is valid goes found are works shown place off =
+    let due : IsDue v loaded tables old lines (work_event work) = due_found v loaded tables old lines index work goes found in
+    subst (λ (u : View). StillShows u new k place) (sym same)
+    (shows_still v loaded tables old lines valid (work_event work) due next new after
+    (ran v also same loaded tables next old new lines after (chosen_events number (work_event work)) called applies x is due.given due.run) number work refl k works are shown place
+    (subst (λ (u : View). IsUntouched u k work place) same off))
 
 -- the chosen event is legal once more, seen by an equal topology and equal programs
 pub goes_there : (v also : View) (same : also ≡ v) (loaded running : List (Option Program)) (programs : running ≡ loaded) (tables next : List Sets) (old new : Books) (lines after : List Line) → IsValid v → (e : Event) → IsDue v loaded tables old lines e → (called : Result (Unit {0}) MakeFault) (x : Unit {0})

@@ -1,5 +1,5 @@
 -- Where windows and sizes show what is open, the work with a number is found by the sizes; and so they do again when places are looked at.
-use Rattle.std.proofs.Common.{◌≡◌, ◌≢◌, ◌<◌, ◌≤◌, ◌+◌, ◌-◌, ◌^◌, ◌++◌, ◌∷◌, ℕ, Bool, true, false, Some, List, [], length, map, take, set, get_or, slice_get, refl, ap, ◌∙◌, sym, subst, inl, inr, arith, append_assoc, length-append}
+use Rattle.std.proofs.Common.{◌≡◌, ◌≢◌, ◌<◌, ◌≤◌, ◌+◌, ◌-◌, ◌^◌, ◌++◌, ◌∷◌, ℕ, Bool, true, false, Some, List, [], length, map, take, set, get_or, slice_get, refl, ap, ◌∙◌, sym, subst, inl, inr, ◌⊎◌, arith, append_assoc, length-append}
 use Rattle.std.specs.Int.{from_bool}
 use Rattle.std.specs.Prelude.{Result, Ok, Err, if◌then◌else◌}
 use Rattle.std.specs.Result.{OkIff, is_err}
@@ -8,6 +8,8 @@ use Rattle.std.specs.Option.{option_map}
 use Rattle.std.proofs.lemmas.Bool.{cases_eq, cases_lt}
 use Rattle.std.proofs.lemmas.List.{length-map, length-set, map-append, get_or_default, get_or_past, get_or-map, get_or_append_left, get_or-append-add, get_or_push, take_more, get_or-set_other, get_or-set_same}
 use Rattle.std.proofs.lemmas.Option.{slice_get-get_or, slice_get-map, slice_get_read, slice_get_within}
+use Rattle.blz_value.specs.Members.{Has}
+use Rattle.blz_value.proofs.Membership.{Has-append_left, Has-append_right, Has-append_cases}
 use Rattle.topo_types.specs.Data.{Data}
 use Rattle.topo_types.specs.Feeds.{no_feed}
 use Rattle.topo_types.specs.View.{View}
@@ -16,18 +18,22 @@ use Rattle.inbox.specs.Executions.{Execution}
 use Rattle.inbox.specs.Wiring.{wiring_of}
 use Rattle.sched_turns.specs.Sizes.{IsPlaceOf}
 use Rattle.sched_turns.specs.Windows.{Looked, IsWindow, first_open}
+use Rattle.sched_turns.specs.declared.windows.Stale.{Stale}
 use Rattle.sched_turns.proofs.WindowsLemmas.{window_shows}
 use Rattle.sched_run.specs.Made.{event_in, is_open_in, lane_list, all_lanes, all_takers, can_take, open_works, works_in, works_of}
 use Rattle.sched_hear.specs.Net.{BooksStand, BooksRun, execution_in}
 use Rattle.sched_run.specs.Code.Looking.{LooksAt, MayLook, TellsTake}
 use Rattle.sched_run.specs.Code.Stale.{stale_on}
-use Rattle.sched_run.specs.Code.Works.{AreWorksOf, AreWindowsOn, AreSizesWith, AreShown, MayLookAt, ShowWorks, LooksAgain, LookedAt, LookedBelow, sizes_shown, window_at}
+use Rattle.sched_run.specs.Code.Watch.{StillShows}
+use Rattle.sched_run.specs.Code.Works.{AreWorksOf, AreWindowsOn, AreSizesWith, AreShown, MayLookAt, ShowWorks, LooksAgain, LookedAt, LookedFor, sizes_shown, window_at}
 use Rattle.sched_hear.specs.declared.books.Books.{Books}
 use Rattle.sched_run.specs.declared.lanes.Lane.{Lane}
 use Rattle.sched_run.specs.declared.lanes.Lane.TheVariants.{Order}
 use Rattle.sched_run.specs.declared.lanes.Taker.{Taker}
 use Rattle.sched_run.specs.declared.works.Work.{Work}
 use Rattle.sched_run.specs.declared.works.Works.{Works}
+use Rattle.sched_run.proofs.OpenBefore.{none_opens, window_shown}
+use Rattle.sched_run.proofs.StayOpen.{window_fresh}
 use Rattle.sched_run.proofs.PartsLemmas.{lengths_together, at_place, few_together, small_set, all_same, window_sizes, taker_sizes, parts_joined, lane_part, taker_part, taking_part}
 
 abbrev none : Looked
@@ -257,16 +263,16 @@ module _ (v : View) (b : Books) (old new : Works) (place size : ℕ) (works : Ar
         ∙ ap (λ z. get_or (map window_size kept.windows.items ++ map (taker_size (execution_in stand)) z.items) place 0) (sym takers));
   }
 
--- ---- looking at all
+-- ---- looking at some
 
--- the size at another place is shown as before
-other_size : (v : View) (b : Books) (old new : Works) (place : ℕ) (x : Execution) → AreWorksOf v old → AreWorksOf v new → LookedAt v b old new place → (n : ℕ) → n < length old.sizes → n ≢ place → get_or (sizes_shown x new) n 0 ≡ get_or (sizes_shown x old) n 0
-other_size v b old new place x works after looked n there differ =
-    let many : length new.windows.items ≡ length old.windows.items = after.many ∙ ap (λ z. length z.items) looked.lanes_stay ∙ sym works.many in
+-- where the window is as it was the size is shown as before
+pub shown_size : (v : View) (old new : Works) (x : Execution) → AreWorksOf v old → AreWorksOf v new → new.lanes ≡ old.lanes → new.takers ≡ old.takers → (n : ℕ) → n < length old.sizes → window_at new n ≡ window_at old n → get_or (sizes_shown x new) n 0 ≡ get_or (sizes_shown x old) n 0
+shown_size v old new x works after lanes takers n there same =
+    let many : length new.windows.items ≡ length old.windows.items = after.many ∙ ap (λ z. length z.items) lanes ∙ sym works.many in
     elim (cases_lt n (length old.windows.items)) [
       | inl less ↦
           lane_size x new n (omega (arith, less, many))
-          ∙ ap (λ (window : Looked). length window.places) (looked.others n differ)
+          ∙ ap (λ (window : Looked). length window.places) same
           ∙ sym (lane_size x old n less)
       | inr more ↦
           let number : ℕ = n - length old.windows.items in
@@ -278,7 +284,7 @@ other_size v b old new place x works after looked n there differ =
     taker_at : (number : ℕ) → number < length old.takers.items → n ≡ length old.windows.items + number → length new.windows.items ≡ length old.windows.items → get_or (sizes_shown x new) n 0 ≡ get_or (sizes_shown x old) n 0
     taker_at number there_too at many =
         let own = slice_get-get_or old.takers.items number (no_taker) there_too in
-        taker_size_is x new n number (get_or old.takers.items number no_taker) (omega (arith, at, many)) (ap (λ z. slice_get z.items number) looked.takers_stay ∙ own)
+        taker_size_is x new n number (get_or old.takers.items number no_taker) (omega (arith, at, many)) (ap (λ z. slice_get z.items number) takers ∙ own)
         ∙ sym (taker_size_is x old n number (get_or old.takers.items number no_taker) at own)
 
 -- as many sizes as before
@@ -288,55 +294,158 @@ sizes_stay_many v old now works after =
     let takers : length now.takers.items ≡ length old.takers.items = ap (λ (l : List Taker). length l) (after.takers_are ∙ sym works.takers_are) in
     omega (arith, after.as_many, works.as_many, lanes, takers)
 
-pub looked_none : (v : View) (b : Books) (k : Works) → AreWorksOf v k → LookedBelow v b k k 0
-looked_none v b k works = record {
+pub looked_for_none : (v : View) (b : Books) (k : Works) → AreWorksOf v k → LookedFor v b k k []
+looked_for_none v b k works = record {
   works = works;
+  there = λ place h. absurd h;
   lanes_stay = refl;
-  later = λ place after. refl;
-  windows = λ place lane less at. absurd (omega (arith, less));
-  sizes = λ place less given steps stand. absurd (omega (arith, less));
+  takers_stay = refl;
+  others = λ place none. refl;
+  other_sizes = λ place none. refl;
+  windows = λ place lane h at. absurd h;
+  sizes = λ place h given steps stand. absurd h;
 }
 
 -- one place more
-pub looked_one : (v : View) (b : Books) (old now new : Works) (place : ℕ) → LookedBelow v b old now place → AreWorksOf v new → LookedAt v b now new place → place < length now.sizes → LookedBelow v b old new (place + 1)
-looked_one v b old now new place below after looked there = record {
-  works = after;
-  lanes_stay = looked.lanes_stay ∙ below.lanes_stay;
-  later = λ n past. looked.others n (λ same. absurd (omega (arith, past, same))) ∙ below.later n (omega (arith, past));
-  windows = λ n lane less at. elim (cases_eq n place) [
-    | inl same ↦ subst (λ m. LooksAt v b lane (window_at new m)) (sym same) (looked.window lane (subst (λ m. slice_get new.lanes.items m ≡ Some lane) same at))
-    | inr differ ↦ subst (LooksAt v b lane) (sym (looked.others n differ)) (below.windows n lane (omega (arith, less, differ)) (ap (λ z. slice_get z.items n) (sym looked.lanes_stay) ∙ at))
-  ];
-  sizes = λ n less given steps stand. elim (cases_eq n place) [
-    | inl same ↦
-        ap (λ m. get_or new.sizes m 0) same
-        ∙ ap (λ (l : List ℕ). get_or l place 0) (looked.size given steps stand)
-        ∙ get_or-set_same now.sizes place (get_or (sizes_shown (execution_in stand) new) place 0) 0 there
-        ∙ ap (λ m. get_or (sizes_shown (execution_in stand) new) m 0) (sym same)
-    | inr differ ↦
-        ap (λ (l : List ℕ). get_or l n 0) (looked.size given steps stand)
-        ∙ get_or-set_other now.sizes place n (get_or (sizes_shown (execution_in stand) new) place 0) 0 differ
-        ∙ below.sizes n (omega (arith, less, differ)) given steps stand
-        ∙ sym (other_size v b now new place (execution_in stand) below.works after looked n (omega (arith, less, there)) differ)
-  ];
-}
+module _ (v : View) (b : Books) (old now new : Works) (done : List ℕ) (place : ℕ) (runs : BooksRun v b) (below : LookedFor v b old now done) (after : AreWorksOf v new) (looked : LookedAt v b now new place) (there : place < length now.sizes) where
+  last : (n : ℕ) → Has n (done ++ place ∷ []) → n ≢ place → Has n done
+  last n h differ = elim (Has-append_cases n done (place ∷ []) h) [
+    | inl before ↦ before
+    | inr at_end ↦ elim at_end [ inl same ↦ absurd (differ (sym same)) | inr none ↦ absurd none ]
+  ]
+
+  apart : (n : ℕ) → ¬ Has n (done ++ place ∷ []) → n ≢ place
+  apart n none same = none (Has-append_right n done (place ∷ []) (inl (sym same)))
+
+  before : (n : ℕ) → ¬ Has n (done ++ place ∷ []) → ¬ Has n done
+  before n none h = none (Has-append_left n done (place ∷ []) h)
+
+  many : length new.sizes ≡ length now.sizes
+  many = sizes_stay_many v now new below.works after
+
+  pub looked_for_more : LookedFor v b old new (done ++ place ∷ [])
+  looked_for_more = record {
+    works = after;
+    there = λ n h. elim (cases_eq n place) [
+      | inl same ↦ (omega (arith, same, there, many))
+      | inr differ ↦ (let inside = below.there n (last n h differ) in omega (arith, inside, many))
+    ];
+    lanes_stay = looked.lanes_stay ∙ below.lanes_stay;
+    takers_stay = looked.takers_stay ∙ below.takers_stay;
+    others = λ n none. looked.others n (apart n none) ∙ below.others n (before n none);
+    other_sizes = λ n none.
+        ap (λ (l : List ℕ). get_or l n 0) (looked.size runs.given runs.steps runs.stand)
+        ∙ get_or-set_other now.sizes place n (get_or (sizes_shown (execution_in runs.stand) new) place 0) 0 (apart n none)
+        ∙ below.other_sizes n (before n none);
+    windows = λ n lane h at. elim (cases_eq n place) [
+      | inl same ↦ subst (λ m. LooksAt v b lane (window_at new m)) (sym same) (looked.window lane (subst (λ m. slice_get new.lanes.items m ≡ Some lane) same at))
+      | inr differ ↦ subst (LooksAt v b lane) (sym (looked.others n differ)) (below.windows n lane (last n h differ) (ap (λ z. slice_get z.items n) (sym looked.lanes_stay) ∙ at))
+    ];
+    sizes = λ n h given steps stand. elim (cases_eq n place) [
+      | inl same ↦
+          ap (λ m. get_or new.sizes m 0) same
+          ∙ ap (λ (l : List ℕ). get_or l place 0) (looked.size given steps stand)
+          ∙ get_or-set_same now.sizes place (get_or (sizes_shown (execution_in stand) new) place 0) 0 there
+          ∙ ap (λ m. get_or (sizes_shown (execution_in stand) new) m 0) (sym same)
+      | inr differ ↦
+          ap (λ (l : List ℕ). get_or l n 0) (looked.size given steps stand)
+          ∙ get_or-set_other now.sizes place n (get_or (sizes_shown (execution_in stand) new) place 0) 0 differ
+          ∙ below.sizes n (last n h differ) given steps stand
+          ∙ sym (shown_size v now new (execution_in stand) below.works after looked.lanes_stay looked.takers_stay n (below.there n (last n h differ)) (looked.others n differ))
+    ];
+  }
+
+has_or_not : (n : ℕ) (ns : List ℕ) → Has n ns ⊎ (¬ Has n ns)
+has_or_not n [] = inr (λ h. h)
+has_or_not n (m ∷ ms) = elim (cases_eq m n) [
+  | inl same ↦ inl (inl same)
+  | inr differ ↦ elim (has_or_not n ms) [
+    | inl h ↦ inl (inr h)
+    | inr none ↦ inr (λ h. elim h [ inl same ↦ differ same | inr later ↦ none later ])
+  ]
+]
+
+-- some places, and then others
+module _ (v : View) (b : Books) (old now new : Works) (xs ys : List ℕ) (first : LookedFor v b old now xs) (second : LookedFor v b now new ys) where
+  others_too : (n : ℕ) → ¬ Has n (xs ++ ys) → (¬ Has n xs) × (¬ Has n ys)
+  others_too n none = (λ h. none (Has-append_left n xs ys h), λ h. none (Has-append_right n xs ys h))
+
+  in_first : (n : ℕ) → Has n (xs ++ ys) → ¬ Has n ys → Has n xs
+  in_first n h none = elim (Has-append_cases n xs ys h) [ inl a ↦ a | inr c ↦ absurd (none c) ]
+
+  pub looked_for_then : LookedFor v b old new (xs ++ ys)
+  looked_for_then =
+      let many : length new.sizes ≡ length now.sizes = sizes_stay_many v now new first.works second.works in
+      record {
+        works = second.works;
+        there = λ n h. elim (Has-append_cases n xs ys h) [
+          | inl a ↦ (let inside = first.there n a in omega (arith, inside, many))
+          | inr c ↦ second.there n c
+        ];
+        lanes_stay = second.lanes_stay ∙ first.lanes_stay;
+        takers_stay = second.takers_stay ∙ first.takers_stay;
+        others = λ n none. (let both = others_too n none in second.others n both.1 ∙ first.others n both.0);
+        other_sizes = λ n none. (let both = others_too n none in second.other_sizes n both.1 ∙ first.other_sizes n both.0);
+        windows = λ n lane h at. elim (has_or_not n ys) [
+          | inl c ↦ second.windows n lane c at
+          | inr none ↦ subst (LooksAt v b lane) (sym (second.others n none)) (first.windows n lane (in_first n h none) (ap (λ z. slice_get z.items n) (sym second.lanes_stay) ∙ at))
+        ];
+        sizes = λ n h given steps stand. elim (has_or_not n ys) [
+          | inl c ↦ second.sizes n c given steps stand
+          | inr none ↦
+              second.other_sizes n none
+              ∙ first.sizes n (in_first n h none) given steps stand
+              ∙ sym (shown_size v now new (execution_in stand) first.works second.works second.lanes_stay second.takers_stay n (first.there n (in_first n h none)) (second.others n none))
+        ];
+      }
+
+-- a window that shows what is open may be looked at again
+may_again : (v : View) (b : Books) (lane : Lane) (stale : Stale) (window : Looked) → BooksRun v b → LooksAt v b lane window → MayLook v b lane stale window
+may_again v b lane stale window runs looks =
+    let x : Execution = execution_in runs.stand in
+    let is = looks runs.given runs.steps runs.stand in
+    record {
+      given = runs.given;
+      steps = runs.steps;
+      stand = runs.stand;
+      inside = is.inside;
+      shown = window_shown (wiring_of v) runs.given x x lane window (none_opens (wiring_of v) runs.given x lane) is;
+      fresh = window_fresh (wiring_of v) runs.given x x lane stale window (λ index within fresh e. e) is;
+    }
 
 -- what was to be looked at again still is
-pub still_may : (v : View) (b : Books) (old now : Works) (work : Work) (place : ℕ) → LookedBelow v b old now place → ((n : ℕ) → MayLookAt v b old work n) → MayLookAt v b now work place
-still_may v b old now work place below may lane at =
-    subst (MayLook v b lane (stale_on work lane)) (sym (below.later place (omega arith))) (may place lane (ap (λ z. slice_get z.items place) (sym below.lanes_stay) ∙ at))
+pub still_may : (v : View) (b : Books) (old now : Works) (work : Work) (done : List ℕ) → BooksRun v b → LookedFor v b old now done → ((n : ℕ) → MayLookAt v b old work n) → (place : ℕ) → MayLookAt v b now work place
+still_may v b old now work done runs below may place lane at = elim (has_or_not place done) [
+  | inl h ↦ may_again v b lane (stale_on work lane) (window_at now place) runs (below.windows place lane h at)
+  | inr none ↦ subst (MayLook v b lane (stale_on work lane)) (sym (below.others place none)) (may place lane (ap (λ z. slice_get z.items place) (sym below.lanes_stay) ∙ at))
+]
 
--- all places
-pub looked_all : (v : View) (b : Books) (old now : Works) (places : ℕ) → LookedBelow v b old now places → length now.sizes ≤ places → AreShown v b now
-looked_all v b old now places below past given steps stand =
-    let works = below.works in
+-- where all others show what is open still, all do
+pub all_shown : (v : View) (b : Books) (old now : Works) (places : List ℕ) → AreWorksOf v old → LookedFor v b old now places → ((n : ℕ) → n < length old.sizes → ¬ Has n places → StillShows v b old n) → AreShown v b now
+all_shown v b old now places works below rest given steps stand =
+    let after = below.works in
     let x : Execution = execution_in stand in
+    let many : length now.sizes ≡ length old.sizes = sizes_stay_many v old now works after in
     record {
-      windows = λ place lane at. below.windows place lane (omega (arith, slice_get_within now.lanes.items place lane at, works.as_many, past)) at given steps stand;
+      windows = λ place lane at. elim (has_or_not place places) [
+        | inl h ↦ below.windows place lane h at given steps stand
+        | inr none ↦
+            let within = slice_get_within now.lanes.items place lane at in
+            let still = rest place (omega (arith, within, after.as_many, many)) none in
+            subst (λ (window : Looked). IsWindow (is_open_in (wiring_of v) given x lane) (length (lane_list (wiring_of v) given x lane)) window) (sym (below.others place none))
+            (still.window lane (ap (λ z. slice_get z.items place) (sym below.lanes_stay) ∙ at) given steps stand)
+      ];
       sizes =
           all_same now.sizes (sizes_shown x now) 0
-          (omega (arith, works.as_many, works.many, length-append (map window_size now.windows.items) (map (taker_size x) now.takers.items), length-map now.windows.items window_size, length-map now.takers.items (taker_size x)))
-          (λ n less. below.sizes n (omega (arith, less, past)) given steps stand);
+          (omega (arith, after.as_many, after.many, length-append (map window_size now.windows.items) (map (taker_size x) now.takers.items), length-map now.windows.items window_size, length-map now.takers.items (taker_size x)))
+          (λ n less. elim (has_or_not n places) [
+            | inl h ↦ below.sizes n h given steps stand
+            | inr none ↦
+                let there : n < length old.sizes = omega (arith, less, many) in
+                below.other_sizes n none
+                ∙ (rest n there none).size given steps stand
+                ∙ sym (shown_size v old now x works after below.lanes_stay below.takers_stay n there (below.others n none))
+          ]);
     }
 
 -- ---- what is chosen

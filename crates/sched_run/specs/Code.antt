@@ -4,4 +4,5 @@ pub mod Remaining
 pub mod Looking
 pub mod Stale
 pub mod Works
+pub mod Watch
 pub mod Making

@@ -6,6 +6,7 @@ mod applying;
 mod closing;
 mod fault;
 mod forgetting;
+mod groups;
 mod lanes;
 mod limits;
 mod looking;
@@ -16,6 +17,7 @@ mod reading;
 mod remaining;
 mod seating;
 mod stale;
+mod watch;
 mod works;
 
 pub use applying::{EventRefusal, apply};

@@ -1,7 +1,8 @@
 //! Schedules from a seed: turn by turn a draw chooses among the open works, until none is open.
 //!
-//! The works of a lane are shown by a window, which looks again after each turn, but only at what the
-//! turn may have made stale and at what is new; a tree of the windows' sizes finds a work by its number.
+//! The works of a lane are shown by a window, which looks again after a turn that may have changed them,
+//! and only at what that may have made stale and at what is new; a tree of the windows' sizes finds a work
+//! by its number.
 ghost use Rattle.std.specs.Prelude.{◌≡◌, ◌<◌, ◌++◌, ◌∷◌, [], ℕ, true, map, IfOk, OnOk, length, sum};
 ghost use Rattle.sched_text.specs.Text.{IsPrintable, is_printable};
 ghost use Rattle.sched_run.specs.Made.{says_again, chosen_events};
@@ -9,12 +10,14 @@ ghost use Rattle.sched_run.specs.Making.{RunsFirst, AnswersMade, LeavesMade, Cou
 ghost use Rattle.sched_hear.specs.Net.{BooksRun};
 ghost use Rattle.sched_hear.specs.Numbered.{numbered};
 ghost use Rattle.sched_run.specs.Code.Making.{EndsNet, fault_with, AreLines, Goes, GoesOn, IsDue, AppliesEvents, IsReady, Turns, StandsMade};
+ghost use Rattle.sched_run.specs.Code.Watch.{IsUntouched, IsWatched, StillShows};
 ghost use Rattle.sched_run.specs.Code.Works.{AreWorksOf, AreShown, HasNames, IsOpenWork, MayLookAt, work_event};
 
 use crate::fault::MakeFault;
 use crate::limits::MAX_EVENTS;
 use crate::net::Net;
-use crate::works::{Work, Works};
+use crate::watch::Watch;
+use crate::works::Work;
 use sched_lists::EventFault;
 use sched_text::{Event, Schedule};
 use sched_turns::Draws;
@@ -23,7 +26,7 @@ use std::alloc::AllocError;
 // A schedule that is being made: what is open, the draws, and the events so far.
 #[derive(Drop)]
 struct Making {
-    works: Works,
+    watch: Watch,
     draws: Draws,
     lines: Vec<(u32, Event)>,
 }
@@ -110,36 +113,41 @@ fn apply_chosen(
 }
 
 // The works of a net. The error is want of memory.
-fn works_of(net: &Net<'_>) -> Result<Works, AllocError>
+fn watch_of(net: &Net<'_>) -> Result<Watch, AllocError>
     requires { BooksRun net.now.valid.now.view net.now.books }
-    ensures works { IfOk result (AreWorksOf net.now.valid.now.view) }
-    ensures shown { IfOk result (AreShown net.now.valid.now.view net.now.books) }
+    ensures works { IfOk result (λ watch. AreWorksOf net.now.valid.now.view watch.works) }
+    ensures watched { IfOk result (IsWatched net.now.valid.now.view) }
+    ensures shown { IfOk result (λ watch. AreShown net.now.valid.now.view net.now.books watch.works) }
 {
-    Works::of(net.alloc(), net.valid(), net.books())
+    Watch::of(net.alloc(), net.valid(), net.books())
 }
 
 // The work of a net with a number, counted from 0.
-fn work_at(works: &Works, net: &Net<'_>, number: usize) -> Work
+fn work_at(watch: &Watch, net: &Net<'_>, number: usize) -> Work
     requires runs { BooksRun net.now.valid.now.view net.now.books }
-    requires works { AreWorksOf net.now.valid.now.view works.now }
-    requires shown { AreShown net.now.valid.now.view net.now.books works.now }
-    requires number { number < sum works.now.sizes }
+    requires works { AreWorksOf net.now.valid.now.view watch.now.works }
+    requires shown { AreShown net.now.valid.now.view net.now.books watch.now.works }
+    requires number { number < sum watch.now.works.sizes }
     ensures numbered { IsOpenWork net.now.valid.now.view net.now.books number result }
     ensures names { HasNames net.now.valid.now.view result }
 {
-    let (_, work) = works.find(net.valid(), net.books(), number);
+    let (_, work) = watch.works.find(net.valid(), net.books(), number);
     work
 }
 
-// Looks again at every place, after a work. The error is want of memory.
-fn look_after(works: &mut Works, net: &Net<'_>, work: &Work) -> Result<(), AllocError>
+// Looks again where a work may have changed what is open. The error is want of memory.
+fn look_after(watch: &mut Watch, net: &Net<'_>, work: &Work) -> Result<(), AllocError>
     requires runs { BooksRun net.now.valid.now.view net.now.books }
-    requires works { AreWorksOf net.now.valid.now.view works.old }
-    requires may { (place : ℕ) → MayLookAt net.now.valid.now.view net.now.books works.old work.now place }
-    ensures works { OnOk result (AreWorksOf net.now.valid.now.view works.new) }
-    ensures shown { OnOk result (AreShown net.now.valid.now.view net.now.books works.new) }
+    requires works { AreWorksOf net.now.valid.now.view watch.old.works }
+    requires watched { IsWatched net.now.valid.now.view watch.old }
+    requires names { HasNames net.now.valid.now.view work.now }
+    requires may { (place : ℕ) → MayLookAt net.now.valid.now.view net.now.books watch.old.works work.now place }
+    requires rest { (place : ℕ) → IsUntouched net.now.valid.now.view watch.old.works work.now place → StillShows net.now.valid.now.view net.now.books watch.old.works place }
+    ensures works { OnOk result (AreWorksOf net.now.valid.now.view watch.new.works) }
+    ensures watched { OnOk result (IsWatched net.now.valid.now.view watch.new) }
+    ensures shown { OnOk result (AreShown net.now.valid.now.view net.now.books watch.new.works) }
 {
-    works.look_after(net.valid(), net.books(), work)
+    watch.look_after(net.valid(), net.books(), work)
 }
 
 impl Making {
@@ -151,7 +159,7 @@ impl Making {
         ensures lines { IfOk result (λ making. making.lines.items ≡ []) }
     {
         Ok(Making {
-            works: works_of(net)?,
+            watch: watch_of(net)?,
             draws: Draws::of(seed),
             lines: Vec::new(net.alloc()),
         })
@@ -161,7 +169,7 @@ impl Making {
     fn turn(&mut self, net: &mut Net<'_>) -> Result<(), MakeFault>
         requires goes { Goes net.old.valid.now.view (map (λ b. loaded b) net.old.shells.items) (map (λ b. kept b) net.old.shells.items) net.old.books self.old.lines.items }
         requires ready { IsReady net.old.valid.now.view net.old.books self.old }
-        requires some { 0 < sum self.old.works.sizes }
+        requires some { 0 < sum self.old.watch.works.sizes }
         ensures turns { Turns net.old.valid.now.view (map (λ b. loaded b) net.old.shells.items) (map (λ b. kept b) net.old.shells.items) (map (λ b. kept b) net.new.shells.items) net.old.books net.new.books self.old self.new result }
         ensures ready { OnOk result (IsReady net.old.valid.now.view net.new.books self.new) }
         ensures more { OnOk result (length self.old.lines.items < length self.new.lines.items) }
@@ -171,10 +179,10 @@ impl Making {
     {
         net.known();
         let number = self.draws.next_number();
-        let total = self.works.total();
-        let work = work_at(&self.works, net, number as usize % total);
+        let total = self.watch.works.total();
+        let work = work_at(&self.watch, net, number as usize % total);
         apply_chosen(net, &mut self.lines, number, &work)?;
-        look_after(&mut self.works, net, &work)?;
+        look_after(&mut self.watch, net, &work)?;
         Ok(())
     }
 }
@@ -192,7 +200,7 @@ fn schedule_of(net: &mut Net<'_>, seed: u64) -> Result<Schedule, MakeFault>
 {
     net.known();
     let mut making = Making::of(net, seed)?;
-    while making.works.total() > 0 {
+    while making.watch.works.total() > 0 {
         making.turn(net)?;
     }
     Ok(Schedule::from_lines(making.lines))
@@ -203,7 +211,7 @@ fn schedule_of(net: &mut Net<'_>, seed: u64) -> Result<Schedule, MakeFault>
 ///
 /// TooManyRows and TooManyMessages come at the first event that meets the limit, and TooManyEvents
 /// where an event more than 1,000,000 is due; a fault ends the net. A turn takes as many steps as the
-/// works stand in levels, beside its event and a look at each lane.
+/// works stand in levels, beside its event and a look at each lane that it may change.
 pub fn make(net: &mut Net<'_>, seed: u64) -> Result<Schedule, MakeFault>
     requires { RunsFirst net.old.valid.now.view (map (λ b. loaded b) net.old.shells.items) (map (λ b. kept b) net.old.shells.items) net.old.books }
 

@@ -1,14 +1,14 @@
 //! The open works: a window on each lane, whether each taker can take, and a tree of their numbers.
-ghost use Rattle.std.specs.Prelude.{◌≡◌, ◌<◌, ◌≤◌, ◌^◌, ℕ, true, IfOk, OnOk, length, map, sum};
+ghost use Rattle.std.specs.Prelude.{◌≡◌, ◌<◌, ℕ, true, IfOk, OnOk, length, map, sum};
 ghost use Rattle.std.specs.List.{All};
 ghost use Rattle.sched_text.specs.Text.{is_printable};
-ghost use Rattle.topo_types.specs.View.{replicas_of, stream_at};
+ghost use Rattle.topo_types.specs.View.{stream_at};
 ghost use Rattle.inbox.specs.Events.{deliver, order, take_one};
 ghost use Rattle.sched_run.specs.Made.{part_on};
 ghost use Rattle.sched_hear.specs.Net.{BooksRun};
 ghost use Rattle.sched_hear.specs.Numbered.{numbered};
 ghost use Rattle.sched_run.specs.Code.Looking.{IsFeed, IsLane, IsTaker, LooksAt};
-ghost use Rattle.sched_run.specs.Code.Works.{is_taking, work_event, HasNames, AreWindowsOn, AreSizesWith, AreWorksOf, AreShown, IsOpenWork, StandsThere, MayLookAt, LooksAgain, LookedAt};
+ghost use Rattle.sched_run.specs.Code.Works.{is_taking, work_event, HasNames, AreWindowsOn, AreSizesWith, AreWorksOf, AreShown, IsOpenWork, StandsThere, MayLookAt, LooksAgain, LookedAt, LookedFor};
 
 use crate::lanes::{Lane, Taker, lanes, takers};
 use crate::looking::{can_take, look};
@@ -291,21 +291,22 @@ impl Works {
         Ok(())
     }
 
-    /// Looks again at every place, after a work. The error is want of memory.
-    pub(crate) fn look_after(
+    /// Looks again at what stands at some places, after a work. The error is want of memory.
+    pub(crate) fn look_at(
         &mut self,
         valid: &Valid,
         books: &Books,
         work: &Work,
+        places: &[usize],
     ) -> Result<(), AllocError>
         requires runs { BooksRun valid.now.view books.now }
         requires works { AreWorksOf valid.now.view self.old }
+        requires there { All (λ place. place < length self.old.sizes) places.now }
         requires may { (place : ℕ) → MayLookAt valid.now.view books.now self.old work.now place }
-        ensures works { OnOk result (AreWorksOf valid.now.view self.new) }
-        ensures shown { OnOk result (AreShown valid.now.view books.now self.new) }
+        ensures { OnOk result (LookedFor valid.now.view books.now self.old self.new places.now) }
     {
-        for place in 0..self.sizes.len() {
-            self.look(valid, books, work, place)?;
+        for place in places {
+            self.look(valid, books, work, *place)?;
         }
         Ok(())
     }

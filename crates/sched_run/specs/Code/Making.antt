@@ -15,6 +15,7 @@ use Rattle.sched_lists.specs.Limits.{Limit, too_many_rows, too_many_messages, li
 use Rattle.sched_run.specs.Made.{event_limit, after_turns, limit_at_place, made_of, open_works, execution_after, AnswersSo}
 use Rattle.sched_run.specs.Making.{events_of, CountFromOne}
 use Rattle.sched_hear.specs.Net.{Stands, execution_in}
+use Rattle.sched_run.specs.Code.Watch.{IsWatched}
 use Rattle.sched_run.specs.Code.Works.{AreWorksOf, AreShown}
 use Rattle.sched_hear.specs.declared.books.Books.{Books}
 use Rattle.emitted.specs.declared.fault.EventFault.{EventFault}
@@ -112,8 +113,9 @@ AppliesEvents v loaded tables next old new lines after events result = (given : 
 
 -- what is open is shown, and the lines are such
 pub record IsReady (v : View) (b : Books) (m : Making) : Type 0 where
-  pub works : AreWorksOf v m.works
-  pub shown : AreShown v b m.works
+  pub works : AreWorksOf v m.watch.works
+  pub watched : IsWatched v m.watch
+  pub shown : AreShown v b m.watch.works
   pub lines : AreLines m.lines.items
 
 -- some turns from a seed were made, each of one event at least

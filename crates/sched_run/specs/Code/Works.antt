@@ -1,6 +1,7 @@
 -- The open works of a net, and where each stands.
 use Rattle.std.specs.Prelude.{◌≡◌, ◌≢◌, ◌<◌, ◌≤◌, ◌+◌, ◌^◌, ◌++◌, ℕ, Bool, true, false, if◌then◌else◌, Some, List, [], map, length, slice_get, slice_index_or, slice_set}
 use Rattle.std.specs.List.{All}
+use Rattle.blz_value.specs.Members.{Has}
 use Rattle.topo_types.specs.Data.{Data}
 use Rattle.topo_types.specs.View.{View}
 use Rattle.inbox.specs.Events.{Event, Step, take_one}
@@ -105,10 +106,13 @@ pub record LookedAt (v : View) (b : Books) (old new : Works) (place : ℕ) : Typ
   pub window : (lane : Lane) → slice_get new.lanes.items place ≡ Some lane → LooksAt v b lane (window_at new place)
   pub size : (given : Data) (steps : List Step) (stand : BooksStand v given steps b) → new.sizes ≡ slice_set old.sizes place (slice_index_or (sizes_shown (execution_in stand) new) place 0)
 
--- so many places were looked at, and all others stayed
-pub record LookedBelow (v : View) (b : Books) (old new : Works) (places : ℕ) : Type 0 where
+-- some places were looked at, and all others stayed
+pub record LookedFor (v : View) (b : Books) (old new : Works) (places : List ℕ) : Type 0 where
   pub works : AreWorksOf v new
+  pub there : (place : ℕ) → Has place places → place < length new.sizes
   pub lanes_stay : new.lanes ≡ old.lanes
-  pub later : (place : ℕ) → places ≤ place → window_at new place ≡ window_at old place
-  pub windows : (place : ℕ) (lane : Lane) → place < places → slice_get new.lanes.items place ≡ Some lane → LooksAt v b lane (window_at new place)
-  pub sizes : (place : ℕ) → place < places → (given : Data) (steps : List Step) (stand : BooksStand v given steps b) → slice_index_or new.sizes place 0 ≡ slice_index_or (sizes_shown (execution_in stand) new) place 0
+  pub takers_stay : new.takers ≡ old.takers
+  pub others : (place : ℕ) → ¬ Has place places → window_at new place ≡ window_at old place
+  pub other_sizes : (place : ℕ) → ¬ Has place places → slice_index_or new.sizes place 0 ≡ slice_index_or old.sizes place 0
+  pub windows : (place : ℕ) (lane : Lane) → Has place places → slice_get new.lanes.items place ≡ Some lane → LooksAt v b lane (window_at new place)
+  pub sizes : (place : ℕ) → Has place places → (given : Data) (steps : List Step) (stand : BooksStand v given steps b) → slice_index_or new.sizes place 0 ≡ slice_index_or (sizes_shown (execution_in stand) new) place 0

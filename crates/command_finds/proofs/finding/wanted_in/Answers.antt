@@ -1,4 +1,4 @@
-use Rattle.std.proofs.Common.{◌≡◌, ◌∙◌, ◌<◌, Err, Option, Result, ap, refl, sym, subst}
+use Rattle.std.proofs.Common.{◌∙◌, ◌<◌, Option, ap, refl, sym, subst}
 use Rattle.std.specs.Option.{option_copied}
 use Rattle.blz_value.specs.Record.{Row}
 use Rattle.sched_hear.specs.Net.{BooksRun, execution_in}

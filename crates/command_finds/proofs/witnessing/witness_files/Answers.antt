@@ -4,12 +4,12 @@ use Rattle.std.proofs.lemmas.List.Sorted.{IsPermutation-refl}
 use Rattle.sched_run.specs.Applying.{Line}
 use Rattle.blazes_words.specs.Requests.{witness_shown}
 use Rattle.command_files.specs.Ends.{files_states, source}
-use Rattle.command_files.specs.Script.{Script, ◌>>=◌}
+use Rattle.command_files.specs.Script.{◌>>=◌}
 use Rattle.command_runs.specs.Bench.{bench_states}
 use Rattle.command_runs.specs.Replies.{RepliesAtOnce}
 use Rattle.command_runs.proofs.RepliesLemmas.{kept_anyway, stop_replies, then_replies}
 use Rattle.command_finds.specs.Checks as check
-use Rattle.command_finds.specs.Finds.{SaysWitness, Witnessed, comparing}
+use Rattle.command_finds.specs.Finds.{SaysWitness, comparing}
 use Rattle.command_finds.proofs.witnessing.witness_files.Goals as goal
 
 pub returns-in_err-first : goal.returns-in_err-first

@@ -57,7 +57,7 @@ def unproved(calls, incomplete):
     """Runs each call as a case of one unproved run. They run in a folder of their own, so files are named
     whole, and modules laid there."""
     script = os.path.basename(sys.argv[0])
-    print(f"{script}: unproved runs, in one build of three minutes or more", file=sys.stderr)
+    print(f"{script}: unproved runs, in one build of two minutes or more", file=sys.stderr)
     flags = []
     for file in {word for words in calls for word in words if os.path.isfile(word)}:
         with open(file, "rb") as opened:

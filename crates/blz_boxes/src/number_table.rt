@@ -40,7 +40,7 @@ fn number_at(first: usize, place: usize) -> i64
 fn with_number(alloc: Global, row: &Record, number: i64) -> Result<Record, AllocError>
     ensures { IfOk result (λ made. made ≡ with_number row.now number) }
 {
-    let mut values = Vec::new(alloc);
+    let mut values = Vec::with_capacity(alloc, row.values().len().saturating_add(1))?;
     for value in row.values() {
         values.push(value.copy()?)?;
     }

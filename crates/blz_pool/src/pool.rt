@@ -71,10 +71,35 @@ impl Pool {
         &self.records[id.number() as usize]
     }
 
-    /// The id of the record, which goes last where it is new. A record that is held takes no memory.
-    /// It is looked up in an ordered index, so the cost grows with the logarithm of the number of
-    /// records. Full comes exactly where 262,144 other records are held, and each fault leaves the
+    /// The id of a record, of which a copy goes last where it is new. A record that is held takes no
+    /// memory. It is looked up in an ordered index, so the cost grows with the logarithm of the number
+    /// of records. Full comes exactly where 262,144 other records are held, and each fault leaves the
     /// pool as it was.
+    pub fn place_ref(&mut self, row: &Record) -> Result<Id, PoolFault>
+        ensures record { IfOk result (λ id. slice_get self.new id ≡ Some row.now) }
+        ensures number { IfOk result (λ id. number_of self.new row.now ≡ Some id) }
+        ensures within { IfOk result (λ id. id < length self.new) }
+
+        // What is held stays at its place, and a new record goes last.
+        ensures list { OnOk result (self.new ≡ with_record self.old row.now) }
+        ensures kept { Has row.now self.old → self.new ≡ self.old }
+        ensures last { ¬ Has row.now self.old → OnOk result (self.new ≡ self.old ++ row.now ∷ []) }
+
+        ensures held { Has row.now self.old → IsOk result }
+        ensures full { (result ≡ Err PoolFault.Full) ↔ ((length self.old ≡ record_limit) × ¬ Has row.now self.old) }
+        ensures err { OnErr result (self.new ≡ self.old) }
+    {
+        if let Some(number) = self.numbers.get(row) {
+            return Ok(Id::new(*number));
+        }
+        if self.is_full() {
+            return Err(PoolFault::Full);
+        }
+        let own = row.copy()?;
+        self.add(own)
+    }
+
+    /// The id of the record, which goes last where it is new, as `place_ref` puts it.
     pub fn place(&mut self, row: Record) -> Result<Id, PoolFault>
         ensures record { IfOk result (λ id. slice_get self.new id ≡ Some row) }
         ensures number { IfOk result (λ id. number_of self.new row ≡ Some id) }
@@ -89,13 +114,7 @@ impl Pool {
         ensures full { (result ≡ Err PoolFault.Full) ↔ ((length self.old ≡ record_limit) × ¬ Has row self.old) }
         ensures err { OnErr result (self.new ≡ self.old) }
     {
-        if let Some(number) = self.numbers.get(&row) {
-            return Ok(Id::new(*number));
-        }
-        if self.is_full() {
-            return Err(PoolFault::Full);
-        }
-        self.add(row)
+        self.place_ref(&row)
     }
 
     // Whether no other record can be held.

@@ -77,7 +77,7 @@ pub(crate) fn copy_cells(
 ) -> Result<Vec<Value>, AllocError>
     ensures { IfOk result (λ values. values.items ≡ cells columns.now row.now) }
 {
-    let mut values = Vec::new(alloc);
+    let mut values = Vec::with_capacity(alloc, columns.len())?;
     for column in columns {
         values.push(ValueRef::at(row, *column).to_value(alloc)?)?;
     }

@@ -46,7 +46,7 @@ impl Record {
     pub fn copy(&self) -> Result<Record, AllocError>
         ensures { IfOk result (λ r. r ≡ self.now) }
     {
-        let mut values = Vec::new(*self.values.allocator());
+        let mut values = Vec::with_capacity(*self.values.allocator(), self.values.len())?;
         for value in self.values() {
             values.push(value.copy()?)?;
         }

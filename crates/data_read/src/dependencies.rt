@@ -38,7 +38,7 @@ fn cell_at(row: &Record, place: usize) -> Result<Value, AllocError>
 fn values_at(alloc: Global, places: &[usize], row: &Record) -> Result<Record, AllocError>
     ensures { IfOk result (λ values. values ≡ map (cell row.now) places.now) }
 {
-    let mut values = Vec::new(alloc);
+    let mut values = Vec::with_capacity(alloc, places.len())?;
     for place in places {
         values.push(cell_at(row, *place)?)?;
     }

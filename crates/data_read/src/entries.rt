@@ -48,7 +48,7 @@ fn records_in(
     requires { row + length values.now ≤ 2 ^ 32 }
     ensures { Gives (λ records. records.items) result (spec.records_in types.now name.now row (items_view values.now)) }
 {
-    let mut records = Vec::new(alloc);
+    let mut records = Vec::with_capacity(alloc, values.len())?;
     for (place, value) in values.iter().enumerate() {
         records.push(record_at(alloc, types, name, row + place, value)?)?;
     }

@@ -62,7 +62,7 @@ fn values_in(alloc: Global, types: &[ColumnType], values: &[Json]) -> Result<Vec
     requires { length values.now ≡ length types.now }
     ensures { GivesValue (λ row. row.items) result (spec.values_in types.now (items_view values.now)) }
 {
-    let mut row = Vec::new(alloc);
+    let mut row = Vec::with_capacity(alloc, values.len())?;
     for (place, value) in values.iter().enumerate() {
         row.push(value_in(alloc, types[place], value)?)?;
     }

@@ -9,7 +9,7 @@ use std::alloc::{AllocError, Global};
 pub fn key_of(alloc: Global, row: &Record, columns: &[u32]) -> Result<Record, AllocError>
     ensures { IfOk result (λ key. key ≡ cells columns.now row.now) }
 {
-    let mut values = Vec::new(alloc);
+    let mut values = Vec::with_capacity(alloc, columns.len())?;
     for column in columns {
         let value = match row.values().get(*column as usize) {
             Some(value) => value.copy()?,

@@ -125,7 +125,7 @@ impl Lists {
         ensures full { result ≡ Err TooManyMessages → (length self.old.records ≡ record_limit) × ¬ Has row.now self.old.records }
         ensures legal { IsLimit result }
     {
-        match self.pool.place(row.copy()?) {
+        match self.pool.place_ref(row) {
             Ok(id) => {
                 let _ = self.pool.get(id);
                 Ok(id)

@@ -19,7 +19,7 @@ pub struct Port {
 fn cells_of(alloc: Global, row: &Record, columns: &[usize]) -> Result<Record, AllocError>
     ensures { IfOk result (λ key. key ≡ cells columns.now row.now) }
 {
-    let mut values = Vec::new(alloc);
+    let mut values = Vec::with_capacity(alloc, columns.len())?;
     for column in columns {
         let value = match row.values().get(*column) {
             Some(value) => value.copy()?,

@@ -15,7 +15,7 @@ const FILE_LIMIT: usize = 16_777_216;
 ///
 /// - `printed FILE`: a schedule, as it is printed.
 /// - `event FILE`: the event of a line that stands alone, as it is printed.
-/// - `shells FILE`: what two shells put out and keep, one of them with the module of the file.
+/// - `shells FILE`: what three shells put out and keep, one of them with the module of the file.
 /// - a further word and FILE: what [`module_shown`] shows of the text of a module.
 pub fn shown(alloc: Global, words: &[String], files: &mut MemFiles) -> Result<Vec<u8>> {
     let [kind, name] = words else {

@@ -1,6 +1,7 @@
-//! Two boxed shells, with a module and with Latest: what they put out step by step, and what they keep.
+//! Three boxed shells, with a module, with Number and with Latest: what they put out step by step, and what
+//! they keep.
 ghost use Rattle.std.specs.Prelude.{◌≡◌, ◌<◌, ◌-◌, ◌^◌, ◌∷◌, [], codes, length, Some, IsSome, IfOk, All};
-ghost use Rattle.bloom_ast.specs.declared.program.Program.TheVariants.{Latest};
+ghost use Rattle.bloom_ast.specs.declared.program.Program.TheVariants.{Latest, Number};
 ghost use Rattle.bloom_ast.specs.Program.{IsStock, port_columns, table_columns};
 ghost use Rattle.bloom_ast.specs.Widths.{AreSetsOf};
 
@@ -9,22 +10,26 @@ use bloom_ast::Program;
 use bloom_check::check;
 use bloom_eval::{Arrivals, Outs};
 use bloom_parse::parse;
-use blz_boxes::{Component, LatestShell, PlainShell};
+use blz_boxes::{Component, LatestShell, NumberShell, PlainShell};
 use blz_set::RecordSet;
 use blz_value::{Items, Record, Str, Value, write_record};
 use std::alloc::{AllocError, Global};
 
-/// What a shell with the module of a text, whose one port has two columns, and a shell with Latest put
-/// out and keep, and what they keep once they are cleared.
+/// What a shell with Latest, one with Number and one with the module of a text, whose one port has two
+/// columns, put out and keep, and what they keep once they are cleared.
 pub(crate) fn shells_shown(alloc: Global, text: &[u8]) -> Result<Vec<u8>>
     requires { length text.now < 2 ^ 32 - 1 }
 {
     let mut shells: Vec<Box<dyn Component>> = Vec::new(alloc);
     shells.push(Box::new(alloc, PlainShell::new(alloc))?)?;
+    shells.push(Box::new(alloc, NumberShell::new(alloc))?)?;
     shells.push(Box::new(alloc, LatestShell::new(alloc))?)?;
     let mut shown = Vec::new(alloc);
     if let Some(mut shell) = shells.pop() {
         latest_shown(alloc, &mut shell, &mut shown)?;
+    }
+    if let Some(mut shell) = shells.pop() {
+        number_shown(alloc, &mut shell, &mut shown)?;
     }
     if let Some(mut shell) = shells.pop() {
         tally_shown(alloc, &mut shell, text, &mut shown)?;
@@ -51,6 +56,31 @@ fn puts_shown(
 {
     let now = puts_and_question(alloc)?;
     let outs = stepped(alloc, shell, program, &now)?;
+    show_sets(alloc, "puts out", outs.sets(), shown)?;
+    kept_and_cleared(alloc, shell, program, shown)
+}
+
+// The record (7) arrives.
+fn number_shown(alloc: Global, shell: &mut Box<dyn Component>, shown: &mut Vec<u8>) -> Result<()> {
+    let program = number_program(alloc)?;
+    ensure!(
+        shell.fits(&program),
+        "the middle shell isn't one of Number"
+    );
+    shell.load(&program)?;
+    seven_shown(alloc, shell, &program, shown)
+}
+
+fn seven_shown(
+    alloc: Global,
+    shell: &mut Box<dyn Component>,
+    program: &Program,
+    shown: &mut Vec<u8>,
+) -> Result<()>
+    requires number { program.now ≡ Number (codes "x" ∷ []) }
+    requires loaded { loaded shell.old ≡ Some program.now }
+{
+    let outs = stepped(alloc, shell, program, &seven(alloc)?)?;
     show_sets(alloc, "puts out", outs.sets(), shown)?;
     kept_and_cleared(alloc, shell, program, shown)
 }
@@ -175,6 +205,16 @@ fn latest_program(alloc: Global) -> Result<Program, AllocError>
     })
 }
 
+// Number with the column `x`.
+fn number_program(alloc: Global) -> Result<Program, AllocError>
+    ensures { IfOk result (λ program. program ≡ Number (codes "x" ∷ [])) }
+{
+    let columns = vec![in alloc; Str::from_text(alloc, "x")?]?;
+    Ok(Program::Number {
+        columns: Items::from_vec(columns),
+    })
+}
+
 fn text_value(alloc: Global, text: &str) -> Result<Value, AllocError> {
     Ok(Value::Text(Str::from_text(alloc, text)?))
 }
@@ -202,6 +242,15 @@ fn puts(alloc: Global) -> Result<RecordSet>
     let one = pair(alloc, text_value(alloc, "a")?, 1)?;
     let two = pair(alloc, text_value(alloc, "a")?, 2)?;
     Ok(RecordSet::from_rows(vec![in alloc; one, two]?)?)
+}
+
+// What arrives at the one port of Number.
+fn seven(alloc: Global) -> Result<Arrivals>
+    ensures { IfOk result (AreSetsOf (port_columns (Number (codes "x" ∷ [])))) }
+{
+    let row = Record::from_values(vec![in alloc; Value::Int(7)]?);
+    let rows = RecordSet::from_rows(vec![in alloc; row]?)?;
+    Ok(Arrivals::from_sets(vec![in alloc; rows]?))
 }
 
 // What arrives at the one port of a program.

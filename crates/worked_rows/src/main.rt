@@ -23,6 +23,7 @@
 //! The lines in front of the first heading say what the rows show.
 #![tactic(auto)]
 
+mod plans;
 mod question;
 
 use crate::question::{Question, bytes_of};

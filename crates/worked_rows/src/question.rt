@@ -1,4 +1,5 @@
 //! What the rows of a file ask, heading by heading, and the answer to it.
+use crate::plans::plan_shown;
 use anyhow::Result;
 use blazes_cli::Status;
 use blz_outside::{Files, MemFiles, MemSink, RealFiles, Sink};
@@ -144,7 +145,11 @@ impl Question {
     /// What the rows themselves show, and whether there was room for it.
     pub(crate) fn shown(&self, alloc: Global) -> Result<(Status, MemSink)> {
         let mut out = MemSink::new(alloc, self.room)?;
-        let text = shown(alloc, &self.words, &mut self.copied(alloc)?)?;
+        let mut files = self.copied(alloc)?;
+        let text = match plan_shown(alloc, &self.words, &mut files)? {
+            Some(text) => text,
+            None => shown(alloc, &self.words, &mut files)?,
+        };
         match out.put(text.as_slice()) {
             Ok(()) => Ok((Status::Done, out)),
             Err(_) => Ok((Status::WriteFault, out)),

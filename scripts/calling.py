@@ -44,13 +44,24 @@ def report(*words, incomplete=False):
 
 def reports(calls, incomplete=False):
     """What the program writes for each list of words; where there is no build, all of them in one."""
-    if os.environ.get("BLAZES") or is_proved():
+    if os.environ.get("BLAZES") or proved():
         return [report(*words, incomplete=incomplete) for words in calls]
     return unproved(calls, incomplete)
 
 
-def is_proved():
-    return subprocess.run([os.path.join(ROOT, "scripts", "proved")], stdout=subprocess.PIPE).returncode == 0
+def proved():
+    """Where the program lies that ./prove made; nothing where there is none."""
+    done = subprocess.run([os.path.join(ROOT, "scripts", "proved")], stdout=subprocess.PIPE)
+    return done.stdout.decode().strip()
+
+
+def built():
+    """The program that BLAZES names, else the one that ./prove made, for a script that needs one of them."""
+    program = os.environ.get("BLAZES") or proved()
+    if not program:
+        script = os.path.basename(sys.argv[0])
+        end(f"{script}: there is no build: run ./prove, or name a program by the variable BLAZES")
+    return os.path.abspath(program)
 
 
 def unproved(calls, incomplete):

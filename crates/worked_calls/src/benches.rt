@@ -1,5 +1,6 @@
 //! Two shells that the program hasn't: one that tells what it kept, and one that has no memory.
-ghost use Rattle.std.specs.Prelude.{IsSome};
+ghost use Rattle.std.specs.Prelude.{◌≡◌, [], None, IsSome};
+ghost use Rattle.blz_boxes.specs.declared.kind.ProgramKind.TheVariants.{Latest as LatestKind};
 
 use bloom_ast::Program;
 use bloom_eval::{Arrivals, Outs, StepFault};
@@ -32,7 +33,11 @@ pub struct TellingShell {
 
 impl TellingShell {
     /// One that isn't loaded.
-    pub fn new(alloc: Global) -> TellingShell {
+    pub fn new(alloc: Global) -> TellingShell
+        ensures kind { ⟦<TellingShell as Component>⟧.kind result ≡ LatestKind }
+        ensures loaded { ⟦<TellingShell as Component>⟧.loaded result ≡ None }
+        ensures kept { ⟦<TellingShell as Component>⟧.kept result ≡ [] }
+    {
         TellingShell {
             alloc,
             inner: LatestShell::new(alloc),
@@ -83,7 +88,11 @@ pub struct PoorShell<C> {
 
 impl<C: Component> PoorShell<C> {
     /// One as this one, loaded or not.
-    pub fn new(inner: C) -> PoorShell<C> {
+    pub fn new(inner: C) -> PoorShell<C>
+        ensures kind { ⟦<PoorShell<C> as Component>⟧.kind result ≡ C.kind inner }
+        ensures loaded { ⟦<PoorShell<C> as Component>⟧.loaded result ≡ C.loaded inner }
+        ensures kept { ⟦<PoorShell<C> as Component>⟧.kept result ≡ C.kept inner }
+    {
         PoorShell { inner }
     }
 }

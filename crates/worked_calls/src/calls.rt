@@ -1,5 +1,8 @@
 //! What the rows themselves show, of calls that the program doesn't make.
-ghost use Rattle.std.specs.Prelude.{◌≤◌, IfOk, length, vec_len};
+ghost use Rattle.std.specs.Prelude.{◌≡◌, ◌≤◌, Some, IfOk, length, map, string_bytes, vec_len};
+ghost use Rattle.blz_outside.specs.MemFiles.{bytes_at};
+ghost use Rattle.sched_text.specs.Reading.{event_reading};
+ghost use Rattle.worked_calls.specs.Shown.{AreShown, IsScheduleShown, IsShown, line_shown};
 
 use crate::modules::module_shown;
 use crate::shells::shells_shown;
@@ -17,7 +20,11 @@ const FILE_LIMIT: usize = 16_777_216;
 /// - `event FILE`: the event of a line that stands alone, as it is printed.
 /// - `shells FILE`: what three shells put out and keep, one of them with the module of the file.
 /// - a further word and FILE: what [`module_shown`] shows of the text of a module.
-pub fn shown(alloc: Global, words: &[String], files: &mut MemFiles) -> Result<Vec<u8>> {
+pub fn shown(alloc: Global, words: &[String], files: &mut MemFiles) -> Result<Vec<u8>>
+    ensures shown { IfOk result
+        (λ text. AreShown (map string_bytes words.now) (bytes_at files.old.files) text.items) }
+    ensures files { files.new.files ≡ files.old.files }
+{
     let [kind, name] = words else {
         bail!("nothing is shown for so many words");
     };
@@ -30,7 +37,9 @@ pub fn shown(alloc: Global, words: &[String], files: &mut MemFiles) -> Result<Ve
 
 // The bytes of a file.
 fn bytes_in(alloc: Global, name: &str, files: &mut MemFiles) -> Result<Vec<u8>>
-    ensures { IfOk result (λ bytes. vec_len bytes ≤ FILE_LIMIT) }
+    ensures within { IfOk result (λ bytes. vec_len bytes ≤ FILE_LIMIT) }
+    ensures bytes { IfOk result (λ bytes. bytes_at files.old.files name.now ≡ Some bytes.items) }
+    ensures files { files.new.files ≡ files.old.files }
 {
     let mut bytes = Vec::new(alloc);
     match files.read(name, FILE_LIMIT, &mut bytes)? {
@@ -42,6 +51,7 @@ fn bytes_in(alloc: Global, name: &str, files: &mut MemFiles) -> Result<Vec<u8>>
 // What is shown of the bytes of a file.
 fn bytes_shown(alloc: Global, kind: &str, bytes: &[u8]) -> Result<Vec<u8>>
     requires { length bytes.now ≤ FILE_LIMIT }
+    ensures { IfOk result (λ text. IsShown kind.now bytes.now text.items) }
 {
     match kind {
         "printed" => printed(alloc, bytes),
@@ -51,11 +61,15 @@ fn bytes_shown(alloc: Global, kind: &str, bytes: &[u8]) -> Result<Vec<u8>>
     }
 }
 
-fn printed(alloc: Global, text: &[u8]) -> Result<Vec<u8>> {
+fn printed(alloc: Global, text: &[u8]) -> Result<Vec<u8>>
+    ensures { IfOk result (λ shown. IsScheduleShown text.now shown.items) }
+{
     Ok(print(alloc, &sched_text::read(alloc, text)?)?)
 }
 
-fn event_shown(alloc: Global, line: &[u8]) -> Result<Vec<u8>> {
+fn event_shown(alloc: Global, line: &[u8]) -> Result<Vec<u8>>
+    ensures { IfOk result (λ shown. shown.items ≡ line_shown (event_reading line.now)) }
+{
     match read_line(alloc, line) {
         Ok(Some(event)) => {
             let events = vec![in alloc; (1, event)]?;

@@ -1,5 +1,6 @@
 //! What is shown of the text of a module: its tokens, or what is printed of it.
-ghost use Rattle.std.specs.Prelude.{◌<◌, ◌-◌, ◌^◌, length};
+ghost use Rattle.std.specs.Prelude.{◌≡◌, ◌<◌, ◌-◌, ◌^◌, IfOk, codes, length};
+ghost use Rattle.worked_calls.specs.Shown.{IsModuleShown};
 
 use anyhow::{Result, bail};
 use bloom_check::check;
@@ -13,6 +14,7 @@ use std::alloc::{AllocError, Global};
 /// - `module`: the module that it is, once that was checked, as it is printed.
 pub(crate) fn module_shown(alloc: Global, kind: &str, text: &[u8]) -> Result<Vec<u8>>
     requires { length text.now < 2 ^ 32 - 1 }
+    ensures { IfOk result (λ shown. kind.now ≡ codes "module" → IsModuleShown text.now shown.items) }
 {
     match kind {
         "tokens" => tokens_shown(alloc, text),
@@ -39,6 +41,7 @@ fn tokens_shown(alloc: Global, text: &[u8]) -> Result<Vec<u8>>
 
 fn printed(alloc: Global, text: &[u8]) -> Result<Vec<u8>>
     requires { length text.now < 2 ^ 32 - 1 }
+    ensures { IfOk result (λ shown. IsModuleShown text.now shown.items) }
 {
     let module = parse(alloc, text)?;
     let checked = check(alloc, &module)?;

@@ -4,6 +4,7 @@ ghost use Rattle.std.specs.List.{flat_map};
 ghost use Rattle.topo_types.specs.Sets.{below};
 ghost use Rattle.topo_types.specs.View.{stream_at, stream_numbers, stream_replicas};
 ghost use Rattle.label_walk.specs.Paths.{label_at};
+ghost use Rattle.inbox.specs.Executions.{contents};
 ghost use Rattle.inbox.specs.Wiring.{wiring_of};
 ghost use Rattle.sched_lists.specs.Limits.{all_messages};
 ghost use Rattle.sched_hear.specs.Net.{BooksRun};
@@ -28,6 +29,15 @@ impl Ran<'_> {
         self.net.message_count()
     }
 
+    // How many records a sending replica of a stream has.
+    fn record_count(&self, stream: u32, replica: u32) -> usize
+        requires ran { IsNetOf self.now.valid.now.view self.now.net.now.valid.now.view self.now.net.now.books }
+        requires within { replica < stream_replicas self.now.valid.now.view stream }
+        ensures { IsRead self.now.valid.now.view self.now.net.now.books (λ given x. length (contents (wiring_of self.now.valid.now.view) given x stream replica)) result }
+    {
+        self.net.record_count(stream, replica)
+    }
+
     // Adds the number of records of a sending replica of a stream.
     fn push_count(
         &self,
@@ -39,8 +49,8 @@ impl Ran<'_> {
         requires within { replica < stream_replicas self.now.valid.now.view stream }
         ensures { OnOk result (IsRead self.now.valid.now.view self.now.net.now.books (λ given x. map word_text words.old.items ++ spec.count_word self.now.valid.now.view given x stream replica ∷ []) (map word_text words.new.items)) }
     {
-        let contents = self.contents(stream, replica)?;
-        words.push(Word::Large(contents.len() as u64))?;
+        let count = self.record_count(stream, replica);
+        words.push(Word::Large(count as u64))?;
         Ok(())
     }
 

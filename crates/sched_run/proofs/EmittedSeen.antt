@@ -33,6 +33,7 @@ use Rattle.inbox.specs.Wiring.{wiring_of, carried_places}
 use Rattle.messages.specs.declared.message.Message.{Message as IdMessage}
 use Rattle.messages.specs.declared.message.Message.TheVariants.{Row, Seal}
 use Rattle.inbox.proofs.Lists.SequencerLaw.{sequencer_law}
+use Rattle.inbox.proofs.Lists.Repeats.{no_repeats-emitted_list}
 use Rattle.inbox.proofs.WiringLemmas.{instance-wired, instance-ports, stream-wired, length-below}
 use Rattle.sched_lists.specs.Limits.{message_limit}
 use Rattle.sched_lists.specs.Lists.{Listed, AllAreGiven, read_list, read_lists, list_at, total}
@@ -44,6 +45,7 @@ use Rattle.sched_hear.specs.Seen.{list_seen}
 use Rattle.sched_hear.proofs.Found.{list_there, no_stream_there, number_of_place}
 use Rattle.emitted.proofs.ListsLemmas.{given-list, length-read_lists, read-at}
 use Rattle.sched_hear.proofs.Showing.{emitted_shown}
+use Rattle.sched_run.proofs.RecordsCounted.{length-set_of-rows}
 
 -- ---- rows of messages by ids
 
@@ -124,6 +126,12 @@ module _ (v : View) (given : Data) (steps : List Step) (b : Books) (stand : Book
 
     pub seen_length : length list ≡ length (emitted_list (wiring_of v) given (execution_in stand) s r)
     seen_length = sym (length-map list (message_with_id b.lists.records)) ∙ ap (λ (l : List Message). length l) found
+
+    -- as many records as their set has
+    pub seen_count : length (rows_in (read_list b.lists.records list)) ≡ length (contents (wiring_of v) given (execution_in stand) s r)
+    seen_count =
+        ap (λ (l : List Message). length (rows_in l)) found
+        ∙ sym (length-set_of-rows (emitted_list (wiring_of v) given (execution_in stand) s r) (no_repeats-emitted_list (wiring_of v) given (execution_in stand) s r))
 
     pub seen_row : (index : ℕ) → option_and_then (λ m. row_in (message_with_id b.lists.records m)) (slice_get list index) ≡ option_and_then row_in (slice_get (emitted_list (wiring_of v) given (execution_in stand) s r) index)
     seen_row index =

@@ -6,3 +6,4 @@ pub mod Stale
 pub mod Works
 pub mod Watch
 pub mod Making
+pub mod Records

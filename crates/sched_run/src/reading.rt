@@ -1,6 +1,6 @@
 //! What is read of a net: its emitted lists, their records, and what is held.
 ghost use Rattle.std.specs.Prelude.{◌≡◌, ◌<◌, ◌≤◌, ◌++◌, [], length, slice_get, IfOk, IfSome, OnOk, Some, None, option_copied};
-ghost use Rattle.std.specs.List.{All, cons_option};
+ghost use Rattle.std.specs.List.{All, cons_option, count_by};
 ghost use Rattle.std.specs.Option.{option_and_then};
 ghost use Rattle.blz_set.specs.RecordSet.{row_limit};
 ghost use Rattle.blz_value.specs.Sets.{set_of};
@@ -14,6 +14,7 @@ ghost use Rattle.sched_lists.specs.Limits.{all_messages};
 ghost use Rattle.sched_lists.specs.Lists.{read_list};
 ghost use Rattle.sched_hear.specs.Net.{BooksRun};
 ghost use Rattle.sched_run.specs.Reading.{IsRead, ReadEmitted, ReadInOrder};
+ghost use Rattle.sched_run.specs.Code.Records.{is_record};
 ghost use Rattle.sched_hear.specs.Seen.{list_seen, seat_seen, IsHeldBy};
 
 use crate::net::Net;
@@ -34,6 +35,25 @@ fn set_within(rows: Vec<Record>) -> Result<RecordSet, AllocError>
         Err(SetFault::NoMemory) => Err(AllocError),
         Err(SetFault::TooManyRows) => unreachable!(),
     }
+}
+
+fn is_record(message: &Message) -> bool
+    ensures { result ≡ is_record message.now }
+{
+    matches!(message, Message::Row(_))
+}
+
+// How many of some messages are records.
+fn count_records(messages: &[Message]) -> usize
+    ensures { result ≡ count_by is_record messages.now }
+{
+    let mut count = 0;
+    for message in messages {
+        if is_record(message) {
+            count += 1;
+        }
+    }
+    count
 }
 
 // How many records wait in an inbox; an instance that takes entries has none.
@@ -151,6 +171,17 @@ impl Net<'_> {
         self.valid.known();
         self.books.lists.known();
         set_within(self.rows_of(self.books.messages(self.valid, stream, replica))?)
+    }
+
+    /// How many records the emitted list of a sending replica of a stream has; 0 where it isn't there.
+    /// It goes through the list and takes no memory.
+    pub fn record_count(&self, stream: u32, replica: u32) -> usize
+        requires runs { BooksRun self.now.valid.now.view self.now.books }
+        ensures count { replica < stream_replicas self.now.valid.now.view stream → IsRead self.now.valid.now.view self.now.books (λ given x. length (contents (wiring_of self.now.valid.now.view) given x stream replica)) result }
+        ensures past { stream_replicas self.now.valid.now.view stream ≤ replica → result ≡ 0 }
+    {
+        self.valid.known();
+        count_records(self.books.messages(self.valid, stream, replica))
     }
 
     /// The pool of the net: exactly the distinct records of all emitted lists, each once.

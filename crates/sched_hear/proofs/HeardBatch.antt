@@ -1,6 +1,5 @@
 -- An ear that heard a batch stands for what was heard with it, by the lists and the pool from which it came and by later ones.
 use Rattle.std.proofs.Common.{◌≡◌, ◌<◌, ℕ, zero, suc, Bool, true, false, Some, List, [], ◌∷◌, ◌++◌, length, get_or, slice_get, refl, ap, ◌∙◌, sym, subst, inl, inr, arith, append-nil}
-use Rattle.std.specs.BTreeSet.{BTreeSet}
 use Rattle.std.specs.List.{All}
 use Rattle.std.proofs.lemmas.Grind.{flat_map-append}
 use Rattle.std.proofs.lemmas.Option.{slice_get_within, get_or_from_slice_get}
@@ -56,14 +55,14 @@ once (x ∷ ms) (suc a) (suc b) m apart inside within first second = ap suc (onc
 pub one_index : (ms : List Message) (a b : ℕ) (m : Message) → NoRepeats ms → slice_get ms a ≡ Some m → slice_get ms b ≡ Some m → a ≡ b
 one_index ms a b m apart first second = once ms a b m apart (slice_get_within ms a m first) (slice_get_within ms b m second) (get_or_from_slice_get ms a m m first) (get_or_from_slice_get ms b m m second)
 
-module _ (v : View) (i : Instance) (old new : List (List Message)) (heard : List Pair) (batch : Batch) (known indexes later : List (ℕ × ℕ)) (grown : HasGrown v i old new heard) (of_feeds : (feed : ℕ) (m : Message) → Has (feed, m) batch → feed < length i.feeds) (knows : KnowsHeard v i old heard known) (have : HaveIndexes v i old batch indexes) (more : KnowsMore known indexes later) where
+module _ (v : View) (i : Instance) (old new : List (List Message)) (heard : List Pair) (batch : Batch) (known : List (List ℕ)) (indexes : List (ℕ × ℕ)) (later : List (List ℕ)) (grown : HasGrown v i old new heard) (of_feeds : (feed : ℕ) (m : Message) → Has (feed, m) batch → feed < length i.feeds) (knows : KnowsHeard v i old heard known) (have : HaveIndexes v i old batch indexes) (more : KnowsMore known indexes later) where
   found_later : (feed index : ℕ) (m : Message) → feed < length i.feeds → slice_get (list_on v old (feed_numbered i feed)) index ≡ Some m → slice_get (list_on v new (feed_numbered i feed)) index ≡ Some m
   found_later feed index m within at = found_on (list_on v old (feed_numbered i feed)) (list_on v new (feed_numbered i feed)) index m (grown.continues feed within) at
 
   -- with a batch and its indexes
   pub known_with : KnowsHeard v i new (heard ++ batch) later
   known_with = record {
-    sound = λ feed index h. elim ((more (feed, index)).0 h) [
+    sound = λ feed index h. elim ((more feed index).0 h) [
       | inl before ↦
           let s = knows.sound feed index before in
           (s.0, found_later feed index s.0 (grown.sent feed s.0 s.2).0 s.1, Has-append_left (feed, s.0) heard batch s.2)
@@ -74,11 +73,11 @@ module _ (v : View) (i : Instance) (old new : List (List Message)) (heard : List
     whole = λ feed index m within at h. elim (Has-append_cases (feed, m) heard batch h) [
       | inl before ↦
           let old_at = stays_at (list_on v old (feed_numbered i feed)) (list_on v new (feed_numbered i feed)) index m (grown.continues feed within) (grown.apart feed within) (grown.sent feed m before).1 at in
-          (more (feed, index)).1 (inl (knows.whole feed index m within old_at before))
+          (more feed index).1 (inl (knows.whole feed index m within old_at before))
       | inr now ↦
           let s = have.whole feed m now in
           let same : s.0 ≡ index = one_index (list_on v new (feed_numbered i feed)) s.0 index m (grown.apart feed within) (found_later feed s.0 m within s.1) at in
-          (more (feed, index)).1 (inr (subst (λ n. Has (feed, n) indexes) same s.2))
+          (more feed index).1 (inr (subst (λ n. Has (feed, n) indexes) same s.2))
     ];
   }
 
@@ -92,10 +91,10 @@ feeds_of_batch records pairs count all feed m h =
 -- ---- ears
 
 -- an ear whose inbox heard, and whose indexes are known
-pub ear_heard : (records : List Row) (pairs : List (ℕ × IdMessage)) (indexes given : List (ℕ × ℕ)) (s : SetOff) (ear : Ear) (inbox next : Inbox) (known later : BTreeSet (ℕ × ℕ)) → ear ≡ Hears inbox known → given ≡ indexes → InboxHears records pairs s inbox next → KnowsMore known.keys given later.keys
+pub ear_heard : (records : List Row) (pairs : List (ℕ × IdMessage)) (indexes given : List (ℕ × ℕ)) (s : SetOff) (ear : Ear) (inbox next : Inbox) (known later : List (List ℕ)) → ear ≡ Hears inbox known → given ≡ indexes → InboxHears records pairs s inbox next → KnowsMore known given later
     → EarHears records pairs indexes s ear (Hears next later)
 ear_heard records pairs indexes given s ear inbox next known later is same hears more =
-    subst (λ e. EarHears records pairs indexes s e (Hears next later)) (sym is) (hears, subst (λ l. KnowsMore known.keys l later.keys) same more)
+    subst (λ e. EarHears records pairs indexes s e (Hears next later)) (sym is) (hears, subst (λ l. KnowsMore known l later) same more)
 
 pub set_same : (a b : SetOff) → a.steps ≡ b.steps → a.whole ≡ b.whole → a ≡ b
 set_same a b p q =
@@ -132,8 +131,8 @@ module _ (v : View) (l : Listed) (c r : ℕ) (seat : Seat) (pairs : List (ℕ ×
                 (stands_later i l.records new.records (seat.heard ++ batch ∷ []) next later (hears.0.heard i seat.heard shows.heard));
             kept = keeps_later l.records new.records next later hears.0.kept;
             feeds = hears.0.feeds ∙ shows.feeds;
-            known = subst (λ all. KnowsHeard v i (read_lists new) all known_now.keys) (sym (ap all_pairs heard ∙ pairs_with seat.heard batch))
-                (known_with v i (read_lists l) (read_lists new) (all_pairs seat.heard) batch known.keys indexes known_now.keys grown (feeds_of_batch l.records pairs (length (feeds_for v c r)) feeds) shows.known have hears.1);
+            known = subst (λ all. KnowsHeard v i (read_lists new) all known_now) (sym (ap all_pairs heard ∙ pairs_with seat.heard batch))
+                (known_with v i (read_lists l) (read_lists new) (all_pairs seat.heard) batch known indexes known_now grown (feeds_of_batch l.records pairs (length (feeds_for v c r)) feeds) shows.known have hears.1);
           }
       ear_after (Hears inbox known) (Takes taken) shows hears = absurd hears
       ear_after (Takes taken) now shows hears = absurd hears

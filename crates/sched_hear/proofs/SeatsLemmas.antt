@@ -95,7 +95,7 @@ pub record HasGrown (v : View) (i : Instance) (old new : List (List Message)) (h
   pub apart : (feed : ℕ) → feed < length i.feeds → NoRepeats (list_on v new (feed_numbered i feed))
   pub sent : (feed : ℕ) (m : Message) → Has (feed, m) heard → (feed < length i.feeds) × Has m (list_on v old (feed_numbered i feed))
 
-pub known_stays : (v : View) (i : Instance) (old new : List (List Message)) (heard : List Pair) (known : List (ℕ × ℕ)) → HasGrown v i old new heard → KnowsHeard v i old heard known → KnowsHeard v i new heard known
+pub known_stays : (v : View) (i : Instance) (old new : List (List Message)) (heard : List Pair) (known : List (List ℕ)) → HasGrown v i old new heard → KnowsHeard v i old heard known → KnowsHeard v i new heard known
 known_stays v i old new heard known grown k = record {
   sound = λ feed index h.
       let s = k.sound feed index h in
@@ -113,7 +113,7 @@ ear_stays v l later c r seat (Hears inbox known) g grown s = record {
   heard = stands_later (instance_for v c r) l.records later.records seat.heard inbox g s.heard;
   kept = keeps_later l.records later.records inbox g s.kept;
   feeds = s.feeds;
-  known = known_stays v (instance_for v c r) (read_lists l) (read_lists later) (all_pairs seat.heard) known.keys grown s.known;
+  known = known_stays v (instance_for v c r) (read_lists l) (read_lists later) (all_pairs seat.heard) known grown s.known;
 }
 ear_stays v l later c r seat (Takes taken) g grown s = s
 

@@ -26,6 +26,7 @@ use Rattle.sched_lists.specs.Limits.{limit_of_event}
 use Rattle.sched_lists.specs.Lists.{Listed, IsExact, read_lists, list_at}
 use Rattle.sched_lists.specs.Outlets.{outlets_for}
 use Rattle.sched_lists.specs.Places.{ArePlaces, instance_place, instance_count, list_place}
+use Rattle.sched_hear.specs.Known.{is_known}
 use Rattle.sched_hear.specs.Shown.{ShowsSeats}
 use Rattle.sched_hear.specs.declared.seated.Ear.{Ear}
 use Rattle.sched_hear.specs.declared.seated.Ear.TheVariants.{Hears, Takes}
@@ -38,13 +39,13 @@ use Rattle.sched_hear.specs.declared.books.Books.{Books}
 abbrev pub list_on : View → List (List Message) → Feed → List Message
 list_on v lists feed = list_at lists (list_place v feed.stream feed.sender)
 
--- kept are the indexes of exactly those messages that were heard on each feed
-pub record KnowsHeard (v : View) (i : Instance) (lists : List (List Message)) (heard : List Pair) (known : List (ℕ × ℕ)) : Type 0 where
-  pub sound : (feed index : ℕ) → Has (feed, index) known → (message : Message) × (slice_get (list_on v lists (feed_numbered i feed)) index ≡ Some message) × Has (feed, message) heard
-  pub whole : (feed index : ℕ) (message : Message) → feed < length i.feeds → slice_get (list_on v lists (feed_numbered i feed)) index ≡ Some message → Has (feed, message) heard → Has (feed, index) known
+-- known are the indexes of exactly those messages that were heard on each feed
+pub record KnowsHeard (v : View) (i : Instance) (lists : List (List Message)) (heard : List Pair) (known : List (List ℕ)) : Type 0 where
+  pub sound : (feed index : ℕ) → is_known known feed index ≡ true → (message : Message) × (slice_get (list_on v lists (feed_numbered i feed)) index ≡ Some message) × Has (feed, message) heard
+  pub whole : (feed index : ℕ) (message : Message) → feed < length i.feeds → slice_get (list_on v lists (feed_numbered i feed)) index ≡ Some message → Has (feed, message) heard → is_known known feed index ≡ true
 
 -- what an instance of a component that isn't Order heard
-pub record ShowsInbox (v : View) (l : Listed) (c r : ℕ) (seat : Seat) (ear : Inbox) (indexes : List (ℕ × ℕ)) : Type 0 where
+pub record ShowsInbox (v : View) (l : Listed) (c r : ℕ) (seat : Seat) (ear : Inbox) (indexes : List (List ℕ)) : Type 0 where
   pub hears : is_order v c ≡ false
   pub heard : HasHeard (instance_for v c r) l.records seat.heard ear
   pub kept : IsFrom l.records ear
@@ -53,7 +54,7 @@ pub record ShowsInbox (v : View) (l : Listed) (c r : ℕ) (seat : Seat) (ear : I
 
 -- what an instance heard, or how many entries it took
 abbrev pub ShowsEar : View → Listed → (c r : ℕ) → Seat → Ear → Type 0
-ShowsEar v l c r seat (Hears inbox known) = ShowsInbox v l c r seat inbox known.keys
+ShowsEar v l c r seat (Hears inbox known) = ShowsInbox v l c r seat inbox known
 ShowsEar v l c r seat (Takes taken) = (is_order v c ≡ true) × (taken ≡ seat.taken)
 
 -- the books of an instance show its seat

@@ -12,6 +12,7 @@ ghost use Rattle.sched_hear.specs.Code.Parts.{hears_itself};
 ghost use Rattle.sched_hear.specs.Code.Hearing.{EarCanHear, EarHears, KnowsMore, OneHears, HearingAnswers, HearingLeaves};
 
 use crate::books::Books;
+use crate::known::Known;
 use crate::numbered::{PartNumbers, part_of};
 use crate::parts::Pairs;
 use crate::seated::{Ear, Seated};
@@ -22,15 +23,14 @@ use inbox::Timesteps;
 use sched_lists::{EventFault, emit_at};
 use sched_text::{Part, Sent};
 use std::alloc::{AllocError, Global};
-use std::collections::BTreeSet;
 use topo_types::{Mode, Valid};
 
-// Adds indexes to those that are known.
-fn know_all(known: &mut BTreeSet<(u32, u32)>, indexes: &[(u32, u32)]) -> Result<(), AllocError>
-    ensures { OnOk result (KnowsMore known.old.keys indexes.now known.new.keys) }
+// Messages are known from now on, by the numbers of their feeds and by their indexes.
+fn know_all(known: &mut Known, indexes: &[(u32, u32)]) -> Result<(), AllocError>
+    ensures { OnOk result (KnowsMore known.old indexes.now known.new) }
 {
     for index in indexes {
-        let _ = known.insert(*index)?;
+        known.know(index.0, index.1)?;
     }
     Ok(())
 }

@@ -4,12 +4,14 @@
 
 mod books;
 mod hearing;
+mod known;
 mod numbered;
 mod ordering;
 mod parts;
 mod seated;
 
 pub use books::Books;
+pub use known::Known;
 pub use numbered::component_of;
 pub use ordering::is_order;
-pub use seated::{Ear, Seated, is_known};
+pub use seated::{Ear, Seated};

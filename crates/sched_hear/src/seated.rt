@@ -1,29 +1,20 @@
 //! The books of one instance.
 ghost use Rattle.std.specs.Prelude.{◌≡◌, ◌+◌, ◌<◌, ◌^◌};
-ghost use Rattle.std.specs.List.{list_any};
-ghost use Rattle.inbox.specs.Log.{is_same_entry_id};
 ghost use Rattle.sched_hear.specs.Code.Taking.{taken_in, took_one, EarForgets};
 
+use crate::known::Known;
 use blz_value::Items;
 use inbox::{Feed, Inbox};
 use sched_lists::Outlet;
-use std::collections::BTreeSet;
 
-/// What an instance hears: an inbox, with the feed and the index of each message that was heard in
-/// this life; or of an Order component how many entries it took in this life.
+/// What an instance hears: an inbox, with the messages that were heard in this life; or of an Order
+/// component how many entries it took in this life.
 #[derive(Drop)]
 pub enum Ear {
     /// Messages are heard.
-    Hears(Inbox, BTreeSet<(u32, u32)>),
+    Hears(Inbox, Known),
     /// So many entries of a log were taken.
     Takes(usize),
-}
-
-/// Whether a message with an index was heard on a feed.
-pub fn is_known(known: &BTreeSet<(u32, u32)>, feed: u32, index: u32) -> bool
-    ensures { result ≡ list_any (is_same_entry_id (feed, index)) known.now.keys }
-{
-    known.contains(&(feed, index))
 }
 
 impl Ear {

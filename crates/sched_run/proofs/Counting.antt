@@ -1,11 +1,10 @@
--- Sums and counts over the numbers below a count, over numbered elements and over messages; and how long lists can be.
-use Rattle.std.proofs.Common.{◌≡◌, ◌<◌, ◌≤◌, ◌+◌, ◌*◌, ◌==◌, ◌&&◌, ◌||◌, ℕ, suc, Bool, true, false, cond, eqb, Some, List, [], ◌∷◌, length, map, filter, get_or, slice_get, refl, ap, ◌∙◌, sym, subst, inl, inr, arith}
+-- Counts over numbered elements and over messages, and how long lists can be.
+use Rattle.std.proofs.Common.{◌≡◌, ◌<◌, ◌≤◌, ◌+◌, ◌*◌, ℕ, suc, Bool, false, cond, eqb, Some, List, [], ◌∷◌, length, map, filter, get_or, slice_get, refl, ap, ◌∙◌, sym, inl, inr, arith}
 use Rattle.std.specs.List.{count_by, flat_map, fold, range_with_len, sum_by}
 use Rattle.std.specs.Option.{option_map_or}
 use Rattle.std.proofs.lemmas.Bool.{eqb-true, ne_eqb}
 use Rattle.std.proofs.lemmas.List.{length-append, length-map, get_or-map}
-use Rattle.std.proofs.lemmas.List.FromFn.{length-range_with_len}
-use Rattle.std.proofs.lemmas.List.Sums.{sum_by_push, length-filter, count_by-le-length}
+use Rattle.std.proofs.lemmas.List.Sums.{length-filter}
 use Rattle.std.proofs.lemmas.Map.Keys.{IsDistinct-from_apart}
 use Rattle.std.proofs.lemmas.Map.Steps.{length-le_from_distinct_below}
 use Rattle.blz_value.specs.Members.{Has}
@@ -18,18 +17,6 @@ use Rattle.inbox.specs.Log.{EntryId, IsLog}
 use Rattle.messages.specs.declared.message.Message.{Message as IdMessage}
 use Rattle.messages.specs.declared.message.Message.TheVariants.{Row, Seal}
 use Rattle.sched_lists.specs.Lists.{read_list}
-use Rattle.sched_lists.proofs.PlacesLemmas.{below_more}
-
--- ---- one more number
-
-pub sum_below_more : (f : ℕ → ℕ) (n : ℕ) → sum_by f (below (n + 1)) ≡ sum_by f (below n) + f n
-sum_below_more f n = ap (sum_by f) (below_more n) ∙ sum_by_push f (below n) n
-
-pub count_below_more : (p : ℕ → Bool) (n : ℕ) (b : Bool) → p n ≡ b → count_by p (below (n + 1)) ≡ count_by p (below n) + cond b 1 0
-count_below_more p n b is = sum_below_more (λ k. cond (p k) 1 0) n ∙ ap (λ t. count_by p (below n) + cond t 1 0) is
-
-pub few_below : (p : ℕ → Bool) (n : ℕ) → count_by p (below n) ≤ n
-few_below p n = omega (arith, count_by-le-length p (below n), length-range_with_len 0 n)
 
 -- ---- one element by its number, and its record
 

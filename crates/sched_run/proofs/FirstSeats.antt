@@ -1,6 +1,5 @@
 -- The books of the instances at the start, one instance after the other, and of a net that made no step.
-use Rattle.std.proofs.Common.{◌≡◌, ◌<◌, ◌+◌, ℕ, zero, suc, Some, false, List, [], ◌∷◌, ◌++◌, length, slice_get, refl, ap, ◌∙◌, sym, subst, inl, inr, ◌⊎◌, arith, cond}
-use Rattle.blz_value.specs.Members.{Has}
+use Rattle.std.proofs.Common.{◌≡◌, ◌<◌, ◌+◌, ℕ, zero, suc, Some, true, false, List, [], ◌∷◌, ◌++◌, length, slice_get, refl, ap, ◌∙◌, sym, subst, inl, inr, ◌⊎◌, arith, cond}
 use Rattle.blz_value.specs.Record.{Row}
 use Rattle.fd_closure.specs.declared.attrs.Attrs.{Attrs}
 use Rattle.topo_types.specs.Feeds.{feeds, log_feeds}
@@ -11,10 +10,12 @@ use Rattle.inbox.specs.Inbox.{HasHeard, IsFrom, feeds_in}
 use Rattle.inbox.specs.Wiring.{instance_for}
 use Rattle.inbox.specs.declared.inbox.Inbox.{Inbox}
 use Rattle.sched_lists.specs.Lists.{Listed}
+use Rattle.sched_hear.specs.Known.{is_known}
 use Rattle.sched_hear.specs.Net.{ShowsInbox}
 use Rattle.sched_lists.specs.Places.{instance_place}
 use Rattle.sched_run.specs.Code.First.{first_seat, IsFirst, AreFirst}
 use Rattle.sched_hear.specs.declared.seated.Seated.{Seated}
+use Rattle.sched_hear.proofs.KnownIndexes.{none_known}
 use Rattle.sched_lists.proofs.PlacesLemmas.{one_place, before-more}
 
 -- ---- one instance
@@ -25,7 +26,7 @@ hears_in m (inl free) = ap is_order_mode free
 hears_in m (inr (inl pass)) = ap is_order_mode pass.1
 hears_in m (inr (inr sealed)) = ap is_order_mode sealed.1
 
-pub inbox_first : (v : View) (c r : ℕ) (l : Listed) (ear : Inbox) (indexes : List (ℕ × ℕ)) → is_order v c ≡ false → ((records : List Row) → HasHeard (instance_for v c r) records [] ear) → ((records : List Row) → IsFrom records ear)
+pub inbox_first : (v : View) (c r : ℕ) (l : Listed) (ear : Inbox) (indexes : List (List ℕ)) → is_order v c ≡ false → ((records : List Row) → HasHeard (instance_for v c r) records [] ear) → ((records : List Row) → IsFrom records ear)
     → feeds_in ear ≡ length (feeds v c r) → indexes ≡ [] → ShowsInbox v l c r (first_seat v c r) ear indexes
 inbox_first v c r l ear indexes hears heard kept count none = record {
   hears = hears;
@@ -33,7 +34,7 @@ inbox_first v c r l ear indexes hears heard kept count none = record {
   kept = kept l.records;
   feeds = count ∙ sym (ap (λ b. length (cond b (log_feeds v c) (feeds v c r))) hears);
   known = record {
-    sound = λ feed index h. absurd (subst (λ list. Has (feed, index) list) none h);
+    sound = λ feed index is. absurd (none_known feed index (subst (λ (known : List (List ℕ)). is_known known feed index ≡ true) none is));
     whole = λ feed index message below at h. absurd h;
   };
 }

@@ -35,6 +35,7 @@ use Rattle.sched_hear.specs.declared.seated.Ear.{Ear}
 use Rattle.sched_hear.specs.declared.seated.Ear.TheVariants.{Hears, Takes}
 use Rattle.sched_hear.proofs.CourseLemmas.{program_here, shell_inside}
 use Rattle.sched_lists.proofs.PlacesLemmas.{place-before}
+use Rattle.sched_hear.proofs.KnownIndexes.{none_known}
 use Rattle.sched_hear.proofs.Lifting.{forgetting_lifts}
 use Rattle.sched_hear.proofs.OrderingLemmas.{there_tested, seat_at}
 use Rattle.sched_lists.proofs.OutletsLemmas.{others_itself}
@@ -54,7 +55,7 @@ ear_forgets v l c r i seat (Hears inbox known) (Hears next later) f s = record {
   heard = f.0.heard (instance_for v c r) l.records l.records seat.heard s.heard;
   kept = f.0.kept l.records;
   feeds = f.0.feeds ∙ s.feeds;
-  known = subst (λ keys. KnowsHeard v (instance_for v c r) (read_lists l) [] keys) (sym f.1) (record { sound = λ feed index h. absurd h; whole = λ feed index m within at h. absurd h });
+  known = subst (λ (kept : List (List ℕ)). KnowsHeard v (instance_for v c r) (read_lists l) [] kept) (sym f.1) (record { sound = λ feed index is. absurd (none_known feed index is); whole = λ feed index m within at h. absurd h });
 }
 ear_forgets v l c r i seat (Hears inbox known) (Takes taken) f s = absurd f
 ear_forgets v l c r i seat (Takes taken) (Hears inbox known) f s = absurd f

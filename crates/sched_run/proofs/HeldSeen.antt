@@ -4,7 +4,6 @@ use Rattle.std.specs.Prelude.{Ok, if◌then◌else◌}
 use Rattle.std.proofs.lemmas.Bool.{cases_Bool, cases_lt}
 use Rattle.std.proofs.lemmas.List.{get_or_past}
 use Rattle.std.proofs.lemmas.Option.{slice_get_cases}
-use Rattle.std.specs.BTreeSet.{BTreeSet}
 use Rattle.blz_value.specs.Record.{Row as Record}
 use Rattle.topo_types.specs.Data.{Data}
 use Rattle.topo_types.specs.Sets.{below}
@@ -145,6 +144,6 @@ module _ (v : View) (given : Data) (steps : List Step) (b : Books) (stand : Book
       ]
 
 -- what an inbox says of what it holds, an ear says that has it
-pub held_of : (ear : Ear) (inbox : Inbox) (known : BTreeSet (ℕ × ℕ)) (held : ℕ) → ear ≡ Hears inbox known
+pub held_of : (ear : Ear) (inbox : Inbox) (known : List (List ℕ)) (held : ℕ) → ear ≡ Hears inbox known
     → ((i : Instance) (records : List Record) (batches : List Batch) → HasHeard i records batches inbox → held ≡ held_count i batches) → IsHeldBy ear held
 held_of ear inbox known held is each = subst (λ e. IsHeldBy e held) (sym is) each

@@ -2,10 +2,10 @@
 use Rattle.std.proofs.Common.{◌≡◌, ◌<◌, ◌≤◌, ◌+◌, ◌-◌, ◌==◌, ◌&&◌, ℕ, Bool, true, false, not, Option, None, Some, List, [], length, map, filter, get_or, slice_get, refl, ap, ◌∙◌, sym, subst, inl, inr, arith}
 use Rattle.std.specs.Prelude.{if◌then◌else◌, IsTrue, ◌↔◌}
 use Rattle.std.specs.List.{enumerate_from, flat_map, list_any, sum_by}
-use Rattle.std.specs.BTreeSet.{BTreeSet}
 use Rattle.std.proofs.lemmas.Bool.{cases_lt, and_parts, and_from, eqb-true, eq-eqb, ne_eqb}
 use Rattle.std.proofs.lemmas.List.{length-map, get_or_default, get_or_past}
 use Rattle.std.proofs.lemmas.List.FromFn.{length-range_with_len}
+use Rattle.std.proofs.lemmas.Option.{slice_get_within}
 use Rattle.std.proofs.lemmas.List.Sums.{sum_by-le, length-filter, count_by-le-length}
 use Rattle.blz_pool.specs.Pool.{IsPool}
 use Rattle.blz_value.specs.Members.{Has}
@@ -34,11 +34,12 @@ use Rattle.inbox.specs.declared.inbox.Inbox.{Inbox}
 use Rattle.messages.specs.declared.message.Message.{Message as IdMessage}
 use Rattle.messages.specs.declared.message.Message.TheVariants.{Row}
 use Rattle.inbox.proofs.Executions.Sent.{history_holds}
-use Rattle.messages.proofs.LogLemmas.{is_same_entry_id-is, is_same_entry_id-itself, any-with_ids, one_id}
+use Rattle.messages.proofs.LogLemmas.{any-with_ids, one_id}
 use Rattle.messages.proofs.MessagesLemmas.{is_same_pair-is, is_same_pair-itself, any-from_same, same-from_any}
 use Rattle.inbox.proofs.Ranges.{all_below, not_all_below}
 use Rattle.inbox.proofs.WiringLemmas.{instance-feeds, instance-wired, instances-wired, length-below}
 use Rattle.sched_lists.specs.Lists.{read_lists, list_at}
+use Rattle.sched_hear.specs.Known.{is_known}
 use Rattle.sched_hear.specs.Net.{BooksStand, KnowsHeard, ShowsEar, ShowsInbox, execution_in, list_on}
 use Rattle.sched_lists.specs.Places.{instance_place}
 use Rattle.sched_run.specs.Reading.{holds_none_at, holds_none, is_complete}
@@ -46,7 +47,7 @@ use Rattle.sched_hear.specs.declared.books.Books.{Books}
 use Rattle.sched_hear.specs.declared.seated.Ear.TheVariants.{Hears, Takes}
 use Rattle.sched_hear.specs.declared.seated.Seated.{Seated}
 use Rattle.sched_hear.specs.Seen.{list_seen}
-use Rattle.sched_run.specs.Code.Remaining.{unknown_on, unknown_at, unknown_in, is_unlogged, unlogged_on, unlogged_in}
+use Rattle.sched_run.specs.Code.Remaining.{feed_list, AreWithin, unknown_on, unknown_at, unknown_in, is_unlogged, unlogged_on, unlogged_in}
 use Rattle.sched_run.proofs.Counting.{numbers_counted, rows_counted, length-joined, few_entries}
 use Rattle.sched_run.proofs.EmittedSeen.{seen_emitted, seen_length}
 use Rattle.sched_run.proofs.HeldSeen.{component_of_replica, not_there}
@@ -106,16 +107,16 @@ few_feeds v valid c r ports = few_by v valid c r ports (is_order v c)
 -- ---- what is left at an instance
 
 -- a message of a feed is known exactly where it was heard
-pub known-heard : (v : View) (i : Instance) (lists : List (List Message)) (heard : List Pair) (known : List (ℕ × ℕ)) (n k : ℕ) (m : Message) → KnowsHeard v i lists heard known → n < length i.feeds → slice_get (list_on v lists (feed_numbered i n)) k ≡ Some m
-    → list_any (is_same_entry_id (n, k)) known ≡ list_any (is_same_pair (n, m)) heard
+pub known-heard : (v : View) (i : Instance) (lists : List (List Message)) (heard : List Pair) (known : List (List ℕ)) (n k : ℕ) (m : Message) → KnowsHeard v i lists heard known → n < length i.feeds → slice_get (list_on v lists (feed_numbered i n)) k ≡ Some m
+    → is_known known n k ≡ list_any (is_same_pair (n, m)) heard
 known-heard v i lists heard known n k m knows within at =
-    same_truth (list_any (is_same_entry_id (n, k)) known) (list_any (is_same_pair (n, m)) heard)
+    same_truth (is_known known n k) (list_any (is_same_pair (n, m)) heard)
     (λ e.
-    let sound = knows.sound n k (same-from_any is_same_entry_id is_same_entry_id-is is_same_entry_id-itself (n, k) known e) in
+    let sound = knows.sound n k e in
     let one : Some sound.0 ≡ Some m = sym sound.1 ∙ at in
     let same : sound.0 ≡ m = cc in
     any-from_same is_same_pair is_same_pair-is is_same_pair-itself (n, m) heard (subst (λ z. Has (n, z) heard) same sound.2))
-    (λ e. any-from_same is_same_entry_id is_same_entry_id-is is_same_entry_id-itself (n, k) known (knows.whole n k m within at (same-from_any is_same_pair is_same_pair-is is_same_pair-itself (n, m) heard e)))
+    (λ e. knows.whole n k m within at (same-from_any is_same_pair is_same_pair-is is_same_pair-itself (n, m) heard e))
 
 module _ (v : View) (given : Data) (steps : List Step) (b : Books) (stand : BooksStand v given steps b) (valid : IsValid v) (c : ℕ) (there : c < length v.components) where
   log_read : entries_with_ids b.lists.records (list_at b.logs.items c) ≡ (execution_in stand).logs c
@@ -169,7 +170,7 @@ module _ (v : View) (given : Data) (steps : List Step) (b : Books) (stand : Book
     mode-is : is_order_mode (instance_at (wiring_of v) c r).mode ≡ is_order v c
     mode-is = ap (λ (i : Instance). is_order_mode i.mode) (wired r within)
 
-    unknown-there : (known : List (ℕ × ℕ)) (heard : List Pair) (n : ℕ) → KnowsHeard v (instance_for v c r) (read_lists b.lists) heard known → n < length (feeds_for v c r)
+    unknown-there : (known : List (List ℕ)) (heard : List Pair) (n : ℕ) → KnowsHeard v (instance_for v c r) (read_lists b.lists) heard known → n < length (feeds_for v c r)
         → unknown_at v b.lists.lists known (feeds_for v c r) n ≡ length (unheard heard n (emitted_list (wiring_of v) given (execution_in stand) (get_or (feeds_for v c r) n no_feed).stream (get_or (feeds_for v c r) n no_feed).sender))
     unknown-there known heard n knows less =
         let feed : Feed = get_or (feeds_for v c r) n no_feed in
@@ -177,10 +178,10 @@ module _ (v : View) (given : Data) (steps : List Step) (b : Books) (stand : Book
         let messages : List Message = emitted_list (wiring_of v) given (execution_in stand) feed.stream feed.sender in
         let on : list_on v (read_lists b.lists) feed ≡ messages = emitted_shown v given (execution_in stand) stand.seats stand.tables (read_lists b.lists) valid stand.stands.stands stand.shows feed.stream feed.sender into.stream into.sender in
         ap (unknown_on known n) (seen_length v given steps b stand valid feed.stream feed.sender into.sender (list_seen v b.lists.lists feed.stream feed.sender) refl)
-        ∙ numbers_counted (λ k. not (list_any (is_same_entry_id (n, k)) known)) (λ m. not (list_any (is_same_pair (n, m)) heard)) messages
+        ∙ numbers_counted (λ k. not (is_known known n k)) (λ m. not (list_any (is_same_pair (n, m)) heard)) messages
         (λ k m at. ap not (known-heard v (instance_for v c r) (read_lists b.lists) heard known n k m knows less (subst (λ l. slice_get l k ≡ Some m) (sym on) at)))
 
-    pub undelivered_is : (inbox : Inbox) (known : List (ℕ × ℕ)) (own : List Feed) (left : ℕ) → ShowsInbox v b.lists c r (stand.seats.seats c r) inbox known → own ≡ feeds_for v c r → left ≡ unknown_in v b.lists.lists known own
+    pub undelivered_is : (inbox : Inbox) (known : List (List ℕ)) (own : List Feed) (left : ℕ) → ShowsInbox v b.lists c r (stand.seats.seats c r) inbox known → own ≡ feeds_for v c r → left ≡ unknown_in v b.lists.lists known own
         → left ≡ left_of (wiring_of v) given (execution_in stand) c r
     undelivered_is inbox known own left shows are is =
         let fs : List Feed = feeds_for v c r in
@@ -218,11 +219,29 @@ module _ (v : View) (given : Data) (steps : List Step) (b : Books) (stand : Book
 
     module _ (c r : ℕ) (there : c < length v.components) (within : r < replicas_of v c) (seated : Seated) (at : slice_get b.seats.items (instance_place v c r) ≡ Some seated) where
       -- where it hears, or takes
-      pub hears_left : (inbox : Inbox) (known : BTreeSet (ℕ × ℕ)) → seated.ear ≡ Hears inbox known → (own : List Feed) → own ≡ seated.feeds → (left : ℕ) → left ≡ unknown_in v b.lists.lists known.keys own → left ≡ left_of (wiring_of v) given (execution_in stand) c r
+      pub hears_left : (inbox : Inbox) (known : List (List ℕ)) → seated.ear ≡ Hears inbox known → (own : List Feed) → own ≡ seated.feeds → (left : ℕ) → left ≡ unknown_in v b.lists.lists known own → left ≡ left_of (wiring_of v) given (execution_in stand) c r
       hears_left inbox known is own are left count =
-          undelivered_is v given steps b stand valid c there r within inbox known.keys own left
+          undelivered_is v given steps b stand valid c there r within inbox known own left
           (subst (ShowsEar v b.lists c r (stand.seats.seats c r)) is (stand.instances.each c r seated there within at).ear)
           (feeds_found c r seated own there within at are) count
+
+      -- and what it knows of a feed stands in the feed's list
+      pub known_within : (inbox : Inbox) (known : List (List ℕ)) → seated.ear ≡ Hears inbox known → (own : List Feed) → own ≡ seated.feeds → AreWithin v b.lists.lists known own
+      known_within inbox known is own are number index less tested =
+          let fs : List Feed = feeds_for v c r in
+          let mine : own ≡ fs = feeds_found c r seated own there within at are in
+          let inside : number < length fs = subst (λ (l : List Feed). number < length l) mine less in
+          let feed : Feed = get_or fs number no_feed in
+          let into = instance-feeds v c r feed (Has-get_or fs number no_feed inside) in
+          let shows : ShowsInbox v b.lists c r (stand.seats.seats c r) inbox known = subst (ShowsEar v b.lists c r (stand.seats.seats c r)) is (stand.instances.each c r seated there within at).ear in
+          let found = shows.known.sound number index tested in
+          let stands : index < length (list_on v (read_lists b.lists) feed) = slice_get_within (list_on v (read_lists b.lists) feed) index found.0 found.1 in
+          let on : list_on v (read_lists b.lists) feed ≡ emitted_list (wiring_of v) given (execution_in stand) feed.stream feed.sender =
+          emitted_shown v given (execution_in stand) stand.seats stand.tables (read_lists b.lists) valid stand.stands.stands stand.shows feed.stream feed.sender into.stream into.sender in
+          let many : length (list_seen v b.lists.lists feed.stream feed.sender) ≡ length (emitted_list (wiring_of v) given (execution_in stand) feed.stream feed.sender) =
+          seen_length v given steps b stand valid feed.stream feed.sender into.sender (list_seen v b.lists.lists feed.stream feed.sender) refl in
+          let here : index < length (feed_list v b.lists.lists fs number) = omega (arith, stands, ap (λ (l : List Message). length l) on, many) in
+          subst (λ (l : List Feed). index < length (feed_list v b.lists.lists l number)) (sym mine) here
 
       pub takes_left : (taken : ℕ) → seated.ear ≡ Takes taken → (left : ℕ) → left ≡ length (list_at b.logs.items c) - taken → left ≡ left_of (wiring_of v) given (execution_in stand) c r
       takes_left taken is left count =

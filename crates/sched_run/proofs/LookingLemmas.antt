@@ -1,6 +1,5 @@
 -- What a net keeps shows which indexes of a lane are open, and whether a taker can take.
 use Rattle.std.proofs.Common.{◌≡◌, ◌<◌, ◌≤◌, ◌&&◌, ℕ, Bool, true, false, not, Option, None, Some, List, [], length, get_or, slice_get, nat_lt, refl, ap, ◌∙◌, sym, subst, inl, inr, arith}
-use Rattle.std.specs.BTreeSet.{BTreeSet}
 use Rattle.std.specs.Prelude.{OnOk, Result, Ok, Err}
 use Rattle.std.specs.List.{All, list_any}
 use Rattle.std.specs.Option.{option_map, option_map_or, option_and_then}
@@ -31,6 +30,7 @@ use Rattle.sched_turns.specs.declared.windows.Stale.{Stale}
 use Rattle.emitted.specs.Ids.{id_in}
 use Rattle.sched_lists.specs.Lists.{read_list, read_lists, list_at}
 use Rattle.sched_run.specs.Made.{is_undelivered, is_unordered, is_open_in}
+use Rattle.sched_hear.specs.Known.{is_known}
 use Rattle.sched_hear.specs.Net.{BooksStand, ShowsEar, ShowsInbox, execution_in, list_on}
 use Rattle.sched_lists.specs.Places.{instance_place}
 use Rattle.sched_run.specs.Code.Looking.{is_unknown_at, is_unlogged_at, IsDelivery, IsOrdering, IsTaker, MayLook, LooksAt, TellsTake}
@@ -71,17 +71,17 @@ past_is : (i n m : ℕ) → n ≡ m → m ≤ i → nat_lt i n ≡ false
 past_is i n m same more = grind (arith, nat_tests)
 
 -- an index of which is kept whether its message was heard
-unheard_at : (list : List Message) (heard : List Pair) (known : List (ℕ × ℕ)) (n count index : ℕ) → count ≡ length list → ((k : ℕ) (m : Message) → slice_get list k ≡ Some m → list_any (is_same_entry_id (n, k)) known ≡ list_any (is_same_pair (n, m)) heard)
+unheard_at : (list : List Message) (heard : List Pair) (known : List (List ℕ)) (n count index : ℕ) → count ≡ length list → ((k : ℕ) (m : Message) → slice_get list k ≡ Some m → is_known known n k ≡ list_any (is_same_pair (n, m)) heard)
     → is_unknown_at known n count index ≡ is_undelivered heard n list index
 unheard_at list heard known n count index are same = elim (cases_lt index (length list)) [
   | inl less ↦
       let m : Message = get_or list index (row []) in
       let at : slice_get list index ≡ Some m = slice_get-get_or list index (row []) less in
-      ap (λ b. b && not (list_any (is_same_entry_id (n, index)) known)) (below_is index count (length list) are less)
+      ap (λ b. b && not (is_known known n index)) (below_is index count (length list) are less)
       ∙ ap not (same index m at)
       ∙ sym (ap (λ (o : Option Message). option_map_or (λ message. not (list_any (is_same_pair (n, message)) heard)) o false) at)
   | inr more ↦
-      ap (λ b. b && not (list_any (is_same_entry_id (n, index)) known)) (past_is index count (length list) are more)
+      ap (λ b. b && not (is_known known n index)) (past_is index count (length list) are more)
       ∙ sym (ap (λ (o : Option Message). option_map_or (λ message. not (list_any (is_same_pair (n, message)) heard)) o false) (slice_get_past list index more))
 ]
 
@@ -113,17 +113,17 @@ unordered_at records log port messages index pool logged given =
 -- ---- lanes
 
 module _ (v : View) (b : Books) (valid : IsValid v) where
-  module _ (c r n : ℕ) (feed : Feed) (is : IsDelivery v c r n feed) (seated : Seated) (at : slice_get b.seats.items (instance_place v c r) ≡ Some seated) (inbox : Inbox) (known : BTreeSet (ℕ × ℕ)) (ear : seated.ear ≡ Hears inbox known) (messages : List IdMessage) (are : messages ≡ list_seen v b.lists.lists feed.stream feed.sender) (count : ℕ) (many : count ≡ length messages) where
-    pub heard_open : (given : Data) (steps : List Step) (stand : BooksStand v given steps b) (index : ℕ) → is_unknown_at known.keys n count index ≡ is_open_in (wiring_of v) given (execution_in stand) (Deliver c r n feed) index
+  module _ (c r n : ℕ) (feed : Feed) (is : IsDelivery v c r n feed) (seated : Seated) (at : slice_get b.seats.items (instance_place v c r) ≡ Some seated) (inbox : Inbox) (known : List (List ℕ)) (ear : seated.ear ≡ Hears inbox known) (messages : List IdMessage) (are : messages ≡ list_seen v b.lists.lists feed.stream feed.sender) (count : ℕ) (many : count ≡ length messages) where
+    pub heard_open : (given : Data) (steps : List Step) (stand : BooksStand v given steps b) (index : ℕ) → is_unknown_at known n count index ≡ is_open_in (wiring_of v) given (execution_in stand) (Deliver c r n feed) index
     heard_open given steps stand index =
-        unheard_at list (all_pairs ((execution_in stand).lives c r).last.heard) known.keys n count index (many ∙ seen_length v given steps b stand valid feed.stream feed.sender is.is.sender messages are)
-        (λ k m found. subst (λ (batches : List Batch). list_any (is_same_entry_id (n, k)) known.keys ≡ list_any (is_same_pair (n, m)) (all_pairs batches)) (stand.stands.stands.seats c r (is_there-true v c r is.is.there is.within)).heard
-        (known-heard v (instance_for v c r) (read_lists b.lists) (all_pairs (stand.seats.seats c r).heard) known.keys n k m shows.known less (subst (λ l. slice_get l k ≡ Some m) (sym on) found)))
+        unheard_at list (all_pairs ((execution_in stand).lives c r).last.heard) known n count index (many ∙ seen_length v given steps b stand valid feed.stream feed.sender is.is.sender messages are)
+        (λ k m found. subst (λ (batches : List Batch). is_known known n k ≡ list_any (is_same_pair (n, m)) (all_pairs batches)) (stand.stands.stands.seats c r (is_there-true v c r is.is.there is.within)).heard
+        (known-heard v (instance_for v c r) (read_lists b.lists) (all_pairs (stand.seats.seats c r).heard) known n k m shows.known less (subst (λ l. slice_get l k ≡ Some m) (sym on) found)))
       where
         list : List Message
         list = emitted_list (wiring_of v) given (execution_in stand) feed.stream feed.sender
 
-        shows : ShowsInbox v b.lists c r (stand.seats.seats c r) inbox known.keys
+        shows : ShowsInbox v b.lists c r (stand.seats.seats c r) inbox known
         shows = subst (ShowsEar v b.lists c r (stand.seats.seats c r)) ear (stand.instances.each c r seated is.is.there is.within at).ear
 
         less : n < length (feeds_for v c r)
@@ -134,17 +134,17 @@ module _ (v : View) (b : Books) (valid : IsValid v) where
             ap (list_on v (read_lists b.lists)) (get_or_from_slice_get (feeds_for v c r) n feed no_feed is.numbered)
             ∙ emitted_shown v given (execution_in stand) stand.seats stand.tables (read_lists b.lists) valid stand.stands.stands stand.shows feed.stream feed.sender is.is.stream is.is.sender
 
-    pub may_look_heard : (stale : Stale) (window : Looked) → MayLook v b (Deliver c r n feed) stale window → (window.next ≤ count) × MayShow (is_unknown_at known.keys n count) window × OthersAreOpen (is_unknown_at known.keys n count) stale window.places
+    pub may_look_heard : (stale : Stale) (window : Looked) → MayLook v b (Deliver c r n feed) stale window → (window.next ≤ count) × MayShow (is_unknown_at known n count) window × OthersAreOpen (is_unknown_at known n count) stale window.places
     may_look_heard stale window may =
         let long = many ∙ seen_length v may.given may.steps b may.stand valid feed.stream feed.sender is.is.sender messages are in (
           omega (arith, may.inside, long),
-          shows_same (is_open_in (wiring_of v) may.given (execution_in may.stand) (Deliver c r n feed)) (is_unknown_at known.keys n count) window (λ k. sym (heard_open may.given may.steps may.stand k)) may.shown,
-          open_same (is_open_in (wiring_of v) may.given (execution_in may.stand) (Deliver c r n feed)) (is_unknown_at known.keys n count) stale window.places (λ k. sym (heard_open may.given may.steps may.stand k)) may.fresh,
+          shows_same (is_open_in (wiring_of v) may.given (execution_in may.stand) (Deliver c r n feed)) (is_unknown_at known n count) window (λ k. sym (heard_open may.given may.steps may.stand k)) may.shown,
+          open_same (is_open_in (wiring_of v) may.given (execution_in may.stand) (Deliver c r n feed)) (is_unknown_at known n count) stale window.places (λ k. sym (heard_open may.given may.steps may.stand k)) may.fresh,
         )
 
-    pub looks_heard : (window : Looked) → IsWindow (is_unknown_at known.keys n count) count window → LooksAt v b (Deliver c r n feed) window
+    pub looks_heard : (window : Looked) → IsWindow (is_unknown_at known n count) count window → LooksAt v b (Deliver c r n feed) window
     looks_heard window own given steps stand =
-        window_same (is_unknown_at known.keys n count) (is_open_in (wiring_of v) given (execution_in stand) (Deliver c r n feed)) count (length (emitted_list (wiring_of v) given (execution_in stand) feed.stream feed.sender)) window
+        window_same (is_unknown_at known n count) (is_open_in (wiring_of v) given (execution_in stand) (Deliver c r n feed)) count (length (emitted_list (wiring_of v) given (execution_in stand) feed.stream feed.sender)) window
         (heard_open given steps stand) (many ∙ seen_length v given steps b stand valid feed.stream feed.sender is.is.sender messages are) own
 
   module _ (c : ℕ) (feed : Feed) (is : IsOrdering v c feed) (log : List EntryId) (at : log ≡ get_or b.logs.items c log) (messages : List IdMessage) (are : messages ≡ list_seen v b.lists.lists feed.stream feed.sender) (count : ℕ) (many : count ≡ length messages) (pool : IsPool b.lists.records) (given_ids : All (IsGiven b.lists.records) messages) where

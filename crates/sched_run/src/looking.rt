@@ -6,25 +6,24 @@ ghost use Rattle.sched_run.specs.declared.lanes.Lane.TheVariants.{Deliver, Order
 
 use crate::lanes::{Lane, Taker};
 use inbox::{Feed, Log, Message};
-use sched_hear::{Books, Ear, is_known};
+use sched_hear::{Books, Ear, Known};
 use sched_turns::{OpenPlaces, Stale, Window};
 use std::alloc::AllocError;
-use std::collections::BTreeSet;
 use topo_types::Valid;
 
 // The indexes of a list of so many messages that weren't heard on a feed.
 #[derive(Clone, Copy)]
 struct Unheard<'a> {
-    known: &'a BTreeSet<(u32, u32)>,
+    known: &'a Known,
     feed: u32,
     count: u32,
 }
 
 impl OpenPlaces for Unheard<'_> {
-    ghost is_open = { λ list index. is_unknown_at list.known.now.keys list.feed list.count index };
+    ghost is_open = { λ list index. is_unknown_at list.known.now list.feed list.count index };
 
     fn is_open(&self, place: u32) -> bool {
-        place < self.count && !is_known(self.known, self.feed, place)
+        place < self.count && !self.known.knows(self.feed, place)
     }
 }
 

@@ -1,7 +1,8 @@
 //! What is left of a net: what wasn't heard, ordered or taken yet.
 //!
-//! An instance keeps the feed and the index of each message that it heard, and a log the ids of its
-//! records, so each message of a feed's list is looked up once.
+//! An instance keeps how many messages of each feed it heard, so it hasn't heard as many as the feed's
+//! list has more. A log keeps the ids of its records, so each message of a feed's list is looked up
+//! once.
 ghost use Rattle.std.specs.Prelude.{◌≡◌, ◌<◌, ◌≤◌, ◌-◌, ◌*◌, ℕ, length};
 ghost use Rattle.topo_types.specs.Valid.{IsValid};
 ghost use Rattle.topo_types.specs.View.{component_at, replicas_of};
@@ -13,26 +14,11 @@ ghost use Rattle.sched_lists.specs.Limits.{message_limit};
 ghost use Rattle.sched_lists.specs.Lists.{list_at};
 ghost use Rattle.sched_hear.specs.Net.{BooksRun};
 ghost use Rattle.sched_run.specs.Reading.{IsRead, TellsComplete, holds_none_at, holds_none, is_complete};
-ghost use Rattle.sched_run.specs.Code.Remaining.{unknown_on, unknown_at, unknown_in, is_unlogged, unlogged_on, unlogged_in};
+ghost use Rattle.sched_run.specs.Code.Remaining.{feed_list, AreWithin, unknown_at, unknown_in, is_unlogged, unlogged_on, unlogged_in};
 
 use crate::net::Net;
 use inbox::{Feed, Log, Message};
-use sched_hear::{Ear, is_known, is_order};
-use std::collections::BTreeSet;
-
-// How many of the first indexes of a list weren't heard on a feed.
-fn count_unknown(known: &BTreeSet<(u32, u32)>, feed: u32, count: u32) -> u64
-    ensures count { result ≡ unknown_on known.now.keys feed count }
-    ensures few { result ≤ count }
-{
-    let mut unknown = 0;
-    for index in 0..count {
-        if !is_known(known, feed, index) {
-            unknown += 1;
-        }
-    }
-    unknown
-}
+use sched_hear::{Ear, Known, is_order};
 
 impl Net<'_> {
     // How many parts there are at most; the call does nothing.
@@ -44,24 +30,34 @@ impl Net<'_> {
         self.valid.whole();
     }
 
-    // How many messages of a feed's list an instance hasn't heard on it.
-    fn undelivered_on(&self, feeds: &[Feed], number: u32, known: &BTreeSet<(u32, u32)>) -> u64
+    // The list of a feed.
+    fn feed_list(&self, feeds: &[Feed], number: u32) -> &[Message]
         requires runs { BooksRun self.now.valid.now.view self.now.books }
         requires number { number < length feeds.now }
-        ensures count { result ≡ unknown_at self.now.valid.now.view self.now.books.lists.lists known.now.keys feeds.now number }
+        ensures { result.now ≡ feed_list self.now.valid.now.view self.now.books.lists.lists feeds.now number }
+    {
+        let feed = feeds[number as usize];
+        self.books.messages(self.valid, feed.stream, feed.sender)
+    }
+
+    // How many messages of a feed's list an instance hasn't heard on it.
+    fn undelivered_on(&self, feeds: &[Feed], number: u32, known: &Known) -> u64
+        requires runs { BooksRun self.now.valid.now.view self.now.books }
+        requires number { number < length feeds.now }
+        requires within { AreWithin self.now.valid.now.view self.now.books.lists.lists known.now feeds.now }
+        ensures count { result ≡ unknown_at self.now.valid.now.view self.now.books.lists.lists known.now feeds.now number }
         ensures few { result ≤ message_limit }
     {
         self.books.lists.known();
-        let feed = feeds[number as usize];
-        let list = self.books.messages(self.valid, feed.stream, feed.sender);
-        count_unknown(known, number, list.len() as u32)
+        self.feed_list(feeds, number).len() as u64 - known.count(number)
     }
 
     // How many messages of its feeds' lists an instance hasn't heard.
-    fn undelivered(&self, feeds: &[Feed], known: &BTreeSet<(u32, u32)>) -> u64
+    fn undelivered(&self, feeds: &[Feed], known: &Known) -> u64
         requires runs { BooksRun self.now.valid.now.view self.now.books }
         requires few { length feeds.now ≤ 4096 }
-        ensures count { result ≡ unknown_in self.now.valid.now.view self.now.books.lists.lists known.now.keys feeds.now }
+        requires within { AreWithin self.now.valid.now.view self.now.books.lists.lists known.now feeds.now }
+        ensures count { result ≡ unknown_in self.now.valid.now.view self.now.books.lists.lists known.now feeds.now }
         ensures few { result ≤ 4096 * message_limit }
     {
         let mut left = 0;
@@ -184,7 +180,8 @@ impl Net<'_> {
 
     /// How much is left: of each instance the messages of its feeds that it hasn't heard in its last
     /// life, of each Order component the records of its feeds that its log hasn't, and of each of its
-    /// replicas the entries that it hasn't taken in its last life. Looks up each message of each feed.
+    /// replicas the entries that it hasn't taken in its last life. Looks up each message of the feeds
+    /// of Order components.
     pub fn left(&self) -> u64
         requires runs { BooksRun self.now.valid.now.view self.now.books }
         ensures { IsRead self.now.valid.now.view self.now.books (left_count (wiring_of self.now.valid.now.view)) result }

@@ -6,10 +6,9 @@ ghost use Rattle.sched_run.specs.Code.First.{HeardNothing, IsFirst, AreFirst};
 
 use blz_value::Items;
 use inbox::{Inbox, feeds_of};
-use sched_hear::{Ear, Seated};
+use sched_hear::{Ear, Known, Seated};
 use sched_lists::{Places, outlets_of};
 use std::alloc::{AllocError, Global};
-use std::collections::BTreeSet;
 use topo_types::{Mode, Valid};
 
 // What an instance hears that heard nothing.
@@ -22,7 +21,7 @@ fn ear_of(alloc: Global, valid: &Valid, component: u32, replica: u32) -> Result<
         Mode::Order => Ok(Ear::Takes(0)),
         Mode::Free | Mode::Pass(_) | Mode::Seal(_) => {
             let inbox = Inbox::new(alloc, valid, component, replica)?;
-            Ok(Ear::Hears(inbox, BTreeSet::new(alloc)))
+            Ok(Ear::Hears(inbox, Known::new(alloc)))
         }
     }
 }

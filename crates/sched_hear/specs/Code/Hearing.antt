@@ -6,7 +6,6 @@ use Rattle.blz_value.specs.Record.{Row}
 use Rattle.bloom_ast.specs.declared.program.Program.{Program}
 use Rattle.bloom_ast.specs.Step.{Sets}
 use Rattle.topo_types.specs.Data.{Data}
-use Rattle.topo_types.specs.Messages.{Message}
 use Rattle.topo_types.specs.View.{View}
 use Rattle.inbox.specs.Messages.{Batch, all_pairs}
 use Rattle.inbox.specs.Instances.{Instance}
@@ -19,6 +18,7 @@ use Rattle.inbox.specs.Events.{Part, Event, event, Step}
 use Rattle.inbox.specs.declared.inbox.Inbox.{Inbox}
 use Rattle.messages.specs.declared.message.Message.{Message as IdMessage}
 use Rattle.sched_lists.specs.Limits.{limit_of_event, limit_of_hearing}
+use Rattle.sched_hear.specs.Known.{is_known}
 use Rattle.sched_hear.specs.Net.{Stands, EventAnswers}
 use Rattle.sched_hear.specs.declared.books.Books.{Books}
 use Rattle.emitted.specs.declared.fault.EventFault.{EventFault}
@@ -47,12 +47,12 @@ pub record InboxHears (records : List Row) (batch : List (ℕ × IdMessage)) (s 
   pub feeds : feeds_in new ≡ feeds_in old
   pub kept : IsFrom records new
 
--- these indexes are known too
-abbrev pub KnowsMore : (old more new : List (ℕ × ℕ)) → Type 0
-KnowsMore old more new = (known : ℕ × ℕ) → Has known new ↔ (Has known old ⊎ Has known more)
+-- these messages are known too
+abbrev pub KnowsMore : (old : List (List ℕ)) → (more : List (ℕ × ℕ)) → (new : List (List ℕ)) → Type 0
+KnowsMore old more new = (feed index : ℕ) → (is_known new feed index ≡ true) ↔ ((is_known old feed index ≡ true) ⊎ Has (feed, index) more)
 
 abbrev pub EarHears : List Row → List (ℕ × IdMessage) → (indexes : List (ℕ × ℕ)) → SetOff → (old new : Ear) → Type 0
-EarHears records batch indexes s (Hears inbox known) (Hears next later) = InboxHears records batch s inbox next × KnowsMore known.keys indexes later.keys
+EarHears records batch indexes s (Hears inbox known) (Hears next later) = InboxHears records batch s inbox next × KnowsMore known indexes later
 EarHears records batch indexes s (Hears inbox known) (Takes taken) = ⊥
 EarHears records batch indexes s (Takes taken) new = ⊥
 

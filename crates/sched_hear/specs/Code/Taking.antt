@@ -71,7 +71,7 @@ pub record InboxForgets (old new : Inbox) : Type 0 where
   pub kept : (records : List Record) → IsFrom records new
 
 abbrev pub EarForgets : (old new : Ear) → Type 0
-EarForgets (Hears inbox known) (Hears next later) = InboxForgets inbox next × (later.keys ≡ [])
+EarForgets (Hears inbox known) (Hears next later) = InboxForgets inbox next × (later ≡ [])
 EarForgets (Hears inbox known) (Takes taken) = ⊥
 EarForgets (Takes taken) (Hears inbox known) = ⊥
 EarForgets (Takes taken) (Takes later) = later ≡ 0

@@ -12,6 +12,7 @@ use Rattle.messages.specs.declared.message.Message.{Message as IdMessage}
 use Rattle.sched_turns.specs.Windows.{Looked, IsWindow, MayShow, OthersAreOpen}
 use Rattle.sched_turns.specs.declared.windows.Stale.{Stale}
 use Rattle.emitted.specs.Ids.{id_in}
+use Rattle.sched_hear.specs.Known.{is_known}
 use Rattle.sched_run.specs.Made.{is_open_in, lane_list, can_take}
 use Rattle.sched_hear.specs.Net.{BooksStand, execution_in}
 use Rattle.sched_run.specs.Reading.{IsRead}
@@ -21,8 +22,8 @@ use Rattle.sched_run.specs.declared.lanes.Lane.TheVariants.{Deliver, Order}
 use Rattle.sched_run.specs.declared.lanes.Taker.{Taker}
 
 -- an index of a list of so many isn't known on a feed
-abbrev pub is_unknown_at : (known : List (ℕ × ℕ)) → (feed count index : ℕ) → Bool
-is_unknown_at known feed count index = nat_lt index count && not (list_any (is_same_entry_id (feed, index)) known)
+abbrev pub is_unknown_at : (known : List (List ℕ)) → (feed count index : ℕ) → Bool
+is_unknown_at known feed count index = nat_lt index count && not (is_known known feed index)
 
 -- a record stands at an index of a list that a log hasn't at a port
 abbrev pub is_unlogged_at : (log : List EntryId) → (port : ℕ) → List IdMessage → (index : ℕ) → Bool

@@ -1,5 +1,5 @@
 -- What a net counts as left, by what it keeps.
-use Rattle.std.specs.Prelude.{ℕ, not, Bool, false, List, length, slice_index_or}
+use Rattle.std.specs.Prelude.{◌≡◌, ◌<◌, ℕ, not, Bool, true, false, List, length, slice_index_or}
 use Rattle.std.specs.List.{list_any, count_by, sum_by}
 use Rattle.std.specs.Option.{option_map_or}
 use Rattle.blz_value.specs.Record.{Row as Record}
@@ -8,23 +8,32 @@ use Rattle.topo_types.specs.Messages.{row_in}
 use Rattle.topo_types.specs.Sets.{below}
 use Rattle.topo_types.specs.View.{View}
 use Rattle.inbox.specs.Ids.{message_with_id}
-use Rattle.inbox.specs.Log.{EntryId, is_same_entry_id, entries_with_ids}
+use Rattle.inbox.specs.Log.{EntryId, entries_with_ids}
 use Rattle.inbox.specs.Messages.{is_same_entry}
 use Rattle.messages.specs.declared.message.Message.{Message as IdMessage}
+use Rattle.sched_hear.specs.Known.{is_known}
 use Rattle.sched_hear.specs.Seen.{list_seen}
 
--- how many of the first indexes of a list aren't known on a feed
-abbrev pub unknown_on : (known : List (ℕ × ℕ)) → (feed count : ℕ) → ℕ
-unknown_on known feed count = count_by (λ index. not (list_any (is_same_entry_id (feed, index)) known)) (below count)
-
--- and so of the lists of a feed with a number
-abbrev pub unknown_at : View → (lists : List (List IdMessage)) → (known : List (ℕ × ℕ)) → List Feed → (number : ℕ) → ℕ
-unknown_at v lists known feeds number =
+-- the list of a feed with a number
+abbrev pub feed_list : View → (lists : List (List IdMessage)) → List Feed → (number : ℕ) → List IdMessage
+feed_list v lists feeds number =
     let feed = slice_index_or feeds number no_feed in
-    unknown_on known number (length (list_seen v lists feed.stream feed.sender))
+    list_seen v lists feed.stream feed.sender
+
+-- each message of a feed that is known stands in the feed's list
+abbrev pub AreWithin : View → (lists : List (List IdMessage)) → (known : List (List ℕ)) → List Feed → Type 0
+AreWithin v lists known feeds = (number index : ℕ) → number < length feeds → is_known known number index ≡ true → index < length (feed_list v lists feeds number)
+
+-- how many of the first indexes of a list aren't known on a feed
+abbrev pub unknown_on : (known : List (List ℕ)) → (feed count : ℕ) → ℕ
+unknown_on known feed count = count_by (λ index. not (is_known known feed index)) (below count)
+
+-- and so of the list of a feed with a number
+abbrev pub unknown_at : View → (lists : List (List IdMessage)) → (known : List (List ℕ)) → List Feed → (number : ℕ) → ℕ
+unknown_at v lists known feeds number = unknown_on known number (length (feed_list v lists feeds number))
 
 -- and of all feeds
-abbrev pub unknown_in : View → (lists : List (List IdMessage)) → (known : List (ℕ × ℕ)) → List Feed → ℕ
+abbrev pub unknown_in : View → (lists : List (List IdMessage)) → (known : List (List ℕ)) → List Feed → ℕ
 unknown_in v lists known feeds = sum_by (unknown_at v lists known feeds) (below (length feeds))
 
 -- a message is a record that isn't in a log at a port

@@ -8,6 +8,6 @@ use Rattle.sched_run.proofs.net.Net.undelivered.Given as goal
 
 abbrev pub invariant-loop-number : goal.invariant-loop-number
 invariant-loop-number g l = record {
-  count : l.left ≡ sum_by (unknown_at l.self.valid.now.view l.self.books.lists.lists l.known.keys l.feeds) (below l.number);
+  count : l.left ≡ sum_by (unknown_at l.self.valid.now.view l.self.books.lists.lists l.known l.feeds) (below l.number);
   few : l.left ≤ l.number * message_limit;
 }

@@ -1,13 +1,16 @@
 -- The books of a net have the emitted list of each sending replica and the books of each instance at their places.
-use Rattle.std.proofs.Common.{◌≡◌, ◌<◌, ◌≤◌, ◌+◌, ◌-◌, ◌&&◌, ℕ, zero, suc, Bool, true, false, None, List, [], length, slice_get, refl, ap, ◌∙◌, sym, inl, inr, arith, nat_lt}
+use Rattle.std.proofs.Common.{◌≡◌, ◌<◌, ◌≤◌, ◌+◌, ◌-◌, ◌&&◌, ℕ, zero, suc, Bool, true, false, None, List, [], length, slice_get, refl, ap, ◌∙◌, sym, inl, inr, arith, nat_lt, unwrap_or}
 use Rattle.std.specs.Prelude.{if◌then◌else◌}
 use Rattle.std.specs.List.{All}
 use Rattle.std.proofs.lemmas.Bool.{cases_lt, and_from}
 use Rattle.std.proofs.lemmas.Bool.Decides.{nat_tests}
-use Rattle.topo_types.specs.View.{View, replicas_of, stream_replicas}
+use Rattle.std.proofs.lemmas.List.{get_or_past}
+use Rattle.bloom_ast.specs.Query.{Name}
+use Rattle.topo_types.specs.View.{View, Component, Port, no_component, number_named, replicas_of, stream_replicas}
 use Rattle.inbox.specs.Ids.{IsGiven}
 use Rattle.sched_lists.specs.Lists.{Listed, list_at, AllAreGiven}
 use Rattle.sched_hear.specs.Net.{BooksRun}
+use Rattle.sched_hear.specs.Numbered.{port_number}
 use Rattle.sched_lists.specs.Places.{places_before, instance_place, list_place}
 use Rattle.sched_hear.specs.declared.books.Books.{Books}
 use Rattle.sched_hear.specs.Seen.{list_seen, seat_seen}
@@ -46,6 +49,10 @@ module _ {X : Type 0} (v : View) (seats : List X) (c r : ℕ) where
 
   pub no_seat_there : replicas_of v c ≤ r → seat_seen v seats c r ≡ None
   no_seat_there past = ap (λ t. if t then slice_get seats (instance_place v c r) else None) (lt-not r (replicas_of v c) past)
+
+-- a component that isn't there has no port, and the number past the end of none is 0
+pub no_port_there : (v : View) (c : ℕ) (name : Name) → length v.components ≤ c → 0 ≡ port_number v c name
+no_port_there v c name past = sym (ap (λ (x : Component). unwrap_or (number_named (λ (p : Port). p.name) x.ports name) (length x.ports)) (get_or_past v.components c no_component past))
 
 -- ---- places
 

@@ -7,6 +7,8 @@ use Rattle.sched_text.specs.declared.event.Event.{Event as NamedEvent}
 use Rattle.sched_text.specs.declared.event.Event.TheVariants.{Deliver, Order, Take, Batch}
 use Rattle.topo_types.specs.View.{View, component_at, find_stream, find_component, find_port}
 use Rattle.inbox.specs.Events.{Sent, Part, Event, deliver, batch, order, take_one}
+use Rattle.sched_hear.specs.declared.numbered.NumberedEvent.{NumberedEvent}
+use Rattle.sched_hear.specs.declared.numbered.NumberedEvent.TheVariants as numbers
 
 -- ---- numbers of names
 
@@ -39,3 +41,9 @@ numbered v (Deliver sent component port replica) = deliver (numbered_part v (com
 numbered v (Order sent component port) = order (numbered_part v (component_number v component) sent port) (component_number v component)
 numbered v (Take component replica) = take_one (component_number v component) replica
 numbered v (Batch component replica parts) = batch (numbered_parts v (component_number v component) parts) (component_number v component) replica
+
+-- the event that goes by these numbers
+abbrev pub event_by_numbers : NumberedEvent → Event
+event_by_numbers (numbers.Deliver part component replica) = deliver part component replica
+event_by_numbers (numbers.Order part component) = order part component
+event_by_numbers (numbers.Take component replica) = take_one component replica

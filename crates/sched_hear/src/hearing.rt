@@ -6,22 +6,21 @@ ghost use Rattle.inbox.specs.Events.{batch, deliver};
 ghost use Rattle.inbox.specs.Ids.{IsGiven};
 ghost use Rattle.inbox.specs.Wiring.{feeds_for};
 ghost use Rattle.sched_hear.specs.Net.{Runs, BooksRun, EventAnswers, EventLeaves};
-ghost use Rattle.sched_hear.specs.Numbered.{numbered_part, numbered_parts};
+ghost use Rattle.sched_hear.specs.Numbered.{numbered_parts};
 ghost use Rattle.sched_lists.specs.Places.{instance_place};
 ghost use Rattle.sched_hear.specs.Code.Parts.{hears_itself};
 ghost use Rattle.sched_hear.specs.Code.Hearing.{EarCanHear, EarHears, KnowsMore, OneHears, HearingAnswers, HearingLeaves};
 
 use crate::books::Books;
 use crate::known::Known;
-use crate::numbered::{PartNumbers, part_of};
+use crate::numbered::{NumberedPart, part_of};
 use crate::parts::Pairs;
 use crate::seated::{Ear, Seated};
 use blz_boxes::Component;
 use blz_pool::Pool;
-use blz_value::Str;
 use inbox::Timesteps;
 use sched_lists::{EventFault, emit_at};
-use sched_text::{Part, Sent};
+use sched_text::Part;
 use std::alloc::{AllocError, Global};
 use topo_types::{Mode, Valid};
 
@@ -78,8 +77,7 @@ fn parts_of(
     valid: &Valid,
     component: u32,
     parts: &[Part],
-) -> Result<Vec<PartNumbers>, AllocError>
-    requires { component < length valid.now.view.components }
+) -> Result<Vec<NumberedPart>, AllocError>
     ensures { IfOk result (λ numbers. numbers.items ≡ numbered_parts valid.now.view component parts.now) }
 {
     let mut numbers = Vec::new(alloc);
@@ -122,7 +120,7 @@ impl Books {
         shells: &mut Vec<Box<dyn Component>>,
         component: u32,
         replica: u32,
-        parts: &[PartNumbers],
+        parts: &[NumberedPart],
     ) -> Result<(), EventFault>
         requires runs { Runs valid.now.view (map (λ b. loaded b) shells.old.items) (map (λ b. kept b) shells.old.items) self.old }
         requires hears { hears_itself valid.now.view component replica ≡ true }
@@ -149,7 +147,7 @@ impl Books {
         Ok(())
     }
 
-    // An instance hears a message by its names, where it hears messages itself.
+    // An instance hears a message, where it hears messages itself.
     fn hear_one(
         &mut self,
         alloc: Global,
@@ -157,19 +155,17 @@ impl Books {
         shells: &mut Vec<Box<dyn Component>>,
         component: u32,
         replica: u32,
-        sent: &Sent,
-        port: &Str,
+        part: NumberedPart,
     ) -> Result<(), EventFault>
         requires runs { Runs valid.now.view (map (λ b. loaded b) shells.old.items) (map (λ b. kept b) shells.old.items) self.old }
-        ensures answer { HearingAnswers valid.now.view (map (λ b. loaded b) shells.old.items) (map (λ b. kept b) shells.old.items) self.old (numbered_part valid.now.view component sent.now port.now ∷ []) component replica result }
-        ensures leaves { HearingLeaves valid.now.view (map (λ b. loaded b) shells.old.items) (map (λ b. kept b) shells.old.items) (map (λ b. kept b) shells.new.items) self.old self.new (numbered_part valid.now.view component sent.now port.now ∷ []) component replica result }
+        ensures answer { HearingAnswers valid.now.view (map (λ b. loaded b) shells.old.items) (map (λ b. kept b) shells.old.items) self.old (part ∷ []) component replica result }
+        ensures leaves { HearingLeaves valid.now.view (map (λ b. loaded b) shells.old.items) (map (λ b. kept b) shells.old.items) (map (λ b. kept b) shells.new.items) self.old self.new (part ∷ []) component replica result }
         ensures kinds { map (λ b. kind b) shells.new.items ≡ map (λ b. kind b) shells.old.items }
         ensures loaded { map (λ b. loaded b) shells.new.items ≡ map (λ b. loaded b) shells.old.items }
     {
         if !hears_itself(valid, component, replica) {
             return Err(EventFault::NoInstance);
         }
-        let part = part_of(valid, component, sent, port);
         self.hear_parts(alloc, valid, shells, component, replica, &[part])
     }
 
@@ -209,16 +205,15 @@ impl Books {
         shells: &mut Vec<Box<dyn Component>>,
         component: u32,
         replica: u32,
-        sent: &Sent,
-        port: &Str,
+        part: NumberedPart,
     ) -> Result<(), EventFault>
         requires runs { Runs valid.now.view (map (λ b. loaded b) shells.old.items) (map (λ b. kept b) shells.old.items) self.old }
-        ensures answer { EventAnswers valid.now.view (map (λ b. loaded b) shells.old.items) (map (λ b. kept b) shells.old.items) self.old (deliver (numbered_part valid.now.view component sent.now port.now) component replica) result }
-        ensures leaves { EventLeaves valid.now.view (map (λ b. loaded b) shells.old.items) (map (λ b. kept b) shells.old.items) (map (λ b. kept b) shells.new.items) self.old self.new (deliver (numbered_part valid.now.view component sent.now port.now) component replica) result }
+        ensures answer { EventAnswers valid.now.view (map (λ b. loaded b) shells.old.items) (map (λ b. kept b) shells.old.items) self.old (deliver part component replica) result }
+        ensures leaves { EventLeaves valid.now.view (map (λ b. loaded b) shells.old.items) (map (λ b. kept b) shells.old.items) (map (λ b. kept b) shells.new.items) self.old self.new (deliver part component replica) result }
         ensures kinds { map (λ b. kind b) shells.new.items ≡ map (λ b. kind b) shells.old.items }
         ensures loaded { map (λ b. loaded b) shells.new.items ≡ map (λ b. loaded b) shells.old.items }
     {
-        let result = self.hear_one(alloc, valid, shells, component, replica, sent, port);
+        let result = self.hear_one(alloc, valid, shells, component, replica, part);
         self.end_at(&result);
         result
     }

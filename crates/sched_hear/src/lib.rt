@@ -12,6 +12,6 @@ mod seated;
 
 pub use books::Books;
 pub use known::Known;
-pub use numbered::component_of;
+pub use numbered::{NumberedEvent, NumberedPart, component_of, part_of};
 pub use ordering::is_order;
 pub use seated::{Ear, Seated};

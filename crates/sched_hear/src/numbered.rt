@@ -1,5 +1,5 @@
 //! Events by numbers: each name is looked up once.
-ghost use Rattle.std.specs.Prelude.{◌≡◌, ◌<◌, ◌≤◌, length};
+ghost use Rattle.std.specs.Prelude.{◌≡◌, ◌≤◌, length};
 ghost use Rattle.topo_types.specs.View.{component_at};
 ghost use Rattle.sched_hear.specs.Numbered.{stream_number, component_number, port_number, numbered_part};
 
@@ -10,14 +10,18 @@ use topo_types::Valid;
 
 /// A message that goes to a port, by numbers; what has no name has the number past the end.
 #[derive(Clone, Copy, Debug)]
-pub(crate) struct PartNumbers {
-    pub(crate) stream: u32,
-    pub(crate) replica: u32,
-    pub(crate) index: u32,
-    pub(crate) port: u32,
+pub struct NumberedPart {
+    /// The number of the stream.
+    pub stream: u32,
+    /// The sender's replica, counted from 0.
+    pub replica: u32,
+    /// The place of the message in the emitted list, counted from 0.
+    pub index: u32,
+    /// The number of the port.
+    pub port: u32,
 }
 
-impl Model for PartNumbers {
+impl Model for NumberedPart {
     ghost use Rattle.inbox.specs.Events.{Part};
 
     ghost Value = { Part };
@@ -25,6 +29,34 @@ impl Model for PartNumbers {
     ghost view = { λ part. record { sent = record { stream = part.stream; replica = part.replica; index = part.index }; port = part.port } };
 
     ghost inverse = { λ part. record { stream = part.sent.stream; replica = part.sent.replica; index = part.sent.index; port = part.port } };
+}
+
+/// An event by numbers, where messages are heard one by one.
+#[derive(Clone, Copy, Debug)]
+pub enum NumberedEvent {
+    /// One replica of a component hears a message at a port.
+    Deliver {
+        /// The message.
+        part: NumberedPart,
+        /// The receiver's number.
+        component: u32,
+        /// The receiver's replica, counted from 0.
+        replica: u32,
+    },
+    /// A message goes to the log of a component.
+    Order {
+        /// The message.
+        part: NumberedPart,
+        /// The number of the component with the log.
+        component: u32,
+    },
+    /// One replica of a component takes the next entry of the log.
+    Take {
+        /// The component's number.
+        component: u32,
+        /// Its replica, counted from 0.
+        replica: u32,
+    },
 }
 
 // The number of a stream, and that past the end where there is none of this name.
@@ -47,11 +79,14 @@ pub fn component_of(valid: &Valid, name: &Str) -> u32
     }
 }
 
-// The number of a port, and that past the end where the component has none of this name.
+// The number of a port, and that past the end where the component has none of this name; a component
+// that isn't there has none.
 fn port_of(valid: &Valid, component: u32, name: &Str) -> u32
-    requires { component < length valid.now.view.components }
     ensures { result ≡ port_number valid.now.view component name.now }
 {
+    if component >= valid.component_count() {
+        return 0;
+    }
     match valid.find_port(component, name) {
         Some(port) => port,
         None => valid.port_count(component),
@@ -59,11 +94,10 @@ fn port_of(valid: &Valid, component: u32, name: &Str) -> u32
 }
 
 /// A message that goes to a port of a component, by numbers.
-pub(crate) fn part_of(valid: &Valid, component: u32, sent: &Sent, port: &Str) -> PartNumbers
-    requires { component < length valid.now.view.components }
+pub fn part_of(valid: &Valid, component: u32, sent: &Sent, port: &Str) -> NumberedPart
     ensures { result ≡ numbered_part valid.now.view component sent.now port.now }
 {
-    PartNumbers {
+    NumberedPart {
         stream: stream_of(valid, &sent.stream),
         replica: sent.replica,
         index: sent.index,

@@ -11,7 +11,6 @@ ghost use Rattle.inbox.specs.Timesteps.{timestep_of};
 ghost use Rattle.sched_lists.specs.Limits.{too_many_rows, too_many_messages};
 ghost use Rattle.sched_lists.specs.Lists.{IsExact, read_lists};
 ghost use Rattle.sched_hear.specs.Net.{Runs, BooksRun, EventAnswers, EventLeaves, BooksAnswer, BooksLeave};
-ghost use Rattle.sched_hear.specs.Numbered.{numbered_part};
 ghost use Rattle.sched_lists.specs.Outlets.{OthersStay};
 ghost use Rattle.emitted.specs.Faults.{IsLegal};
 ghost use Rattle.sched_hear.specs.Code.Hearing.{EventLeavesOpen, BooksLeaveOpen};
@@ -20,14 +19,12 @@ ghost use Rattle.sched_hear.specs.Code.Taking.{takes_itself, took_one, IsNext, H
 ghost use Rattle.emitted.specs.declared.fault.EventFault.TheVariants.{TooManyRows, TooManyMessages};
 
 use crate::books::Books;
-use crate::numbered::part_of;
+use crate::numbered::NumberedPart;
 use crate::seated::Seated;
 use blz_boxes::Component;
 use blz_pool::Id;
-use blz_value::Str;
 use inbox::{Message, timestep};
 use sched_lists::{EventFault, Lists, Outlet, emit_at};
-use sched_text::Sent;
 use std::alloc::{AllocError, Global};
 use topo_types::{Mode, Valid};
 
@@ -205,18 +202,16 @@ impl Books {
         &mut self,
         valid: &Valid,
         component: u32,
-        sent: &Sent,
-        port: &Str,
+        part: NumberedPart,
     ) -> Result<(), EventFault>
         requires { BooksRun valid.now.view self.old }
-        ensures answer { BooksAnswer valid.now.view self.old (order (numbered_part valid.now.view component sent.now port.now) component) result }
-        ensures leaves { BooksLeaveOpen valid.now.view self.old self.new (order (numbered_part valid.now.view component sent.now port.now) component) result }
+        ensures answer { BooksAnswer valid.now.view self.old (order part component) result }
+        ensures leaves { BooksLeaveOpen valid.now.view self.old self.new (order part component) result }
     {
         valid.known();
         if !has_log(valid, component) {
             return Err(EventFault::NoInstance);
         }
-        let part = part_of(valid, component, sent, port);
         let (_, message) = self.pair_of(valid, component, 0, part)?;
         self.log(component as usize, part.port, &message)?;
         Ok(())
@@ -228,14 +223,13 @@ impl Books {
         &mut self,
         valid: &Valid,
         component: u32,
-        sent: &Sent,
-        port: &Str,
+        part: NumberedPart,
     ) -> Result<(), EventFault>
         requires { BooksRun valid.now.view self.old }
-        ensures answer { BooksAnswer valid.now.view self.old (order (numbered_part valid.now.view component sent.now port.now) component) result }
-        ensures leaves { BooksLeave valid.now.view self.old self.new (order (numbered_part valid.now.view component sent.now port.now) component) result }
+        ensures answer { BooksAnswer valid.now.view self.old (order part component) result }
+        ensures leaves { BooksLeave valid.now.view self.old self.new (order part component) result }
     {
-        let result = self.order_next(valid, component, sent, port);
+        let result = self.order_next(valid, component, part);
         self.end_at(&result);
         result
     }

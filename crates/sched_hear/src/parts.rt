@@ -12,7 +12,7 @@ ghost use Rattle.emitted.specs.Faults.{IsLimit};
 ghost use Rattle.sched_hear.specs.Code.Parts.{FeedsRise, PairAnswers, PairsAnswer, StandsAt, HaveIndexes};
 
 use crate::books::Books;
-use crate::numbered::PartNumbers;
+use crate::numbered::NumberedPart;
 use inbox::{Feed, Message};
 use sched_lists::{EventFault, Lists};
 use std::alloc::{AllocError, Global};
@@ -28,7 +28,7 @@ pub(crate) struct Pairs {
 
 // The number of the feed on which a part comes, None where there is none. Feeds go by port, stream
 // and sender, so it is a binary search.
-fn feed_of(feeds: &[Feed], part: PartNumbers) -> Option<usize>
+fn feed_of(feeds: &[Feed], part: NumberedPart) -> Option<usize>
     requires { FeedsRise feeds.now }
     ensures { result ≡ position (λ feed. feed.port == part.port && (feed.stream == part.sent.stream && feed.sender == part.sent.replica)) feeds.now }
 {
@@ -77,7 +77,7 @@ impl Books {
         valid: &Valid,
         component: u32,
         replica: u32,
-        part: PartNumbers,
+        part: NumberedPart,
     ) -> Option<usize>
         requires runs { BooksRun valid.now.view self.now }
         requires component { component < length valid.now.view.components }
@@ -89,7 +89,7 @@ impl Books {
     }
 
     // The message of a part that comes on a feed, None past the end of its emitted list.
-    fn message_of(&self, valid: &Valid, part: PartNumbers) -> Option<&Message>
+    fn message_of(&self, valid: &Valid, part: NumberedPart) -> Option<&Message>
         requires runs { BooksRun valid.now.view self.now }
         requires stream { part.sent.stream < length valid.now.view.streams }
         requires sender { part.sent.replica < stream_replicas valid.now.view part.sent.stream }
@@ -107,7 +107,7 @@ impl Books {
         valid: &Valid,
         component: u32,
         replica: u32,
-        part: PartNumbers,
+        part: NumberedPart,
     ) -> Result<(u32, Message), EventFault>
         requires runs { BooksRun valid.now.view self.now }
         requires component { component < length valid.now.view.components }
@@ -134,7 +134,7 @@ impl Books {
         valid: &Valid,
         component: u32,
         replica: u32,
-        parts: &[PartNumbers],
+        parts: &[NumberedPart],
     ) -> Result<Pairs, EventFault>
         requires runs { BooksRun valid.now.view self.now }
         requires component { component < length valid.now.view.components }

@@ -2,10 +2,10 @@
 ghost use Rattle.std.specs.Prelude.{◌≡◌, true, map};
 ghost use Rattle.topo_types.specs.Valid.{IsValid};
 ghost use Rattle.sched_hear.specs.Net.{Runs, EventAnswers, EventLeaves};
-ghost use Rattle.sched_hear.specs.Numbered.{numbered};
+ghost use Rattle.sched_hear.specs.Numbered.{numbered, event_by_numbers};
 
 use blz_boxes::Component;
-use sched_hear::{Books, component_of};
+use sched_hear::{Books, NumberedEvent, component_of, part_of};
 use sched_lists::EventFault;
 use sched_text::Event;
 use std::alloc::Global;
@@ -82,15 +82,12 @@ impl<'a> Net<'a> {
                 replica,
             } => {
                 let number = component_of(self.valid, component);
-                self.books.deliver(
-                    self.alloc,
-                    self.valid,
-                    &mut self.shells,
-                    number,
-                    *replica,
-                    sent,
-                    port,
-                )
+                let part = part_of(self.valid, number, sent, port);
+                self.numbered_event(&NumberedEvent::Deliver {
+                    part,
+                    component: number,
+                    replica: *replica,
+                })
             }
             Event::Batch {
                 component,
@@ -113,13 +110,57 @@ impl<'a> Net<'a> {
                 port,
             } => {
                 let number = component_of(self.valid, component);
-                self.books.order(self.valid, number, sent, port)
+                let part = part_of(self.valid, number, sent, port);
+                self.numbered_event(&NumberedEvent::Order {
+                    part,
+                    component: number,
+                })
             }
             Event::Take { component, replica } => {
                 let number = component_of(self.valid, component);
-                self.books
-                    .take(self.alloc, self.valid, &mut self.shells, number, *replica)
+                self.numbered_event(&NumberedEvent::Take {
+                    component: number,
+                    replica: *replica,
+                })
             }
+        }
+    }
+
+    /// Applies an event by numbers, as `event` does one with names.
+    pub fn numbered_event(&mut self, event: &NumberedEvent) -> Result<(), EventFault>
+        requires runs { Runs self.old.valid.now.view (map (λ b. loaded b) self.old.shells.items) (map (λ b. kept b) self.old.shells.items) self.old.books }
+
+        // Of all steps for which the net stood: the answer, and for which it stands then.
+        ensures answer { EventAnswers self.old.valid.now.view (map (λ b. loaded b) self.old.shells.items) (map (λ b. kept b) self.old.shells.items) self.old.books (event_by_numbers event.now) result }
+        ensures leaves { EventLeaves self.old.valid.now.view (map (λ b. loaded b) self.old.shells.items) (map (λ b. kept b) self.old.shells.items) (map (λ b. kept b) self.new.shells.items) self.old.books self.new.books (event_by_numbers event.now) result }
+
+        ensures valid { self.new.valid ≡ self.old.valid }
+        ensures kinds { map (λ b. kind b) self.new.shells.items ≡ map (λ b. kind b) self.old.shells.items }
+        ensures loaded { map (λ b. loaded b) self.new.shells.items ≡ map (λ b. loaded b) self.old.shells.items }
+    {
+        match event {
+            NumberedEvent::Deliver {
+                part,
+                component,
+                replica,
+            } => self.books.deliver(
+                self.alloc,
+                self.valid,
+                &mut self.shells,
+                *component,
+                *replica,
+                *part,
+            ),
+            NumberedEvent::Order { part, component } => {
+                self.books.order(self.valid, *component, *part)
+            }
+            NumberedEvent::Take { component, replica } => self.books.take(
+                self.alloc,
+                self.valid,
+                &mut self.shells,
+                *component,
+                *replica,
+            ),
         }
     }
 }

@@ -1,8 +1,7 @@
 use Rattle.inbox.specs.Events.{order}
-use Rattle.sched_hear.specs.Numbered.{numbered_part}
 use Rattle.sched_hear.proofs.HearingEnds.{ended_leaves}
 use Rattle.sched_hear.proofs.books.Books.order.Goals as goal
 
 pub returns-clause-leaves : goal.returns-clause-leaves
 returns-clause-leaves c loaded tables =
-    ended_leaves c.args.valid.now.view loaded tables tables c.args.self.now c.order_next-result.new.self c.end_at.new.self (order (numbered_part c.args.valid.now.view c.args.component c.args.sent.now c.args.port.now) c.args.component) c.order_next-result.result (c.order_next-result.ensures.leaves loaded tables) c.end_at.ensures
+    ended_leaves c.args.valid.now.view loaded tables tables c.args.self.now c.order_next-result.new.self c.end_at.new.self (order c.args.part c.args.component) c.order_next-result.result (c.order_next-result.ensures.leaves loaded tables) c.end_at.ensures

@@ -9,7 +9,7 @@ pub mod LeftSeen
 pub mod TablesLemmas
 pub mod MadeEnds
 pub mod PrintableNames
-pub mod MakingLines
+pub mod WrittenLemmas
 pub mod MakingRuns
 pub mod MakingApplies
 pub mod MakingTurns

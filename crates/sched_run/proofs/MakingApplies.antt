@@ -2,17 +2,13 @@
 use Rattle.std.proofs.Common.{◌≡◌, ◌∙◌, ◌<◌, ◌++◌, ℕ, suc, true, false, List, [], ◌∷◌, Option, Result, Ok, Err, IsErrAnd, length, append_assoc, refl, sym, subst, ap}
 use Rattle.bloom_ast.specs.declared.program.Program.{Program}
 use Rattle.bloom_ast.specs.Step.{Sets}
-use Rattle.sched_text.specs.declared.event.Event.{Event as NamedEvent}
 use Rattle.topo_types.specs.Data.{Data}
 use Rattle.topo_types.specs.View.{View}
 use Rattle.inbox.specs.Events.{Event}
 use Rattle.inbox.specs.Growth.{Continues}
 use Rattle.inbox.specs.Wiring.{wiring_of}
-use Rattle.sched_run.specs.Applying.{Line}
 use Rattle.sched_run.specs.Made.{event_limit, chosen_events, is_take, says_again}
-use Rattle.sched_run.specs.Making.{events_of}
 use Rattle.sched_hear.specs.Net.{EventAnswers, EventLeaves}
-use Rattle.sched_hear.specs.Numbered.{numbered}
 use Rattle.sched_run.specs.Code.Making.{EndsNet, fault_with, GoesOn, HasRun, FailsIn, AppliedSo, AppliesEvents}
 use Rattle.sched_hear.specs.declared.books.Books.{Books}
 use Rattle.emitted.specs.declared.fault.EventFault.{EventFault}
@@ -29,78 +25,79 @@ handed_fault P (Err d) fault h p = subst (λ f. P (Err f)) (sym h) p
 -- ---- one event
 
 -- a legal event is refused by no fault but those that end the net
-pub legal_fault : (v : View) (loaded : List (Option Program)) (tables : List Sets) (b : Books) (lines : List Line) (e d : Event) (result : Result (Unit {0}) EventFault) (fault : EventFault)
-    → GoesOn v loaded tables b lines e → d ≡ e → EventAnswers v loaded tables b d result → result ≡ Err fault → EndsNet fault
-legal_fault v loaded tables b lines e d result fault on same answers is =
+pub legal_fault : (v : View) (loaded : List (Option Program)) (tables : List Sets) (b : Books) (events : List Event) (e d : Event) (result : Result (Unit {0}) EventFault) (fault : EventFault)
+    → GoesOn v loaded tables b events e → d ≡ e → EventAnswers v loaded tables b d result → result ≡ Err fault → EndsNet fault
+legal_fault v loaded tables b events e d result fault on same answers is =
     let own : EventAnswers v loaded tables b e (Err fault) = subst (λ q. EventAnswers v loaded tables b e q) is (subst (λ q. EventAnswers v loaded tables b q result) same answers) in
     legal_ends _ _ on.next fault on.legal (own on.given _ on.run.stands)
 
-module _ (v : View) (loaded : List (Option Program)) (tables next : List Sets) (old new : Books) (lines after : List Line) where
+module _ (v : View) (loaded : List (Option Program)) (tables next : List Sets) (old new : Books) (events after : List Event) where
   -- where memory runs out
-  pub applies_none : (e : Event) (r : Result (Unit {0}) MakeFault) → IsErrAnd r (λ d. d ≡ NoMemory) → AppliesEvents v loaded tables next old new lines after (e ∷ []) r
-  applies_none e r none given run = handed_fault (λ q. AppliedSo v given loaded next new lines after (e ∷ []) q) r NoMemory none (no_memory v given loaded tables old lines run e)
+  pub applies_none : (e : Event) (r : Result (Unit {0}) MakeFault) → IsErrAnd r (λ d. d ≡ NoMemory) → AppliesEvents v loaded tables next old new events after (e ∷ []) r
+  applies_none e r none given run = handed_fault (λ q. AppliedSo v given loaded next new events after (e ∷ []) q) r NoMemory none (no_memory v given loaded tables old events run e)
 
   -- one too many
-  pub applies_many : (e : Event) → length lines ≡ event_limit → AppliesEvents v loaded tables next old new lines after (e ∷ []) (Err TooManyEvents)
-  applies_many e is given run = too_many v given loaded tables old lines run e is
+  pub applies_many : (e : Event) → length events ≡ event_limit → AppliesEvents v loaded tables next old new events after (e ∷ []) (Err TooManyEvents)
+  applies_many e is given run = too_many v given loaded tables old events run e is
 
-  module _ (e : Event) (named : NamedEvent) (number : ℕ) (is : numbered v named ≡ e) (result : Result (Unit {0}) EventFault) (answers : EventAnswers v loaded tables old (numbered v named) result) where
+  module _ (e d : Event) (number : ℕ) (same : d ≡ e) (result : Result (Unit {0}) EventFault) (answers : EventAnswers v loaded tables old d result) where
+    own_answers : (r : Result (Unit {0}) EventFault) → result ≡ r → EventAnswers v loaded tables old e r
+    own_answers r is = subst (λ q. EventAnswers v loaded tables old e q) is (subst (λ q. EventAnswers v loaded tables old q result) same answers)
+
     -- a fault
-    pub applies_fault : (fault : EventFault) (made : MakeFault) → result ≡ Err fault → made ≡ fault_with fault number → length lines < event_limit → number ≡ suc (length lines)
-        → AppliesEvents v loaded tables next old new lines after (e ∷ []) (Err made)
+    pub applies_fault : (fault : EventFault) (made : MakeFault) → result ≡ Err fault → made ≡ fault_with fault number → length events < event_limit → number ≡ suc (length events)
+        → AppliesEvents v loaded tables next old new events after (e ∷ []) (Err made)
     applies_fault fault made at so few first given run =
-        subst (λ f. FailsIn (wiring_of v) given (events_of v lines ++ e ∷ []) f) (sym so)
-        (subst (λ (d : Event). FailsIn (wiring_of v) given (events_of v lines ++ d ∷ []) (fault_with fault number)) is
-        (run_fails v given loaded tables next old new lines run named few number first fault (subst (λ q. EventAnswers v loaded tables old (numbered v named) q) at answers)))
+        subst (λ f. FailsIn (wiring_of v) given (events ++ e ∷ []) f) (sym so)
+        (run_fails v given loaded tables next old new events run e few number first fault (own_answers (Err fault) at))
 
     -- an event that is done
-    pub applies_done : (x : Unit {0}) → result ≡ Ok x → EventLeaves v loaded tables next old new (numbered v named) result → after ≡ lines ++ (number, named) ∷ []
-        → AppliesEvents v loaded tables next old new lines after (e ∷ []) (Ok tt)
+    pub applies_done : (x : Unit {0}) → result ≡ Ok x → EventLeaves v loaded tables next old new d result → after ≡ events ++ d ∷ []
+        → AppliesEvents v loaded tables next old new events after (e ∷ []) (Ok tt)
     applies_done x at leaves are given run =
-        subst (HasRun v given loaded next new) (sym are)
-        (run_more v given loaded tables next old new lines run named number
-        (subst (λ q. EventAnswers v loaded tables old (numbered v named) q) at answers)
-        (subst (λ q. EventLeaves v loaded tables next old new (numbered v named) q) at leaves))
+        subst (HasRun v given loaded next new) (sym (are ∙ ap (λ (q : Event). events ++ q ∷ []) same))
+        (run_more v given loaded tables next old new events run e (own_answers (Ok x) at)
+        (subst (λ q. EventLeaves v loaded tables next old new e q) at (subst (λ q. EventLeaves v loaded tables next old new q result) same leaves)))
 
 -- ---- the chosen events
 
-module _ (v : View) (loaded : List (Option Program)) (tables next : List Sets) (old new : Books) (lines after : List Line) (number : ℕ) (e : Event) where
+module _ (v : View) (loaded : List (Option Program)) (tables next : List Sets) (old new : Books) (events after : List Event) (number : ℕ) (e : Event) where
   -- the first isn't done
-  first_fails : (given : Data) (r : Result (Unit {0}) MakeFault) → AppliedSo v given loaded next new lines after (e ∷ []) r → (fault : MakeFault) → r ≡ Err fault → FailsIn (wiring_of v) given (events_of v lines ++ chosen_events number e) fault
+  first_fails : (given : Data) (r : Result (Unit {0}) MakeFault) → AppliedSo v given loaded next new events after (e ∷ []) r → (fault : MakeFault) → r ≡ Err fault → FailsIn (wiring_of v) given (events ++ chosen_events number e) fault
   first_fails given (Ok x) so fault is = cc
   first_fails given (Err d) so fault is =
       let same : d ≡ fault = cc in
       let more = chosen_first number e in
-      let longer : Continues (events_of v lines ++ e ∷ []) (events_of v lines ++ chosen_events number e) =
-      record { more = more.more; with_more = append_assoc (events_of v lines) (e ∷ []) more.more ∙ ap (λ (l : List Event). events_of v lines ++ l) more.with_more } in
-      fails_on (wiring_of v) given (events_of v lines ++ e ∷ []) (events_of v lines ++ chosen_events number e) fault longer
-      (subst (λ f. FailsIn (wiring_of v) given (events_of v lines ++ e ∷ []) f) same so)
+      let longer : Continues (events ++ e ∷ []) (events ++ chosen_events number e) =
+      record { more = more.more; with_more = append_assoc events (e ∷ []) more.more ∙ ap (λ (l : List Event). events ++ l) more.with_more } in
+      fails_on (wiring_of v) given (events ++ e ∷ []) (events ++ chosen_events number e) fault longer
+      (subst (λ f. FailsIn (wiring_of v) given (events ++ e ∷ []) f) same so)
 
-  pub chosen_fails : (late : List Line) (called r : Result (Unit {0}) MakeFault) (fault : MakeFault) → AppliesEvents v loaded tables next old new lines after (e ∷ []) called → called ≡ Err fault → IsErrAnd r (λ d. d ≡ fault)
-      → AppliesEvents v loaded tables next old new lines late (chosen_events number e) r
+  pub chosen_fails : (late : List Event) (called r : Result (Unit {0}) MakeFault) (fault : MakeFault) → AppliesEvents v loaded tables next old new events after (e ∷ []) called → called ≡ Err fault → IsErrAnd r (λ d. d ≡ fault)
+      → AppliesEvents v loaded tables next old new events late (chosen_events number e) r
   chosen_fails late called r fault applies is handed given run =
-      handed_fault (λ q. AppliedSo v given loaded next new lines late (chosen_events number e) q) r fault handed (first_fails given called (applies given run) fault is)
+      handed_fault (λ q. AppliedSo v given loaded next new events late (chosen_events number e) q) r fault handed (first_fails given called (applies given run) fault is)
 
   -- the first is done, and is all
-  pub chosen_done : (called : Result (Unit {0}) MakeFault) (x : Unit {0}) → AppliesEvents v loaded tables next old new lines after (e ∷ []) called → called ≡ Ok x
-      → AppliesEvents v loaded tables next old new lines after (chosen_events number e) (Ok tt)
-  chosen_done called x applies is given run = subst (λ q. AppliedSo v given loaded next new lines after (e ∷ []) q) is (applies given run)
+  pub chosen_done : (called : Result (Unit {0}) MakeFault) (x : Unit {0}) → AppliesEvents v loaded tables next old new events after (e ∷ []) called → called ≡ Ok x
+      → AppliesEvents v loaded tables next old new events after (chosen_events number e) (Ok tt)
+  chosen_done called x applies is given run = subst (λ q. AppliedSo v given loaded next new events after (e ∷ []) q) is (applies given run)
 
   -- and once more
-  pub chosen_again : (last : List Sets) (newest : Books) (late : List Line) (called again : Result (Unit {0}) MakeFault) (x : Unit {0}) → AppliesEvents v loaded tables next old new lines after (e ∷ []) called → called ≡ Ok x
-      → events_of v after ≡ events_of v lines ++ e ∷ [] → chosen_events number e ≡ e ∷ e ∷ []
-      → AppliesEvents v loaded next last new newest after late (e ∷ []) again → AppliesEvents v loaded tables last old newest lines late (chosen_events number e) again
+  pub chosen_again : (last : List Sets) (newest : Books) (late : List Event) (called again : Result (Unit {0}) MakeFault) (x : Unit {0}) → AppliesEvents v loaded tables next old new events after (e ∷ []) called → called ≡ Ok x
+      → after ≡ events ++ e ∷ [] → chosen_events number e ≡ e ∷ e ∷ []
+      → AppliesEvents v loaded next last new newest after late (e ∷ []) again → AppliesEvents v loaded tables last old newest events late (chosen_events number e) again
   chosen_again last newest late called again x applies is are twice more given run =
-      let first : HasRun v given loaded next new after = subst (λ q. AppliedSo v given loaded next new lines after (e ∷ []) q) is (applies given run) in
+      let first : HasRun v given loaded next new after = subst (λ q. AppliedSo v given loaded next new events after (e ∷ []) q) is (applies given run) in
       by again (more given first)
     where
-      joined : events_of v after ++ e ∷ [] ≡ events_of v lines ++ chosen_events number e
+      joined : after ++ e ∷ [] ≡ events ++ chosen_events number e
       joined =
           ap (λ (l : List Event). l ++ e ∷ []) are
-          ∙ append_assoc (events_of v lines) (e ∷ []) (e ∷ [])
-          ∙ ap (λ (l : List Event). events_of v lines ++ l) (sym twice)
+          ∙ append_assoc events (e ∷ []) (e ∷ [])
+          ∙ ap (λ (l : List Event). events ++ l) (sym twice)
 
-      by : (r : Result (Unit {0}) MakeFault) → AppliedSo v given loaded last newest after late (e ∷ []) r → AppliedSo v given loaded last newest lines late (chosen_events number e) r
+      by : (r : Result (Unit {0}) MakeFault) → AppliedSo v given loaded last newest after late (e ∷ []) r → AppliedSo v given loaded last newest events late (chosen_events number e) r
       by (Ok y) so = so
       by (Err fault) so = subst (λ (l : List Event). FailsIn (wiring_of v) given l fault) joined so
 
@@ -109,10 +106,10 @@ pub says_twice : (number : ℕ) (e : Event) → is_take e ≡ false → says_aga
 says_twice number e other again = chosen_twice number e (rw (other, again) refl)
 
 -- the second of them is seen by an equal topology and equal programs
-pub chosen_there : (v also : View) (same : also ≡ v) (loaded running : List (Option Program)) (programs : running ≡ loaded) (tables next : List Sets) (old new : Books) (lines after : List Line) (number : ℕ) (e : Event) (last : List Sets) (newest : Books) (late : List Line) (called again : Result (Unit {0}) MakeFault) (x : Unit {0})
-    → AppliesEvents v loaded tables next old new lines after (e ∷ []) called → called ≡ Ok x → events_of v after ≡ events_of v lines ++ e ∷ [] → chosen_events number e ≡ e ∷ e ∷ []
-    → AppliesEvents also running next last new newest after late (e ∷ []) again → AppliesEvents v loaded tables last old newest lines late (chosen_events number e) again
-chosen_there v also same loaded running programs tables next old new lines after number e last newest late called again x applies is are twice more =
-    chosen_again v loaded tables next old new lines after number e last newest late called again x applies is are twice
+pub chosen_there : (v also : View) (same : also ≡ v) (loaded running : List (Option Program)) (programs : running ≡ loaded) (tables next : List Sets) (old new : Books) (events after : List Event) (number : ℕ) (e : Event) (last : List Sets) (newest : Books) (late : List Event) (called again : Result (Unit {0}) MakeFault) (x : Unit {0})
+    → AppliesEvents v loaded tables next old new events after (e ∷ []) called → called ≡ Ok x → after ≡ events ++ e ∷ [] → chosen_events number e ≡ e ∷ e ∷ []
+    → AppliesEvents also running next last new newest after late (e ∷ []) again → AppliesEvents v loaded tables last old newest events late (chosen_events number e) again
+chosen_there v also same loaded running programs tables next old new events after number e last newest late called again x applies is are twice more =
+    chosen_again v loaded tables next old new events after number e last newest late called again x applies is are twice
     (subst (λ (u : View). AppliesEvents u loaded next last new newest after late (e ∷ []) again) same
     (subst (λ (l : List (Option Program)). AppliesEvents also l next last new newest after late (e ∷ []) again) programs more))

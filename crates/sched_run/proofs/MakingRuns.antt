@@ -1,10 +1,9 @@
--- An event after those of some lines: where it is done, the net has run through one line more, and where it isn't, the reason is that of the event.
+-- An event after others: where it is done, the net has run through one event more, and where it isn't, the reason is that of the event.
 use Rattle.std.proofs.Common.{◌≡◌, ◌∙◌, ◌<◌, ◌++◌, ℕ, suc, List, [], ◌∷◌, Option, None, Some, Result, Ok, Err, map, length, refl, sym, subst, ap}
 use Rattle.std.specs.Result.{result_unwrap_or}
-use Rattle.std.proofs.lemmas.List.{map-append, length-map}
+use Rattle.std.proofs.lemmas.List.{map-append}
 use Rattle.bloom_ast.specs.declared.program.Program.{Program}
 use Rattle.bloom_ast.specs.Step.{Sets}
-use Rattle.sched_text.specs.declared.event.Event.{Event as NamedEvent}
 use Rattle.topo_types.specs.Data.{Data}
 use Rattle.topo_types.specs.View.{View}
 use Rattle.inbox.specs.Events.{Step, Event, event, Refusal, no_instance, no_message, nothing_to_take}
@@ -15,13 +14,10 @@ use Rattle.inbox.proofs.Executions.Appending.{legal_more}
 use Rattle.inbox.proofs.Executions.Results.{Ok_same}
 use Rattle.inbox.proofs.Lists.Growing.{continues_itself, continues_on}
 use Rattle.sched_hear.specs.Answers.{Answers, answer_at, answer_to, fault_at}
-use Rattle.sched_run.specs.Applying.{Line, steps_of}
 use Rattle.sched_lists.specs.Limits.{Limit, too_many_rows, too_many_messages, limit_of_event}
 use Rattle.sched_run.specs.Made.{event_limit, execution_after}
-use Rattle.sched_run.specs.Making.{events_of}
 use Rattle.sched_hear.specs.Net.{Stands, EventAnswers, EventLeaves, execution_in}
-use Rattle.sched_hear.specs.Numbered.{numbered}
-use Rattle.sched_run.specs.Code.Making.{EndsNet, fault_with, MeetNone, HasRun, MeetsLimit, FailsAt, FailsIn}
+use Rattle.sched_run.specs.Code.Making.{EndsNet, fault_with, HasRun, MeetsLimit, FailsAt, FailsIn}
 use Rattle.sched_hear.specs.declared.books.Books.{Books}
 use Rattle.emitted.specs.declared.fault.EventFault.{EventFault}
 use Rattle.emitted.specs.declared.fault.EventFault.TheVariants.{NoInstance, NoMessage, NothingToTake, TooManyRows, TooManyMessages, NoMemory}
@@ -67,35 +63,19 @@ messages_met (Err no_instance) limit e = cc
 messages_met (Err no_message) limit e = cc
 messages_met (Err nothing_to_take) limit e = cc
 
--- ---- lines
+-- ---- events
 
--- the steps of lines are those of their events
-steps_are : (v : View) (lines : List Line) → map event (events_of v lines) ≡ steps_of v lines
-steps_are v [] = refl
-steps_are v (line ∷ lines) = ap (λ (l : List Step). event (numbered v line.1) ∷ l) (steps_are v lines)
+module _ (v : View) (given : Data) (loaded : List (Option Program)) (tables : List Sets) (b : Books) (events : List Event) (stands : Stands v given (map event events) loaded tables b) where
+  -- they are legal, and the net stands for the execution after them
+  pub events_run : execution_of_events (wiring_of v) given events ≡ Ok (execution_in stands.books)
+  events_run = stands.books.stands.run
 
-module _ (v : View) (given : Data) (loaded : List (Option Program)) (tables : List Sets) (b : Books) (lines : List Line) (stands : Stands v given (steps_of v lines) loaded tables b) where
-  -- their events are legal, and the net stands for the execution after them
-  pub events_run : execution_of_events (wiring_of v) given (events_of v lines) ≡ Ok (execution_in stands.books)
-  events_run = ap (execution_of (wiring_of v) given) (steps_are v lines) ∙ stands.books.stands.run
-
-  pub after_is : execution_after (wiring_of v) given (events_of v lines) ≡ execution_in stands.books
+  pub after_is : execution_after (wiring_of v) given events ≡ execution_in stands.books
   after_is = ap (λ r. result_unwrap_or r first_execution) events_run
-
--- one line more
-pub events_more : (v : View) (lines : List Line) (number : ℕ) (named : NamedEvent) (e : Event) → numbered v named ≡ e → events_of v (lines ++ (number, named) ∷ []) ≡ events_of v lines ++ e ∷ []
-events_more v lines number named e is =
-    map-append (λ (line : Line). numbered v line.1) lines ((number, named) ∷ []) ∙ ap (λ (d : Event). events_of v lines ++ d ∷ []) is
-
-steps_more : (v : View) (lines : List Line) (number : ℕ) (named : NamedEvent) → steps_of v (lines ++ (number, named) ∷ []) ≡ steps_of v lines ++ event (numbered v named) ∷ []
-steps_more v lines number named = map-append (λ (line : Line). event (numbered v line.1)) lines ((number, named) ∷ [])
-
-pub length_events : (v : View) (lines : List Line) → length (events_of v lines) ≡ length lines
-length_events v lines = length-map lines (λ (line : Line). numbered v line.1)
 
 -- ---- one event
 
-module _ (v : View) (given : Data) (loaded : List (Option Program)) (tables next : List Sets) (old new : Books) (lines : List Line) (run : HasRun v given loaded tables old lines) (named : NamedEvent) where
+module _ (v : View) (given : Data) (loaded : List (Option Program)) (tables next : List Sets) (old new : Books) (events : List Event) (run : HasRun v given loaded tables old events) (e : Event) where
   abbrev w : Wiring
   w = wiring_of v
 
@@ -103,66 +83,64 @@ module _ (v : View) (given : Data) (loaded : List (Option Program)) (tables next
   x = execution_in run.stands.books
 
   -- it is done
-  pub run_more : (number : ℕ) → EventAnswers v loaded tables old (numbered v named) (Ok tt) → EventLeaves v loaded tables next old new (numbered v named) (Ok tt) → HasRun v given loaded next new (lines ++ (number, named) ∷ [])
-  run_more number answers leaves =
-      let e : Event = numbered v named in
-      let none : limit_of_event w given e x ≡ None = none_met (after_event w given e x) (limit_of_event w given e x) (answers given (steps_of v lines) run.stands) in
+  pub run_more : EventAnswers v loaded tables old e (Ok tt) → EventLeaves v loaded tables next old new e (Ok tt) → HasRun v given loaded next new (events ++ e ∷ [])
+  run_more answers leaves =
+      let none : limit_of_event w given e x ≡ None = none_met (after_event w given e x) (limit_of_event w given e x) (answers given (map event events) run.stands) in
       record {
-        stands = subst (λ (steps : List Step). Stands v given steps loaded next new) (sym (steps_more v lines number named)) (leaves given (steps_of v lines) run.stands);
-        unmet = subst (MeetNone w given) (sym (events_more v lines number named e refl))
-            (none_more w given (events_of v lines) e run.unmet (ap (limit_of_event w given e) (after_is v given loaded tables old lines run.stands) ∙ none));
+        stands = subst (λ (steps : List Step). Stands v given steps loaded next new) (sym (map-append event events (e ∷ []))) (leaves given (map event events) run.stands);
+        unmet = none_more w given events e run.unmet (ap (limit_of_event w given e) (after_is v given loaded tables old events run.stands) ∙ none);
       }
 
   -- it isn't
-  fails_here : (fault : MakeFault) → FailsAt w given (events_of v lines) (numbered v named) fault → FailsIn w given (events_of v lines ++ numbered v named ∷ []) fault
+  fails_here : (fault : MakeFault) → FailsAt w given events e fault → FailsIn w given (events ++ e ∷ []) fault
   fails_here fault fails = record {
-    before = events_of v lines;
-    due = numbered v named;
-    begins = continues_itself (events_of v lines ++ numbered v named ∷ []);
+    before = events;
+    due = e;
+    begins = continues_itself (events ++ e ∷ []);
     unmet = run.unmet;
     fails = fails;
   }
 
-  module _ (few : length lines < event_limit) (number : ℕ) (is : number ≡ suc (length lines)) where
-    limit_here : (limit : Limit) → limit_of_event w given (numbered v named) x ≡ Some limit → (number ≡ suc (length (events_of v lines))) × MeetsLimit w given (events_of v lines) (numbered v named) limit
+  module _ (few : length events < event_limit) (number : ℕ) (is : number ≡ suc (length events)) where
+    limit_here : (limit : Limit) → limit_of_event w given e x ≡ Some limit → (number ≡ suc (length events)) × MeetsLimit w given events e limit
     limit_here limit met = (
-      is ∙ ap suc (sym (length_events v lines)),
+      is,
       record {
-        few = subst (λ n. n < event_limit) (sym (length_events v lines)) few;
-        meets = ap (limit_of_event w given (numbered v named)) (after_is v given loaded tables old lines run.stands) ∙ met;
+        few = few;
+        meets = ap (limit_of_event w given e) (after_is v given loaded tables old events run.stands) ∙ met;
       },
     )
 
-    fails_at : (fault : EventFault) → EventAnswers v loaded tables old (numbered v named) (Err fault) → FailsAt w given (events_of v lines) (numbered v named) (fault_with fault number)
+    fails_at : (fault : EventFault) → EventAnswers v loaded tables old e (Err fault) → FailsAt w given events e (fault_with fault number)
     fails_at NoInstance answers = tt
     fails_at NoMessage answers = tt
     fails_at NothingToTake answers = tt
-    fails_at TooManyRows answers = limit_here too_many_rows (rows_met (after_event w given (numbered v named) x) (limit_of_event w given (numbered v named) x) (answers given (steps_of v lines) run.stands (λ bad. cc)))
-    fails_at TooManyMessages answers = limit_here too_many_messages (messages_met (after_event w given (numbered v named) x) (limit_of_event w given (numbered v named) x) (answers given (steps_of v lines) run.stands (λ bad. cc)))
+    fails_at TooManyRows answers = limit_here too_many_rows (rows_met (after_event w given e x) (limit_of_event w given e x) (answers given (map event events) run.stands (λ bad. cc)))
+    fails_at TooManyMessages answers = limit_here too_many_messages (messages_met (after_event w given e x) (limit_of_event w given e x) (answers given (map event events) run.stands (λ bad. cc)))
     fails_at NoMemory answers = tt
 
-    pub run_fails : (fault : EventFault) → EventAnswers v loaded tables old (numbered v named) (Err fault) → FailsIn w given (events_of v lines ++ numbered v named ∷ []) (fault_with fault number)
+    pub run_fails : (fault : EventFault) → EventAnswers v loaded tables old e (Err fault) → FailsIn w given (events ++ e ∷ []) (fault_with fault number)
     run_fails fault answers = fails_here (fault_with fault number) (fails_at fault answers)
 
-module _ (v : View) (given : Data) (loaded : List (Option Program)) (tables : List Sets) (b : Books) (lines : List Line) (run : HasRun v given loaded tables b lines) (e : Event) where
+module _ (v : View) (given : Data) (loaded : List (Option Program)) (tables : List Sets) (b : Books) (events : List Event) (run : HasRun v given loaded tables b events) (e : Event) where
   -- memory runs out before it or after it
-  pub no_memory : FailsIn (wiring_of v) given (events_of v lines ++ e ∷ []) make_fault.NoMemory
+  pub no_memory : FailsIn (wiring_of v) given (events ++ e ∷ []) make_fault.NoMemory
   no_memory = record {
-    before = events_of v lines;
+    before = events;
     due = e;
-    begins = continues_itself (events_of v lines ++ e ∷ []);
+    begins = continues_itself (events ++ e ∷ []);
     unmet = run.unmet;
     fails = tt;
   }
 
   -- it is one too many
-  pub too_many : length lines ≡ event_limit → FailsIn (wiring_of v) given (events_of v lines ++ e ∷ []) make_fault.TooManyEvents
+  pub too_many : length events ≡ event_limit → FailsIn (wiring_of v) given (events ++ e ∷ []) make_fault.TooManyEvents
   too_many is = record {
-    before = events_of v lines;
+    before = events;
     due = e;
-    begins = continues_itself (events_of v lines ++ e ∷ []);
+    begins = continues_itself (events ++ e ∷ []);
     unmet = run.unmet;
-    fails = length_events v lines ∙ is;
+    fails = is;
   }
 
 -- ---- one event after another
@@ -183,8 +161,8 @@ events_legal w given events e x y run legal =
     ap (execution_of w given) (map-append event events (e ∷ [])) ∙ legal_more w given (map event events) (event e) x y run legal
 
 -- where an event was legal, the net stands for what it made
-pub next_is : (v : View) (given : Data) (loaded : List (Option Program)) (tables next : List Sets) (old new : Books) (lines after : List Line) (e : Event) (y : Execution) (run : HasRun v given loaded tables old lines) (later : HasRun v given loaded next new after)
-    → events_of v after ≡ events_of v lines ++ e ∷ [] → after_event (wiring_of v) given e (execution_in run.stands.books) ≡ Ok y → execution_in later.stands.books ≡ y
-next_is v given loaded tables next old new lines after e y run later are legal =
-    Ok_same (execution_of_events (wiring_of v) given (events_of v after)) (execution_in later.stands.books) y (events_run v given loaded next new after later.stands)
-    (ap (execution_of_events (wiring_of v) given) are ∙ events_legal (wiring_of v) given (events_of v lines) e (execution_in run.stands.books) y (events_run v given loaded tables old lines run.stands) legal)
+pub next_is : (v : View) (given : Data) (loaded : List (Option Program)) (tables next : List Sets) (old new : Books) (events after : List Event) (e : Event) (y : Execution) (run : HasRun v given loaded tables old events) (later : HasRun v given loaded next new after)
+    → after ≡ events ++ e ∷ [] → after_event (wiring_of v) given e (execution_in run.stands.books) ≡ Ok y → execution_in later.stands.books ≡ y
+next_is v given loaded tables next old new events after e y run later are legal =
+    Ok_same (execution_of_events (wiring_of v) given after) (execution_in later.stands.books) y (events_run v given loaded next new after later.stands)
+    (ap (execution_of_events (wiring_of v) given) are ∙ events_legal (wiring_of v) given events e (execution_in run.stands.books) y (events_run v given loaded tables old events run.stands) legal)

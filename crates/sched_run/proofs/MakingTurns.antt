@@ -1,5 +1,5 @@
 -- A turn makes the chosen events, and what ends the turns is the answer to the seed.
-use Rattle.std.proofs.Common.{◌≡◌, ◌∙◌, ◌+◌, ◌<◌, ◌≤◌, ◌%◌, ◌++◌, ℕ, suc, List, [], ◌∷◌, Option, Some, Result, Ok, Err, IsErrAnd, length, sum, slice_get, refl, sym, subst, ap, arith}
+use Rattle.std.proofs.Common.{◌≡◌, ◌∙◌, ◌+◌, ◌<◌, ◌≤◌, ◌%◌, ◌++◌, ℕ, suc, List, [], ◌∷◌, Option, Some, Result, Ok, Err, IsErrAnd, length, map, sum, slice_get, refl, sym, subst, ap, arith}
 use Rattle.std.proofs.lemmas.List.{length-append}
 use Rattle.std.proofs.lemmas.Option.{get_or_from_slice_get}
 use Rattle.bloom_ast.specs.declared.program.Program.{Program}
@@ -7,18 +7,17 @@ use Rattle.bloom_ast.specs.Step.{Sets}
 use Rattle.topo_types.specs.Data.{Data}
 use Rattle.topo_types.specs.View.{View}
 use Rattle.inbox.specs.Completeness.{left_count}
-use Rattle.inbox.specs.Events.{Event, Step}
+use Rattle.inbox.specs.Events.{Event, Step, event}
 use Rattle.inbox.specs.Executions.{Execution}
 use Rattle.inbox.specs.Growth.{Continues}
 use Rattle.inbox.specs.Wiring.{Wiring, wiring_of}
 use Rattle.inbox.proofs.Lists.Growing.{continues_with}
 use Rattle.sched_turns.specs.Draws.{next_state, drawn_number}
-use Rattle.sched_run.specs.Applying.{Line, steps_of}
 use Rattle.sched_lists.specs.Limits.{Limit, too_many_rows, too_many_messages, limit_of_event}
 use Rattle.sched_run.specs.Made.{event_limit, Course, after_turns, chosen_events, execution_after, fault_by, made_of, made_within, open_works, turn, turn_among, AnswersSo}
-use Rattle.sched_run.specs.Making.{events_of}
+use Rattle.sched_run.specs.Naming.{CanBeWritten}
 use Rattle.sched_hear.specs.Net.{BooksStand, execution_in}
-use Rattle.sched_run.specs.Code.Making.{AppliedSo, AppliesEvents, AreLines, MeetNone, HasRun, HasTurned, IsReady, FailsAt, FailsIn, TurnedSo, Turns}
+use Rattle.sched_run.specs.Code.Making.{AppliedSo, AppliesEvents, MeetNone, HasRun, HasTurned, IsReady, FailsAt, FailsIn, TurnedSo, Turns}
 use Rattle.sched_run.specs.Code.Watch.{IsWatched}
 use Rattle.sched_run.specs.Code.Works.{AreShown, AreWorksOf, IsOpenWork, work_event}
 use Rattle.sched_hear.specs.declared.books.Books.{Books}
@@ -28,11 +27,11 @@ use Rattle.sched_run.specs.declared.making.Making.{Making}
 use Rattle.sched_run.specs.declared.works.Work.{Work}
 use Rattle.sched_run.specs.declared.works.Works.{Works}
 use Rattle.sched_run.proofs.MakingApplies.{handed_fault}
-use Rattle.sched_run.proofs.MakingLines.{few_lines}
-use Rattle.sched_run.proofs.MakingRuns.{after_is, events_run, length_events}
+use Rattle.sched_run.proofs.MakingRuns.{after_is, events_run}
 use Rattle.sched_run.proofs.FrontsLemmas.{front_length}
 use Rattle.sched_run.proofs.TurnsLemmas.{chosen_first, limit_on_front, made_ends, made_overflows, made_stops}
 use Rattle.sched_run.proofs.WorksLemmas.{total_is}
+use Rattle.sched_run.proofs.WrittenLemmas.{written_there}
 
 -- ---- the chosen event
 
@@ -49,15 +48,13 @@ among_chosen course (first ∷ works) e chosen =
 pub some_more : (number : ℕ) (e : Event) → 1 ≤ length (chosen_events number e)
 some_more number e = front_length (e ∷ []) (chosen_events number e) (chosen_first number e)
 
--- so there are more lines
-pub longer_lines : (v : View) (old new : List Line) (number : ℕ) (e : Event) → events_of v new ≡ events_of v old ++ chosen_events number e → length old < length new
-longer_lines v old new number e are =
-    let before : length (events_of v old) ≡ length old = length_events v old in
-    let after : length (events_of v new) ≡ length new = length_events v new in
-    let all : length (events_of v new) ≡ length (events_of v old ++ chosen_events number e) = ap (λ (l : List Event). length l) are in
-    let longer : length (events_of v old ++ chosen_events number e) ≡ length (events_of v old) + length (chosen_events number e) = length-append (events_of v old) (chosen_events number e) in
+-- so there are more events
+pub longer_made : (old new : List Event) (number : ℕ) (e : Event) → new ≡ old ++ chosen_events number e → length old < length new
+longer_made old new number e are =
+    let all : length new ≡ length (old ++ chosen_events number e) = ap (λ (l : List Event). length l) are in
+    let longer : length (old ++ chosen_events number e) ≡ length old + length (chosen_events number e) = length-append old (chosen_events number e) in
     let some : 1 ≤ length (chosen_events number e) = some_more number e in
-    omega (arith, before, after, all, longer, some)
+    omega (arith, all, longer, some)
 
 module _ (v : View) (given : Data) (seed : ℕ) (loaded : List (Option Program)) (tables : List Sets) (b : Books) (m : Making) (turned : HasTurned v given seed loaded tables b m) where
   abbrev w : Wiring
@@ -67,10 +64,10 @@ module _ (v : View) (given : Data) (seed : ℕ) (loaded : List (Option Program))
   x = execution_in turned.run.stands.books
 
   abbrev events : List Event
-  events = events_of v m.lines.items
+  events = m.made
 
   after : execution_after w given events ≡ x
-  after = after_is v given loaded tables b m.lines.items turned.run.stands
+  after = after_is v given loaded tables b m.made turned.run.stands
 
   -- one turn more, of whose draw this event is chosen
   module _ (e : Event) (chosen : slice_get (open_works w given x) (drawn_number (next_state m.draws) % length (open_works w given x)) ≡ Some e) where
@@ -84,7 +81,7 @@ module _ (v : View) (given : Data) (seed : ℕ) (loaded : List (Option Program))
         ∙ among_chosen (record { state = m.draws; events = events }) (open_works w given x) e chosen
 
     -- so it has turned once more
-    pub turned_more : (next : List Sets) (new : Books) (n : Making) → HasRun v given loaded next new n.lines.items → n.draws ≡ next_state m.draws → events_of v n.lines.items ≡ events ++ chosen_events drawn e
+    pub turned_more : (next : List Sets) (new : Books) (n : Making) → HasRun v given loaded next new n.made → n.draws ≡ next_state m.draws → n.made ≡ events ++ chosen_events drawn e
         → HasTurned v given seed loaded next new n
     turned_more next new n run on are = record {
       run = run;
@@ -95,11 +92,9 @@ module _ (v : View) (given : Data) (seed : ℕ) (loaded : List (Option Program))
       few =
           let longer : length (events ++ chosen_events drawn e) ≡ length events + length (chosen_events drawn e) = length-append events (chosen_events drawn e) in
           let some : 1 ≤ length (chosen_events drawn e) = some_more drawn e in
-          let old : length events ≡ length m.lines.items = length_events v m.lines.items in
-          let new : length (events_of v n.lines.items) ≡ length n.lines.items = length_events v n.lines.items in
-          let all : length (events_of v n.lines.items) ≡ length (events ++ chosen_events drawn e) = ap (λ (l : List Event). length l) are in
-          let few : turned.turns ≤ length m.lines.items = turned.few in
-          omega (arith, longer, some, old, new, all, few);
+          let all : length n.made ≡ length (events ++ chosen_events drawn e) = ap (λ (l : List Event). length l) are in
+          let few : turned.turns ≤ length m.made = turned.few in
+          omega (arith, longer, some, all, few);
     }
 
 -- ---- what is answered
@@ -144,30 +139,24 @@ module _ (w : Wiring) (given : Data) (seed turns : ℕ) (few : turns ≤ event_l
   pub fails_so : (fault : MakeFault) → FailsIn w given events fault → AnswersSo w given (made_of w given seed) (Err fault)
   fails_so fault fails = fails_at fault fails fails.fails
 
--- where nothing is open the lines are answered, and nothing is left
+-- where nothing is open the events are answered, and nothing is left
 pub ends_so : (v : View) (given : Data) (seed : ℕ) (loaded : List (Option Program)) (tables : List Sets) (b : Books) (m : Making) (turned : HasTurned v given seed loaded tables b m)
-    → length m.lines.items ≤ event_limit → open_works (wiring_of v) given (execution_in turned.run.stands.books) ≡ [] → left_count (wiring_of v) given (execution_in turned.run.stands.books) ≡ 0
-    → AnswersSo (wiring_of v) given (made_of (wiring_of v) given seed) (Ok (events_of v m.lines.items))
+    → length m.made ≤ event_limit → open_works (wiring_of v) given (execution_in turned.run.stands.books) ≡ [] → left_count (wiring_of v) given (execution_in turned.run.stands.books) ≡ 0
+    → AnswersSo (wiring_of v) given (made_of (wiring_of v) given seed) (Ok m.made)
 ends_so v given seed loaded tables b m turned few none left =
     let w : Wiring = wiring_of v in
-    let events : List Event = events_of v m.lines.items in
-    let long : length events ≡ length m.lines.items = length_events v m.lines.items in
-    let turns : turned.turns ≤ length m.lines.items = turned.few in
-    let after : execution_after w given events ≡ execution_in turned.run.stands.books = after_is v given loaded tables b m.lines.items turned.run.stands in (
+    let after : execution_after w given m.made ≡ execution_in turned.run.stands.books = after_is v given loaded tables b m.made turned.run.stands in (
       made_is w given seed
-          ∙ made_ends w given seed event_limit turned.turns events (sym (ap (λ (c : Course). c.events) turned.course)) (few_turns turned.turns (length m.lines.items) event_limit turns few)
-          (ap (open_works w given) after ∙ none) (few_events (length events) (length m.lines.items) event_limit long few) turned.run.unmet,
+          ∙ made_ends w given seed event_limit turned.turns m.made (sym (ap (λ (c : Course). c.events) turned.course)) (few_turns turned.turns (length m.made) event_limit turned.few few)
+          (ap (open_works w given) after ∙ none) few turned.run.unmet,
       record {
-        legal = events_run v given loaded tables b m.lines.items turned.run.stands ∙ ap (λ (y : Execution). Ok y) (sym after);
+        legal = events_run v given loaded tables b m.made turned.run.stands ∙ ap (λ (y : Execution). Ok y) (sym after);
         left = ap (left_count w given) after ∙ left;
       },
     )
   where
     few_turns : (a b most : ℕ) → a ≤ b → b ≤ most → a ≤ suc most
     few_turns a b most low high = omega arith
-
-    few_events : (a b most : ℕ) → a ≡ b → b ≤ most → a ≤ most
-    few_events a b most is high = omega arith
 
 -- ---- what a turn says of whatever data and seed
 
@@ -184,33 +173,33 @@ chosen_is v b k index number total draws now work works shown is at all drawn ne
     at ∙ ap (λ n. n % total) (drawn ∙ ap drawn_number next) ∙ ap (λ n. drawn_number (next_state draws) % n) many in
     subst (λ n. slice_get (open_works (wiring_of v) given (execution_in stand)) n ≡ Some (work_event work)) same (is given steps stand)
 
-module _ (v : View) (loaded : List (Option Program)) (tables next : List Sets) (old new : Books) (before after : Making) (lines : List Line) (number now : ℕ) (e : Event) (chosen : Chooses v old before.draws e) (drawn : number ≡ drawn_number now) (state : now ≡ next_state before.draws)
-    (called : Result (Unit {0}) MakeFault) (applies : AppliesEvents v loaded tables next old new before.lines.items lines (chosen_events number e) called) where
+module _ (v : View) (loaded : List (Option Program)) (tables next : List Sets) (old new : Books) (before after : Making) (later : List Event) (number now : ℕ) (e : Event) (chosen : Chooses v old before.draws e) (drawn : number ≡ drawn_number now) (state : now ≡ next_state before.draws)
+    (called : Result (Unit {0}) MakeFault) (applies : AppliesEvents v loaded tables next old new before.made later (chosen_events number e) called) where
   number_is : chosen_events number e ≡ chosen_events (drawn_number (next_state before.draws)) e
   number_is = ap (λ n. chosen_events n e) (drawn ∙ ap drawn_number state)
 
   -- the turn is made
-  pub turn_made : (x : Unit {0}) → called ≡ Ok x → after.lines.items ≡ lines → after.draws ≡ now → events_of v lines ≡ events_of v before.lines.items ++ chosen_events number e
+  pub turn_made : (x : Unit {0}) → called ≡ Ok x → after.made ≡ later → after.draws ≡ now → later ≡ before.made ++ chosen_events number e
       → Turns v loaded tables next old new before after (Ok tt)
   turn_made x is same drawn_on are given seed turned =
-      turned_more v given seed loaded tables old before turned e (chosen given (steps_of v before.lines.items) turned.run.stands.books) next new after
-      (subst (HasRun v given loaded next new) (sym same) (subst (λ q. AppliedSo v given loaded next new before.lines.items lines (chosen_events number e) q) is (applies given turned.run)))
+      turned_more v given seed loaded tables old before turned e (chosen given (map event before.made) turned.run.stands.books) next new after
+      (subst (HasRun v given loaded next new) (sym same) (subst (λ q. AppliedSo v given loaded next new before.made later (chosen_events number e) q) is (applies given turned.run)))
       (drawn_on ∙ state)
-      (ap (events_of v) same ∙ are ∙ ap (λ (l : List Event). events_of v before.lines.items ++ l) number_is)
+      (same ∙ are ∙ ap (λ (l : List Event). before.made ++ l) number_is)
 
-  failed : (given : Data) (r : Result (Unit {0}) MakeFault) → AppliedSo v given loaded next new before.lines.items lines (chosen_events number e) r → (fault : MakeFault) → r ≡ Err fault → FailsIn (wiring_of v) given (events_of v before.lines.items ++ chosen_events number e) fault
+  failed : (given : Data) (r : Result (Unit {0}) MakeFault) → AppliedSo v given loaded next new before.made later (chosen_events number e) r → (fault : MakeFault) → r ≡ Err fault → FailsIn (wiring_of v) given (before.made ++ chosen_events number e) fault
   failed given (Ok x) so fault is = cc
-  failed given (Err d) so fault is = let same : d ≡ fault = cc in subst (λ f. FailsIn (wiring_of v) given (events_of v before.lines.items ++ chosen_events number e) f) same so
+  failed given (Err d) so fault is = let same : d ≡ fault = cc in subst (λ f. FailsIn (wiring_of v) given (before.made ++ chosen_events number e) f) same so
 
   -- or an event isn't done
-  pub turn_fails : (late : Making) (last : List Sets) (newest : Books) (r : Result (Unit {0}) MakeFault) (fault : MakeFault) → AreLines before.lines.items → called ≡ Err fault → IsErrAnd r (λ d. d ≡ fault) → Turns v loaded tables last old newest before late r
-  turn_fails late last newest r fault lined is handed given seed turned =
-      let events : List Event = events_of v before.lines.items ++ chosen_events number e in
+  pub turn_fails : (late : Making) (last : List Sets) (newest : Books) (r : Result (Unit {0}) MakeFault) (fault : MakeFault) → CanBeWritten v before.made → called ≡ Err fault → IsErrAnd r (λ d. d ≡ fault) → Turns v loaded tables last old newest before late r
+  turn_fails late last newest r fault can is handed given seed turned =
+      let events : List Event = before.made ++ chosen_events number e in
       let are : (after_turns (wiring_of v) given seed (suc turned.turns)).events ≡ events =
-      ap (λ (c : Course). c.events) (turns_more v given seed loaded tables old before turned e (chosen given (steps_of v before.lines.items) turned.run.stands.books))
-      ∙ ap (λ (l : List Event). events_of v before.lines.items ++ l) (sym number_is) in
+      ap (λ (c : Course). c.events) (turns_more v given seed loaded tables old before turned e (chosen given (map event before.made) turned.run.stands.books))
+      ∙ ap (λ (l : List Event). before.made ++ l) (sym number_is) in
       handed_fault (λ q. TurnedSo v given seed loaded last newest late q) r fault handed
-      (fails_so (wiring_of v) given seed turned.turns (few_turns turned.turns (length before.lines.items) event_limit turned.few (few_lines before.lines.items lined)) events are fault
+      (fails_so (wiring_of v) given seed turned.turns (few_turns turned.turns (length before.made) event_limit turned.few can.few) events are fault
       (failed given called (applies given turned.run) fault is))
     where
       few_turns : (a b most : ℕ) → a ≤ b → b ≤ most → a ≤ most
@@ -218,8 +207,8 @@ module _ (v : View) (loaded : List (Option Program)) (tables next : List Sets) (
 
 -- ---- what is shown, by an equal topology
 
-pub ready_on : (v also : View) → also ≡ v → (b : Books) (m : Making) → AreWorksOf also m.watch.works → IsWatched also m.watch → AreShown also b m.watch.works → AreLines m.lines.items → IsReady v b m
-ready_on v also same b m works watched shown lines = subst (λ (u : View). IsReady u b m) same (record { works = works; watched = watched; shown = shown; lines = lines })
+pub ready_on : (v also : View) → also ≡ v → (b : Books) (m : Making) → AreWorksOf also m.watch.works → IsWatched also m.watch → AreShown also b m.watch.works → CanBeWritten v m.made → IsReady v b m
+ready_on v also same b m works watched shown written = subst (λ (u : View). IsReady u b m) same (record { works = works; watched = watched; shown = shown; written = written_there v also same m.made written })
 
 pub ready_at : (v also : View) → also ≡ v → (b : Books) (m : Making) → IsReady v b m → IsReady also b m
 ready_at v also same b m = subst (λ (u : View). IsReady u b m) (sym same)

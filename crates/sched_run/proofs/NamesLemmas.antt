@@ -15,7 +15,6 @@ use Rattle.topo_types.specs.declared.topology.Side.{Side}
 use Rattle.topo_types.specs.declared.topology.Topology.{Topology}
 use Rattle.sched_text.specs.declared.event.Sent.{Sent as SentName}
 use Rattle.sched_text.specs.declared.event.Event.TheVariants.{Deliver, Order, Take}
-use Rattle.topo_types.specs.Feeds.{Feed}
 use Rattle.topo_types.specs.Sites.{Site, no_site, no_entry, site_at, side, ports_with, program_in}
 use Rattle.topo_types.specs.Valid.{IsValid, IsWhole, Validated}
 use Rattle.topo_types.specs.Validity.{fault_of}
@@ -27,9 +26,8 @@ use Rattle.topo_types.proofs.Views.ViewNumbers.{length_components}
 use Rattle.topo_types.proofs.Views.ViewParts.{sites, attributes, seen, at_component}
 use Rattle.topo_types.proofs.Views.ViewRuns.{Made, made, names_apart, ports_apart}
 use Rattle.inbox.specs.Events.{Part, deliver, order, take_one}
-use Rattle.sched_run.specs.Made.{part_on}
 use Rattle.sched_hear.specs.Numbered.{stream_number, component_number, port_number, numbered_part, numbered}
-use Rattle.sched_run.specs.Code.Looking.{IsFeed}
+use Rattle.sched_run.specs.Naming.{HasPartNames}
 
 -- ---- a name that stands once
 
@@ -134,27 +132,27 @@ port_named seen c p whole valid there within =
 
 -- ---- events: that of names is the one of their numbers
 
-module _ (valid : Validated) (whole : IsWhole valid) (known : IsValid valid.view) (c : ℕ) (feed : Feed) (index : ℕ) (is : IsFeed valid.view c feed) (sent : SentName) (name port : Name) where
-  part_numbered : sent ≡ record { stream = (stream_at valid.view feed.stream).name; replica = feed.sender; index = index } → port ≡ (port_at valid.view c feed.port).name → numbered_part valid.view c sent port ≡ part_on feed index
-  part_numbered of_feed at_port =
-      let make : ℕ → ℕ → Part = λ s p. record { sent = record { stream = s; replica = feed.sender; index = index }; port = p } in
-      ap (λ (s : SentName). numbered_part valid.view c s port) of_feed
-      ∙ ap (λ (n : Name). make (stream_number valid.view (stream_at valid.view feed.stream).name) (port_number valid.view c n)) at_port
-      ∙ ap (λ s. make s (port_number valid.view c (port_at valid.view c feed.port).name)) (stream_named valid.view feed.stream known is.stream)
-      ∙ ap (make feed.stream) (port_named valid c feed.port whole known is.there is.port)
+module _ (valid : Validated) (whole : IsWhole valid) (known : IsValid valid.view) (c : ℕ) (part : Part) (is : HasPartNames valid.view c part) (sent : SentName) (name port : Name) where
+  part_numbered : sent ≡ record { stream = (stream_at valid.view part.sent.stream).name; replica = part.sent.replica; index = part.sent.index } → port ≡ (port_at valid.view c part.port).name → numbered_part valid.view c sent port ≡ part
+  part_numbered of_stream at_port =
+      let make : ℕ → ℕ → Part = λ s p. record { sent = record { stream = s; replica = part.sent.replica; index = part.sent.index }; port = p } in
+      ap (λ (s : SentName). numbered_part valid.view c s port) of_stream
+      ∙ ap (λ (n : Name). make (stream_number valid.view (stream_at valid.view part.sent.stream).name) (port_number valid.view c n)) at_port
+      ∙ ap (λ s. make s (port_number valid.view c (port_at valid.view c part.port).name)) (stream_named valid.view part.sent.stream known is.stream)
+      ∙ ap (make part.sent.stream) (port_named valid c part.port whole known is.there is.port)
 
   number_is : name ≡ (component_at valid.view c).name → component_number valid.view name ≡ c
   number_is e = ap (component_number valid.view) e ∙ component_named valid.view c known is.there
 
-  pub deliver_numbered : (r : ℕ) → sent ≡ record { stream = (stream_at valid.view feed.stream).name; replica = feed.sender; index = index } → name ≡ (component_at valid.view c).name → port ≡ (port_at valid.view c feed.port).name → numbered valid.view (Deliver sent name port r) ≡ deliver (part_on feed index) c r
-  deliver_numbered r of_feed e at_port =
+  pub deliver_numbered : (r : ℕ) → sent ≡ record { stream = (stream_at valid.view part.sent.stream).name; replica = part.sent.replica; index = part.sent.index } → name ≡ (component_at valid.view c).name → port ≡ (port_at valid.view c part.port).name → numbered valid.view (Deliver sent name port r) ≡ deliver part c r
+  deliver_numbered r of_stream e at_port =
       ap (λ n. deliver (numbered_part valid.view n sent port) n r) (number_is e)
-      ∙ ap (λ (p : Part). deliver p c r) (part_numbered of_feed at_port)
+      ∙ ap (λ (p : Part). deliver p c r) (part_numbered of_stream at_port)
 
-  pub order_numbered : sent ≡ record { stream = (stream_at valid.view feed.stream).name; replica = feed.sender; index = index } → name ≡ (component_at valid.view c).name → port ≡ (port_at valid.view c feed.port).name → numbered valid.view (Order sent name port) ≡ order (part_on feed index) c
-  order_numbered of_feed e at_port =
+  pub order_numbered : sent ≡ record { stream = (stream_at valid.view part.sent.stream).name; replica = part.sent.replica; index = part.sent.index } → name ≡ (component_at valid.view c).name → port ≡ (port_at valid.view c part.port).name → numbered valid.view (Order sent name port) ≡ order part c
+  order_numbered of_stream e at_port =
       ap (λ n. order (numbered_part valid.view n sent port) n) (number_is e)
-      ∙ ap (λ (p : Part). order p c) (part_numbered of_feed at_port)
+      ∙ ap (λ (p : Part). order p c) (part_numbered of_stream at_port)
 
 pub take_numbered : (v : View) (c r : ℕ) (name : Name) → IsValid v → c < length v.components → name ≡ (component_at v c).name → numbered v (Take name r) ≡ take_one c r
 take_numbered v c r name valid there e = ap (λ n. take_one n r) (ap (component_number v) e ∙ component_named v c valid there)

@@ -22,7 +22,6 @@ use Rattle.topo_types.specs.declared.topology.Stock.{Stock}
 use Rattle.topo_types.specs.declared.topology.Stock.TheVariants as stock
 use Rattle.topo_types.specs.declared.topology.Topology.{Topology}
 use Rattle.topo_types.specs.Allowed.{allows_body, allows_component, allows_fd, allows_source, allows_stream, is_empty, is_side, IsAllowed}
-use Rattle.topo_types.specs.Feeds.{Feed}
 use Rattle.topo_types.specs.Sites.{Site, no_entry, site_at, side, collection_side, ports_with, program_in, program_ports, stock_program}
 use Rattle.topo_types.specs.Valid.{IsWhole, Validated}
 use Rattle.topo_types.specs.View.{View, Component, Port, Stream, no_port, component_at, port_at, stream_at}
@@ -32,7 +31,8 @@ use Rattle.topo_types.proofs.Regions.Spreading.{both_true}
 use Rattle.topo_types.proofs.Views.ViewNumbers.{length_components}
 use Rattle.topo_types.proofs.Views.ViewParts.{at_component, attributes, each_stream, seen, sites}
 use Rattle.topo_types.proofs.Views.ViewRuns.{Made, made}
-use Rattle.sched_run.specs.Code.Looking.{IsFeed}
+use Rattle.inbox.specs.Events.{Part}
+use Rattle.sched_run.specs.Naming.{HasPartNames}
 
 -- ---- ports
 
@@ -162,12 +162,12 @@ all_named valid whole =
 -- ---- events with these names can be printed
 
 module _ (valid : Validated) (whole : IsWhole valid) where
-  pub printable_message : (c : ℕ) (feed : Feed) → IsFeed valid.view c feed → (stream component port : Name) → stream ≡ (stream_at valid.view feed.stream).name → component ≡ (component_at valid.view c).name → port ≡ (port_at valid.view c feed.port).name
+  pub printable_message : (c : ℕ) (part : Part) → HasPartNames valid.view c part → (stream component port : Name) → stream ≡ (stream_at valid.view part.sent.stream).name → component ≡ (component_at valid.view c).name → port ≡ (port_at valid.view c part.port).name
       → (is_name stream && (is_name component && is_name port)) ≡ true
-  printable_message c feed is stream component port of_stream of_component of_port =
+  printable_message c part is stream component port of_stream of_component of_port =
       let named : AllNamed valid.view = all_named valid whole in
-      and_from _ _ (ap is_name of_stream ∙ named.streams feed.stream is.stream)
-      (and_from _ _ (ap is_name of_component ∙ named.components c is.there) (ap is_name of_port ∙ named.ports c feed.port is.there is.port))
+      and_from _ _ (ap is_name of_stream ∙ named.streams part.sent.stream is.stream)
+      (and_from _ _ (ap is_name of_component ∙ named.components c is.there) (ap is_name of_port ∙ named.ports c part.port is.there is.port))
 
   pub printable_take : (c : ℕ) → c < length valid.view.components → (component : Name) → component ≡ (component_at valid.view c).name → is_name component ≡ true
   printable_take c there component is = ap is_name is ∙ (all_named valid whole).components c there

@@ -5,5 +5,6 @@ pub mod Looking
 pub mod Stale
 pub mod Works
 pub mod Watch
+pub mod Written
 pub mod Making
 pub mod Records

@@ -4,5 +4,6 @@ pub mod Reading
 pub mod Tables
 pub mod Applying
 pub mod Made
+pub mod Naming
 pub mod Making
 pub mod Code

@@ -3,9 +3,11 @@ use Rattle.std.specs.Prelude.{◌≡◌, ℕ, true, Option, Result, Ok, Err, Lis
 use Rattle.std.specs.List.{range_with_len}
 use Rattle.bloom_ast.specs.declared.program.Program.{Program}
 use Rattle.bloom_ast.specs.Step.{Sets}
+use Rattle.sched_text.specs.Reading.{ReadsAs, event_reading}
+use Rattle.sched_text.specs.Text.{schedule_text}
 use Rattle.topo_types.specs.Data.{Data}
 use Rattle.topo_types.specs.View.{View}
-use Rattle.inbox.specs.Events.{Event}
+use Rattle.inbox.specs.Events.{Event, event}
 use Rattle.inbox.specs.Wiring.{wiring_of}
 use Rattle.sched_run.specs.Applying.{Line, steps_of}
 use Rattle.sched_run.specs.Made.{made_of, AnswersSo}
@@ -18,6 +20,22 @@ use Rattle.sched_run.specs.declared.fault.MakeFault.{MakeFault}
 pub record RunsFirst (v : View) (loaded : List (Option Program)) (tables : List Sets) (b : Books) : Type 0 where
   pub given : Data
   pub stands : Stands v given [] loaded tables b
+
+-- ---- events by numbers
+
+-- the events that are made, or why there are none, are those of whatever data the net stood for
+abbrev pub AnswersNumbered : View → (loaded : List (Option Program)) → (tables : List Sets) → (old : Books) → (seed : ℕ) → Result (List Event) MakeFault → Type 0
+AnswersNumbered v loaded tables old seed result = (given : Data) → Stands v given [] loaded tables old → AnswersSo (wiring_of v) given (made_of (wiring_of v) given seed) result
+
+-- the net stands for them, and a fault ends it
+abbrev pub HasMadeNumbered : View → Data → (loaded : List (Option Program)) → (tables : List Sets) → (new : Books) → Result (List Event) MakeFault → Type 0
+HasMadeNumbered v given loaded tables new (Ok events) = Stands v given (map event events) loaded tables new
+HasMadeNumbered v given loaded tables new (Err fault) = new.ended ≡ true
+
+abbrev pub LeavesNumbered : View → (loaded : List (Option Program)) → (tables next : List Sets) → (old new : Books) → Result (List Event) MakeFault → Type 0
+LeavesNumbered v loaded tables next old new result = (given : Data) → Stands v given [] loaded tables old → HasMadeNumbered v given loaded next new result
+
+-- ---- a schedule
 
 -- the events of lines, by numbers
 abbrev pub events_of : View → List Line → List Event
@@ -43,3 +61,10 @@ LeavesMade v loaded tables next old new result = (given : Data) → Stands v giv
 -- the lines are numbered from 1
 abbrev pub CountFromOne : List Line → Type 0
 CountFromOne lines = map (λ line. line.0) lines ≡ range_with_len 1 (length lines)
+
+-- a text is that of a schedule with these events, and reads as it
+pub record IsTextOf (v : View) (events : List Event) (text : List ℕ) : Type 0 where
+  pub lines : List Line
+  pub is : text ≡ schedule_text lines
+  pub reads : ReadsAs event_reading text lines
+  pub are : events_of v lines ≡ events

@@ -4,22 +4,23 @@
 //! and only at what that may have made stale and at what is new; a tree of the windows' sizes finds a work
 //! by its number.
 ghost use Rattle.std.specs.Prelude.{◌≡◌, ◌<◌, ◌++◌, ◌∷◌, [], ℕ, true, map, IfOk, OnOk, length, sum};
-ghost use Rattle.sched_text.specs.Text.{IsPrintable, is_printable};
+ghost use Rattle.sched_text.specs.Text.{IsPrintable};
 ghost use Rattle.sched_run.specs.Made.{says_again, chosen_events};
-ghost use Rattle.sched_run.specs.Making.{RunsFirst, AnswersMade, LeavesMade, CountFromOne, events_of};
+ghost use Rattle.sched_run.specs.Making.{RunsFirst, AnswersMade, LeavesMade, AnswersNumbered, LeavesNumbered, CountFromOne, events_of};
+ghost use Rattle.sched_run.specs.Naming.{CanBeWritten};
 ghost use Rattle.sched_hear.specs.Net.{BooksRun};
-ghost use Rattle.sched_hear.specs.Numbered.{numbered};
-ghost use Rattle.sched_run.specs.Code.Making.{EndsNet, fault_with, AreLines, Goes, GoesOn, IsDue, AppliesEvents, IsReady, Turns, StandsMade};
+ghost use Rattle.sched_run.specs.Code.Making.{EndsNet, fault_with, Goes, GoesOn, IsDue, AppliesEvents, IsReady, Turns, StandsMade};
 ghost use Rattle.sched_run.specs.Code.Watch.{IsUntouched, IsWatched, StillShows};
 ghost use Rattle.sched_run.specs.Code.Works.{AreWorksOf, AreShown, HasNames, IsOpenWork, MayLookAt, work_event};
 
 use crate::fault::MakeFault;
 use crate::limits::MAX_EVENTS;
+use crate::made::Made;
 use crate::net::Net;
 use crate::watch::Watch;
 use crate::works::Work;
 use sched_lists::EventFault;
-use sched_text::{Event, Schedule};
+use sched_text::Schedule;
 use sched_turns::Draws;
 use std::alloc::AllocError;
 
@@ -28,7 +29,7 @@ use std::alloc::AllocError;
 struct Making {
     watch: Watch,
     draws: Draws,
-    lines: Vec<(u32, Event)>,
+    made: Made,
 }
 
 // The fault of the event with a number; an open work is never refused.
@@ -53,36 +54,27 @@ fn says_again(number: u64) -> bool
     (number / 65_536) % 8 == 0
 }
 
-// The event by which a work of a net is done, with names. The error is want of memory.
-fn event_of(net: &Net<'_>, work: &Work) -> Result<Event, AllocError>
-    requires { HasNames net.now.valid.now.view work.now }
-    ensures event { IfOk result (λ event. numbered net.now.valid.now.view event ≡ work_event work.now) }
-    ensures printable { IfOk result (λ event. is_printable event ≡ true) }
-{
-    work.event(net.valid())
-}
-
-// Applies the event of a work, which is one line more.
-fn apply(net: &mut Net<'_>, lines: &mut Vec<(u32, Event)>, work: &Work) -> Result<(), MakeFault>
-    requires legal { GoesOn net.old.valid.now.view (map (λ b. loaded b) net.old.shells.items) (map (λ b. kept b) net.old.shells.items) net.old.books lines.old.items (work_event work.now) }
+// Applies the event of a work, which is one event more.
+fn apply(net: &mut Net<'_>, made: &mut Made, work: &Work) -> Result<(), MakeFault>
+    requires legal { GoesOn net.old.valid.now.view (map (λ b. loaded b) net.old.shells.items) (map (λ b. kept b) net.old.shells.items) net.old.books made.old (work_event work.now) }
     requires names { HasNames net.old.valid.now.view work.now }
-    requires lines { AreLines lines.old.items }
-    ensures applies { AppliesEvents net.old.valid.now.view (map (λ b. loaded b) net.old.shells.items) (map (λ b. kept b) net.old.shells.items) (map (λ b. kept b) net.new.shells.items) net.old.books net.new.books lines.old.items lines.new.items (work_event work.now ∷ []) result }
-    ensures lines { OnOk result (AreLines lines.new.items) }
-    ensures events { OnOk result (events_of net.old.valid.now.view lines.new.items ≡ events_of net.old.valid.now.view lines.old.items ++ work_event work.now ∷ []) }
+    requires written { CanBeWritten net.old.valid.now.view made.old }
+    ensures applies { AppliesEvents net.old.valid.now.view (map (λ b. loaded b) net.old.shells.items) (map (λ b. kept b) net.old.shells.items) (map (λ b. kept b) net.new.shells.items) net.old.books net.new.books made.old made.new (work_event work.now ∷ []) result }
+    ensures written { OnOk result (CanBeWritten net.old.valid.now.view made.new) }
+    ensures events { OnOk result (made.new ≡ made.old ++ work_event work.now ∷ []) }
     ensures valid { net.new.valid ≡ net.old.valid }
     ensures kinds { map (λ b. kind b) net.new.shells.items ≡ map (λ b. kind b) net.old.shells.items }
     ensures loaded { map (λ b. loaded b) net.new.shells.items ≡ map (λ b. loaded b) net.old.shells.items }
 {
-    if lines.len() >= MAX_EVENTS {
+    if made.len() >= MAX_EVENTS {
         return Err(MakeFault::TooManyEvents);
     }
-    let number = lines.len() as u32 + 1;
-    let event = event_of(net, work)?;
-    if let Err(fault) = net.event(&event) {
+    let number = made.len() as u32 + 1;
+    let event = work.event();
+    if let Err(fault) = net.numbered_event(&event) {
         return Err(fault_at(fault, number));
     }
-    lines.push((number, event))?;
+    made.push(event)?;
     Ok(())
 }
 
@@ -90,24 +82,24 @@ fn apply(net: &mut Net<'_>, lines: &mut Vec<(u32, Event)>, work: &Work) -> Resul
 // take.
 fn apply_chosen(
     net: &mut Net<'_>,
-    lines: &mut Vec<(u32, Event)>,
+    made: &mut Made,
     number: u64,
     work: &Work,
 ) -> Result<(), MakeFault>
-    requires due { IsDue net.old.valid.now.view (map (λ b. loaded b) net.old.shells.items) (map (λ b. kept b) net.old.shells.items) net.old.books lines.old.items (work_event work.now) }
+    requires due { IsDue net.old.valid.now.view (map (λ b. loaded b) net.old.shells.items) (map (λ b. kept b) net.old.shells.items) net.old.books made.old (work_event work.now) }
     requires names { HasNames net.old.valid.now.view work.now }
-    requires lines { AreLines lines.old.items }
-    ensures applies { AppliesEvents net.old.valid.now.view (map (λ b. loaded b) net.old.shells.items) (map (λ b. kept b) net.old.shells.items) (map (λ b. kept b) net.new.shells.items) net.old.books net.new.books lines.old.items lines.new.items (chosen_events number (work_event work.now)) result }
-    ensures lines { OnOk result (AreLines lines.new.items) }
-    ensures events { OnOk result (events_of net.old.valid.now.view lines.new.items ≡ events_of net.old.valid.now.view lines.old.items ++ chosen_events number (work_event work.now)) }
+    requires written { CanBeWritten net.old.valid.now.view made.old }
+    ensures applies { AppliesEvents net.old.valid.now.view (map (λ b. loaded b) net.old.shells.items) (map (λ b. kept b) net.old.shells.items) (map (λ b. kept b) net.new.shells.items) net.old.books net.new.books made.old made.new (chosen_events number (work_event work.now)) result }
+    ensures written { OnOk result (CanBeWritten net.old.valid.now.view made.new) }
+    ensures events { OnOk result (made.new ≡ made.old ++ chosen_events number (work_event work.now)) }
     ensures valid { net.new.valid ≡ net.old.valid }
     ensures kinds { map (λ b. kind b) net.new.shells.items ≡ map (λ b. kind b) net.old.shells.items }
     ensures loaded { map (λ b. loaded b) net.new.shells.items ≡ map (λ b. loaded b) net.old.shells.items }
 {
     net.known();
-    apply(net, lines, work)?;
+    apply(net, made, work)?;
     if !work.is_take() && says_again(number) {
-        return apply(net, lines, work);
+        return apply(net, made, work);
     }
     Ok(())
 }
@@ -156,23 +148,23 @@ impl Making {
         requires { BooksRun net.now.valid.now.view net.now.books }
         ensures ready { IfOk result (IsReady net.now.valid.now.view net.now.books) }
         ensures draws { IfOk result (λ making. making.draws ≡ seed) }
-        ensures lines { IfOk result (λ making. making.lines.items ≡ []) }
+        ensures made { IfOk result (λ making. making.made ≡ []) }
     {
         Ok(Making {
             watch: watch_of(net)?,
             draws: Draws::of(seed),
-            lines: Vec::new(net.alloc()),
+            made: Made::new(net.alloc()),
         })
     }
 
     // One turn, where something is open: a draw chooses a work.
     fn turn(&mut self, net: &mut Net<'_>) -> Result<(), MakeFault>
-        requires goes { Goes net.old.valid.now.view (map (λ b. loaded b) net.old.shells.items) (map (λ b. kept b) net.old.shells.items) net.old.books self.old.lines.items }
+        requires goes { Goes net.old.valid.now.view (map (λ b. loaded b) net.old.shells.items) (map (λ b. kept b) net.old.shells.items) net.old.books self.old.made }
         requires ready { IsReady net.old.valid.now.view net.old.books self.old }
         requires some { 0 < sum self.old.watch.works.sizes }
         ensures turns { Turns net.old.valid.now.view (map (λ b. loaded b) net.old.shells.items) (map (λ b. kept b) net.old.shells.items) (map (λ b. kept b) net.new.shells.items) net.old.books net.new.books self.old self.new result }
         ensures ready { OnOk result (IsReady net.old.valid.now.view net.new.books self.new) }
-        ensures more { OnOk result (length self.old.lines.items < length self.new.lines.items) }
+        ensures more { OnOk result (length self.old.made < length self.new.made) }
         ensures valid { net.new.valid ≡ net.old.valid }
         ensures kinds { map (λ b. kind b) net.new.shells.items ≡ map (λ b. kind b) net.old.shells.items }
         ensures loaded { map (λ b. loaded b) net.new.shells.items ≡ map (λ b. loaded b) net.old.shells.items }
@@ -181,19 +173,18 @@ impl Making {
         let number = self.draws.next_number();
         let total = self.watch.works.total();
         let work = work_at(&self.watch, net, number as usize % total);
-        apply_chosen(net, &mut self.lines, number, &work)?;
+        apply_chosen(net, &mut self.made, number, &work)?;
         look_after(&mut self.watch, net, &work)?;
         Ok(())
     }
 }
 
-// The schedule of a seed, before a fault ends the net.
-fn schedule_of(net: &mut Net<'_>, seed: u64) -> Result<Schedule, MakeFault>
+// The events of a seed, before a fault ends the net.
+fn made_of(net: &mut Net<'_>, seed: u64) -> Result<Made, MakeFault>
     requires { RunsFirst net.old.valid.now.view (map (λ b. loaded b) net.old.shells.items) (map (λ b. kept b) net.old.shells.items) net.old.books }
-    ensures made { AnswersMade net.old.valid.now.view (map (λ b. loaded b) net.old.shells.items) (map (λ b. kept b) net.old.shells.items) net.old.books seed result }
+    ensures made { AnswersNumbered net.old.valid.now.view (map (λ b. loaded b) net.old.shells.items) (map (λ b. kept b) net.old.shells.items) net.old.books seed result }
     ensures stands { IfOk result (StandsMade net.old.valid.now.view (map (λ b. loaded b) net.old.shells.items) (map (λ b. kept b) net.old.shells.items) (map (λ b. kept b) net.new.shells.items) net.old.books net.new.books) }
-    ensures numbers { IfOk result CountFromOne }
-    ensures printable { IfOk result IsPrintable }
+    ensures written { IfOk result (CanBeWritten net.old.valid.now.view) }
     ensures valid { net.new.valid ≡ net.old.valid }
     ensures kinds { map (λ b. kind b) net.new.shells.items ≡ map (λ b. kind b) net.old.shells.items }
     ensures loaded { map (λ b. loaded b) net.new.shells.items ≡ map (λ b. loaded b) net.old.shells.items }
@@ -203,7 +194,45 @@ fn schedule_of(net: &mut Net<'_>, seed: u64) -> Result<Schedule, MakeFault>
     while making.watch.works.total() > 0 {
         making.turn(net)?;
     }
-    Ok(Schedule::from_lines(making.lines))
+    Ok(making.made)
+}
+
+/// Makes the schedule of a seed by numbers: the events of the generator, which it applies to the net.
+/// Afterwards nothing is left to deliver, to order or to take.
+///
+/// TooManyRows and TooManyMessages come at the first event that meets the limit, and TooManyEvents
+/// where an event more than 1,000,000 is due; a fault ends the net. A turn takes as many steps as the
+/// works stand in levels, beside its event and a look at each lane that it may change.
+pub fn make_numbered(net: &mut Net<'_>, seed: u64) -> Result<Made, MakeFault>
+    requires { RunsFirst net.old.valid.now.view (map (λ b. loaded b) net.old.shells.items) (map (λ b. kept b) net.old.shells.items) net.old.books }
+
+    // Of whatever data the net stood for: the events and the causes of faults, and what the net
+    // stands for then.
+    ensures made { AnswersNumbered net.old.valid.now.view (map (λ b. loaded b) net.old.shells.items) (map (λ b. kept b) net.old.shells.items) net.old.books seed result }
+    ensures leaves { LeavesNumbered net.old.valid.now.view (map (λ b. loaded b) net.old.shells.items) (map (λ b. kept b) net.old.shells.items) (map (λ b. kept b) net.new.shells.items) net.old.books net.new.books result }
+
+    // They can be written with the names of the topology.
+    ensures written { IfOk result (CanBeWritten net.old.valid.now.view) }
+
+    ensures valid { net.new.valid ≡ net.old.valid }
+    ensures kinds { map (λ b. kind b) net.new.shells.items ≡ map (λ b. kind b) net.old.shells.items }
+    ensures loaded { map (λ b. loaded b) net.new.shells.items ≡ map (λ b. loaded b) net.old.shells.items }
+{
+    let made = made_of(net, seed);
+    if made.is_err() {
+        net.end();
+    }
+    made
+}
+
+// The schedule of events that were made of a net. The error is want of memory.
+fn schedule_of(net: &Net<'_>, made: &Made) -> Result<Schedule, AllocError>
+    requires { CanBeWritten net.now.valid.now.view made.now }
+    ensures events { IfOk result (λ schedule. events_of net.now.valid.now.view schedule ≡ made.now) }
+    ensures numbers { IfOk result CountFromOne }
+    ensures printable { IfOk result IsPrintable }
+{
+    made.schedule(net.alloc(), net.valid())
 }
 
 /// Makes the schedule of a seed: the events of the generator, which it applies to the net, on lines
@@ -227,9 +256,12 @@ pub fn make(net: &mut Net<'_>, seed: u64) -> Result<Schedule, MakeFault>
     ensures kinds { map (λ b. kind b) net.new.shells.items ≡ map (λ b. kind b) net.old.shells.items }
     ensures loaded { map (λ b. loaded b) net.new.shells.items ≡ map (λ b. loaded b) net.old.shells.items }
 {
-    let made = schedule_of(net, seed);
-    if made.is_err() {
-        net.end();
+    let made = make_numbered(net, seed)?;
+    match schedule_of(net, &made) {
+        Ok(schedule) => Ok(schedule),
+        Err(_) => {
+            net.end();
+            Err(MakeFault::NoMemory)
+        }
     }
-    made
 }

@@ -1,20 +1,16 @@
 //! The open works: a window on each lane, whether each taker can take, and a tree of their numbers.
-ghost use Rattle.std.specs.Prelude.{◌≡◌, ◌<◌, ℕ, true, IfOk, OnOk, length, map, sum};
+ghost use Rattle.std.specs.Prelude.{◌≡◌, ◌<◌, ℕ, IfOk, OnOk, length, map, sum};
 ghost use Rattle.std.specs.List.{All};
-ghost use Rattle.sched_text.specs.Text.{is_printable};
-ghost use Rattle.topo_types.specs.View.{stream_at};
-ghost use Rattle.inbox.specs.Events.{deliver, order, take_one};
 ghost use Rattle.sched_run.specs.Made.{part_on};
 ghost use Rattle.sched_hear.specs.Net.{BooksRun};
-ghost use Rattle.sched_hear.specs.Numbered.{numbered};
-ghost use Rattle.sched_run.specs.Code.Looking.{IsFeed, IsLane, IsTaker, LooksAt};
+ghost use Rattle.sched_hear.specs.Numbered.{event_by_numbers};
+ghost use Rattle.sched_run.specs.Code.Looking.{IsLane, IsTaker, LooksAt};
 ghost use Rattle.sched_run.specs.Code.Works.{is_taking, work_event, HasNames, AreWindowsOn, AreSizesWith, AreWorksOf, AreShown, IsOpenWork, StandsThere, MayLookAt, LooksAgain, LookedAt, LookedFor};
 
 use crate::lanes::{Lane, Taker, lanes, takers};
 use crate::looking::{can_take, look};
 use inbox::Feed;
-use sched_hear::Books;
-use sched_text::{Event, Sent};
+use sched_hear::{Books, NumberedEvent, NumberedPart};
 use sched_turns::{Sizes, Stale, Window};
 use std::alloc::{AllocError, Global};
 use topo_types::Valid;
@@ -26,67 +22,16 @@ pub(crate) enum Work {
     Take(Taker),
 }
 
-// A message of a feed, by the name of its stream.
-fn sent_of(valid: &Valid, feed: &Feed, index: u32) -> Result<Sent, AllocError>
-    requires { feed.now.stream < length valid.now.view.streams }
-    ensures { IfOk result (λ sent. sent ≡ record { stream = (stream_at valid.now.view feed.now.stream).name; replica = feed.now.sender; index = index }) }
+// The message of a feed with an index, at the feed's port.
+fn part_on(feed: &Feed, index: u32) -> NumberedPart
+    ensures { result ≡ part_on feed.now index }
 {
-    Ok(Sent {
-        stream: valid.stream_name(feed.stream).copy()?,
+    NumberedPart {
+        stream: feed.stream,
         replica: feed.sender,
         index,
-    })
-}
-
-// The event by which an instance hears a message of a feed.
-fn deliver_of(
-    valid: &Valid,
-    component: u32,
-    replica: u32,
-    feed: &Feed,
-    index: u32,
-) -> Result<Event, AllocError>
-    requires { IsFeed valid.now.view component feed.now }
-    ensures event { IfOk result (λ event. numbered valid.now.view event ≡ deliver (part_on feed.now index) component replica) }
-    ensures printable { IfOk result (λ event. is_printable event ≡ true) }
-{
-    valid.known();
-    valid.whole();
-    Ok(Event::Deliver {
-        sent: sent_of(valid, feed, index)?,
-        component: valid.component_name(component).copy()?,
-        port: valid.port_name(component, feed.port).copy()?,
-        replica,
-    })
-}
-
-// The event by which a message of a feed comes to the log of a component.
-fn order_of(valid: &Valid, component: u32, feed: &Feed, index: u32) -> Result<Event, AllocError>
-    requires { IsFeed valid.now.view component feed.now }
-    ensures event { IfOk result (λ event. numbered valid.now.view event ≡ order (part_on feed.now index) component) }
-    ensures printable { IfOk result (λ event. is_printable event ≡ true) }
-{
-    valid.known();
-    valid.whole();
-    Ok(Event::Order {
-        sent: sent_of(valid, feed, index)?,
-        component: valid.component_name(component).copy()?,
-        port: valid.port_name(component, feed.port).copy()?,
-    })
-}
-
-// The event by which a replica of a component takes.
-fn take_of(valid: &Valid, component: u32, replica: u32) -> Result<Event, AllocError>
-    requires { component < length valid.now.view.components }
-    ensures event { IfOk result (λ event. numbered valid.now.view event ≡ take_one component replica) }
-    ensures printable { IfOk result (λ event. is_printable event ≡ true) }
-{
-    valid.known();
-    valid.whole();
-    Ok(Event::Take {
-        component: valid.component_name(component).copy()?,
-        replica,
-    })
+        port: feed.port,
+    }
 }
 
 impl Work {
@@ -97,11 +42,9 @@ impl Work {
         matches!(self, Work::Take(_))
     }
 
-    /// The event by which it is done, with names. The error is want of memory.
-    pub(crate) fn event(&self, valid: &Valid) -> Result<Event, AllocError>
-        requires { HasNames valid.now.view self.now }
-        ensures event { IfOk result (λ event. numbered valid.now.view event ≡ work_event self.now) }
-        ensures printable { IfOk result (λ event. is_printable event ≡ true) }
+    /// The event by which it is done.
+    pub(crate) fn event(&self) -> NumberedEvent
+        ensures { event_by_numbers result ≡ work_event self.now }
     {
         match self {
             Work::Message(
@@ -112,11 +55,19 @@ impl Work {
                     ..
                 },
                 index,
-            ) => deliver_of(valid, *component, *replica, feed, *index),
-            Work::Message(Lane::Order { component, feed }, index) => {
-                order_of(valid, *component, feed, *index)
-            }
-            Work::Take(Taker { component, replica }) => take_of(valid, *component, *replica),
+            ) => NumberedEvent::Deliver {
+                part: part_on(feed, *index),
+                component: *component,
+                replica: *replica,
+            },
+            Work::Message(Lane::Order { component, feed }, index) => NumberedEvent::Order {
+                part: part_on(feed, *index),
+                component: *component,
+            },
+            Work::Take(Taker { component, replica }) => NumberedEvent::Take {
+                component: *component,
+                replica: *replica,
+            },
         }
     }
 }

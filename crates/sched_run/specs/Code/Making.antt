@@ -1,19 +1,17 @@
 -- A schedule that is being made: what the net went through, and what an event and a turn make of it.
-use Rattle.std.specs.Prelude.{◌≡◌, ◌≤◌, ◌<◌, ◌++◌, ◌∷◌, ℕ, suc, Option, None, Some, Result, Ok, Err, List, [], length}
+use Rattle.std.specs.Prelude.{◌≡◌, ◌≤◌, ◌<◌, ◌++◌, ◌∷◌, ℕ, suc, Option, None, Some, Result, Ok, Err, List, [], length, map}
 use Rattle.blz_value.specs.Members.{Has}
 use Rattle.bloom_ast.specs.declared.program.Program.{Program}
 use Rattle.bloom_ast.specs.Step.{Sets}
-use Rattle.sched_text.specs.Text.{IsPrintable}
 use Rattle.topo_types.specs.Data.{Data}
 use Rattle.topo_types.specs.View.{View}
-use Rattle.inbox.specs.Events.{Event}
+use Rattle.inbox.specs.Events.{Event, event}
 use Rattle.inbox.specs.Executions.{Execution, after_event}
 use Rattle.inbox.specs.Growth.{Continues}
 use Rattle.inbox.specs.Wiring.{Wiring, wiring_of}
-use Rattle.sched_run.specs.Applying.{Line, steps_of}
 use Rattle.sched_lists.specs.Limits.{Limit, too_many_rows, too_many_messages, limit_of_event}
 use Rattle.sched_run.specs.Made.{event_limit, after_turns, limit_at_place, made_of, open_works, execution_after, AnswersSo}
-use Rattle.sched_run.specs.Making.{events_of, CountFromOne}
+use Rattle.sched_run.specs.Naming.{CanBeWritten}
 use Rattle.sched_hear.specs.Net.{Stands, execution_in}
 use Rattle.sched_run.specs.Code.Watch.{IsWatched}
 use Rattle.sched_run.specs.Code.Works.{AreWorksOf, AreShown}
@@ -44,38 +42,33 @@ fault_with event_fault.TooManyRows number = TooManyRows number
 fault_with event_fault.TooManyMessages number = TooManyMessages number
 fault_with event_fault.NoMemory number = NoMemory
 
--- ---- the lines so far
-
--- they are numbered from 1 and can be printed
-pub record AreLines (lines : List Line) : Type 0 where
-  pub numbers : CountFromOne lines
-  pub printable : IsPrintable lines
+-- ---- the events so far
 
 -- no event of a list meets a limit
 abbrev pub MeetNone : Wiring → Data → List Event → Type 0
 MeetNone w given events = (place : ℕ) → place < length events → limit_at_place w given events place ≡ None
 
--- the net stands for their events, none of which met a limit
-pub record HasRun (v : View) (given : Data) (loaded : List (Option Program)) (tables : List Sets) (b : Books) (lines : List Line) : Type 0 where
-  pub stands : Stands v given (steps_of v lines) loaded tables b
-  pub unmet : MeetNone (wiring_of v) given (events_of v lines)
+-- the net stands for them, and none met a limit
+pub record HasRun (v : View) (given : Data) (loaded : List (Option Program)) (tables : List Sets) (b : Books) (events : List Event) : Type 0 where
+  pub stands : Stands v given (map event events) loaded tables b
+  pub unmet : MeetNone (wiring_of v) given events
 
 -- so it is of some data
-pub record Goes (v : View) (loaded : List (Option Program)) (tables : List Sets) (b : Books) (lines : List Line) : Type 0 where
+pub record Goes (v : View) (loaded : List (Option Program)) (tables : List Sets) (b : Books) (events : List Event) : Type 0 where
   pub given : Data
-  pub run : HasRun v given loaded tables b lines
+  pub run : HasRun v given loaded tables b events
 
 -- and an event is legal then
-pub record GoesOn (v : View) (loaded : List (Option Program)) (tables : List Sets) (b : Books) (lines : List Line) (e : Event) : Type 0 where
+pub record GoesOn (v : View) (loaded : List (Option Program)) (tables : List Sets) (b : Books) (events : List Event) (e : Event) : Type 0 where
   pub given : Data
-  pub run : HasRun v given loaded tables b lines
+  pub run : HasRun v given loaded tables b events
   pub next : Execution
   pub legal : after_event (wiring_of v) given e (execution_in run.stands.books) ≡ Ok next
 
 -- or is an open work
-pub record IsDue (v : View) (loaded : List (Option Program)) (tables : List Sets) (b : Books) (lines : List Line) (e : Event) : Type 0 where
+pub record IsDue (v : View) (loaded : List (Option Program)) (tables : List Sets) (b : Books) (events : List Event) (e : Event) : Type 0 where
   pub given : Data
-  pub run : HasRun v given loaded tables b lines
+  pub run : HasRun v given loaded tables b events
   pub open_now : Has e (open_works (wiring_of v) given (execution_in run.stands.books))
 
 -- ---- events that aren't done
@@ -100,30 +93,30 @@ pub record FailsIn (w : Wiring) (given : Data) (events : List Event) (fault : Ma
   pub unmet : MeetNone w given before
   pub fails : FailsAt w given before due fault
 
--- the events after those of the lines are done, which then are these lines, or one isn't
-abbrev pub AppliedSo : View → Data → (loaded : List (Option Program)) → (next : List Sets) → (new : Books) → (lines after : List Line) → List Event → Result (Unit {0}) MakeFault → Type 0
-AppliedSo v given loaded next new lines after events (Ok x) = HasRun v given loaded next new after
-AppliedSo v given loaded next new lines after events (Err fault) = FailsIn (wiring_of v) given (events_of v lines ++ events) fault
+-- more events are done, and then it is these, or one isn't
+abbrev pub AppliedSo : View → Data → (loaded : List (Option Program)) → (next : List Sets) → (new : Books) → (events after : List Event) → (more : List Event) → Result (Unit {0}) MakeFault → Type 0
+AppliedSo v given loaded next new events after more (Ok x) = HasRun v given loaded next new after
+AppliedSo v given loaded next new events after more (Err fault) = FailsIn (wiring_of v) given (events ++ more) fault
 
 -- so it is of whatever data the net stood for
-abbrev pub AppliesEvents : View → (loaded : List (Option Program)) → (tables next : List Sets) → (old new : Books) → (lines after : List Line) → List Event → Result (Unit {0}) MakeFault → Type 0
-AppliesEvents v loaded tables next old new lines after events result = (given : Data) → HasRun v given loaded tables old lines → AppliedSo v given loaded next new lines after events result
+abbrev pub AppliesEvents : View → (loaded : List (Option Program)) → (tables next : List Sets) → (old new : Books) → (events after : List Event) → (more : List Event) → Result (Unit {0}) MakeFault → Type 0
+AppliesEvents v loaded tables next old new events after more result = (given : Data) → HasRun v given loaded tables old events → AppliedSo v given loaded next new events after more result
 
 -- ---- turns
 
--- what is open is shown, and the lines are such
+-- what is open is shown, and the events can be written
 pub record IsReady (v : View) (b : Books) (m : Making) : Type 0 where
   pub works : AreWorksOf v m.watch.works
   pub watched : IsWatched v m.watch
   pub shown : AreShown v b m.watch.works
-  pub lines : AreLines m.lines.items
+  pub written : CanBeWritten v m.made
 
 -- some turns from a seed were made, each of one event at least
 pub record HasTurned (v : View) (given : Data) (seed : ℕ) (loaded : List (Option Program)) (tables : List Sets) (b : Books) (m : Making) : Type 0 where
-  pub run : HasRun v given loaded tables b m.lines.items
+  pub run : HasRun v given loaded tables b m.made
   pub turns : ℕ
-  pub course : after_turns (wiring_of v) given seed turns ≡ record { state = m.draws; events = events_of v m.lines.items }
-  pub few : turns ≤ length m.lines.items
+  pub course : after_turns (wiring_of v) given seed turns ≡ record { state = m.draws; events = m.made }
+  pub few : turns ≤ length m.made
 
 -- one turn more, or this fault is the answer to the seed
 abbrev pub TurnedSo : View → Data → (seed : ℕ) → (loaded : List (Option Program)) → (next : List Sets) → (new : Books) → (after : Making) → Result (Unit {0}) MakeFault → Type 0
@@ -136,6 +129,6 @@ Turns v loaded tables next old new before after result = (given : Data) (seed : 
 
 -- ---- the whole
 
--- the net stands for the events of the lines that are answered, of whatever data it stood for at first
-abbrev pub StandsMade : View → (loaded : List (Option Program)) → (tables next : List Sets) → (old new : Books) → List Line → Type 0
-StandsMade v loaded tables next old new lines = (given : Data) → Stands v given [] loaded tables old → Stands v given (steps_of v lines) loaded next new
+-- the net stands for the events that are answered, of whatever data it stood for at first
+abbrev pub StandsMade : View → (loaded : List (Option Program)) → (tables next : List Sets) → (old new : Books) → List Event → Type 0
+StandsMade v loaded tables next old new events = (given : Data) → Stands v given [] loaded tables old → Stands v given (map event events) loaded next new

@@ -1,31 +1,12 @@
-use Rattle.std.proofs.Common.{◌∙◌, ap}
-use Rattle.sched_run.proofs.MakingTurns.{ready_at, ready_back}
-use Rattle.sched_run.proofs.MakingWhole.{goes_first, made_fault, made_whole, stands_whole, turned_on}
+use Rattle.std.proofs.Common.{◌≡◌, subst, sym}
+use Rattle.std.specs.Prelude.{IfOk}
+use Rattle.topo_types.specs.Valid.{Validated}
+use Rattle.sched_run.specs.Making.{events_of}
+use Rattle.sched_run.specs.Naming.{CanBeWritten}
 use Rattle.sched_run.proofs.making.schedule_of.Goals as goal
 
-pub turn-requires-clause-goes : goal.turn-requires-clause-goes
-turn-requires-clause-goes g c = goes_first _ _ (ap (λ valid. valid.now.view) c.loop-making.invariant.valid) c.args.seed _ _ c.loop-making.invariant.loaded _ _ _ _ c.loop-making.making c.loop-making.invariant.turned c.requires
+pub schedule-requires : goal.schedule-requires
+schedule-requires g c = subst (λ (s : Validated). CanBeWritten s.view c.args.made.now) (sym c.valid.ensures) c.requires
 
-pub turn-requires-clause-ready : goal.turn-requires-clause-ready
-turn-requires-clause-ready g c = ready_at _ _ (ap (λ valid. valid.now.view) c.loop-making.invariant.valid) _ c.loop-making.making c.loop-making.invariant.ready
-
-pub loop-making-preserved : goal.loop-making-preserved
-loop-making-preserved g c = record {
-  turned = turned_on _ _ (ap (λ valid. valid.now.view) c.loop-making.invariant.valid) c.args.seed _ _ c.loop-making.invariant.loaded _ _ _ _ c.loop-making.making c.loop-making.invariant.turned _ _ c.turn.new.self c.turn.result c.turn.ensures.turns c.in_ok-turn.field-0 c.in_ok-turn.was;
-  ready = ready_back _ _ (ap (λ valid. valid.now.view) c.loop-making.invariant.valid) _ c.turn.new.self c.in_ok-turn.ensures.ready;
-  valid = c.turn.ensures.valid ∙ c.loop-making.invariant.valid;
-  kinds = c.turn.ensures.kinds ∙ c.loop-making.invariant.kinds;
-  loaded = c.turn.ensures.loaded ∙ c.loop-making.invariant.loaded;
-}
-
-pub returns-in_err-turn-clause-made : goal.returns-in_err-turn-clause-made
-returns-in_err-turn-clause-made g c =
-    made_fault _ _ (ap (λ valid. valid.now.view) c.loop-making.invariant.valid) c.args.seed _ _ c.loop-making.invariant.loaded _ _ _ _ c.loop-making.making c.loop-making.invariant.turned _ _ c.turn.new.self c.turn.result c.turn.ensures.turns _ c.in_err-turn.field-0.0 c.in_err-turn.was c.from_residual-in_err-turn.ensures.1
-
-pub returns-clause-made : goal.returns-clause-made
-returns-clause-made g c =
-    made_whole _ _ (ap (λ valid. valid.now.view) c.loop-making.invariant.valid) c.args.seed _ _ c.loop-making.invariant.loaded _ _ _ _ c.loop-making.making c.loop-making.invariant.turned c.known.ensures c.loop-making.invariant.ready c.total.result c.total.ensures c.loop-making-test.false _ c.from_lines.ensures
-
-pub returns-clause-stands : goal.returns-clause-stands
-returns-clause-stands g c =
-    stands_whole _ _ (ap (λ valid. valid.now.view) c.loop-making.invariant.valid) c.args.seed _ _ c.loop-making.invariant.loaded _ _ _ _ c.loop-making.making c.loop-making.invariant.turned _ c.from_lines.ensures
+pub returns-clause-events : goal.returns-clause-events
+returns-clause-events g c = subst (λ (s : Validated). IfOk c.schedule.result (λ schedule. events_of s.view schedule ≡ c.args.made.now)) c.valid.ensures c.schedule.ensures.events

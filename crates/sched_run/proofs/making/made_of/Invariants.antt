@@ -4,7 +4,7 @@ use Rattle.topo_types.specs.Data.{Data}
 use Rattle.sched_run.specs.Made.{event_limit}
 use Rattle.sched_run.specs.Code.Making.{HasTurned, IsReady}
 use Rattle.sched_hear.specs.Net.{Stands}
-use Rattle.sched_run.proofs.making.schedule_of.Given as goal
+use Rattle.sched_run.proofs.making.made_of.Given as goal
 
 abbrev pub invariant-loop-making : goal.invariant-loop-making
 invariant-loop-making g l = record {
@@ -18,4 +18,4 @@ invariant-loop-making g l = record {
 }
 
 abbrev pub decreases-loop-making : goal.decreases-loop-making
-decreases-loop-making g l = event_limit - length l.making.lines.items
+decreases-loop-making g l = event_limit - length l.making.made

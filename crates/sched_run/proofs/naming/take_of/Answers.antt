@@ -1,7 +1,7 @@
 use Rattle.std.proofs.Common.{◌∙◌}
 use Rattle.sched_run.proofs.NamesLemmas.{take_numbered}
 use Rattle.sched_run.proofs.PrintableNames.{printable_take}
-use Rattle.sched_run.proofs.works.take_of.Goals as goal
+use Rattle.sched_run.proofs.naming.take_of.Goals as goal
 
 pub returns-clause-event : goal.returns-clause-event
 returns-clause-event c =

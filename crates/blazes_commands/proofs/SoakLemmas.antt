@@ -1,12 +1,12 @@
 -- A soak replies as its script says: the word count is checked and planned, its data are made, and a net that made a schedule over them is summed up.
-use Rattle.std.proofs.Common.{◌≡◌, ℕ, List, [], Option, Result, Ok, Err, OnOk, refl, subst}
+use Rattle.std.proofs.Common.{◌≡◌, ℕ, List, [], Option, Result, Ok, Err, OnOk, map, refl, subst}
 use Rattle.std.specs.Result.{IsErrAnd}
 use Rattle.bloom_ast.specs.declared.program.Program.{Program}
 use Rattle.bloom_ast.specs.Step.{Sets}
 use Rattle.inbox.specs.Executions.{Execution}
-use Rattle.sched_run.specs.Applying.{Line, steps_of}
+use Rattle.inbox.specs.Events.{Event, event}
 use Rattle.sched_bench.specs.Bench.{fault_of_opening}
-use Rattle.sched_run.specs.Making.{AnswersMade, LeavesMade}
+use Rattle.sched_run.specs.Making.{AnswersNumbered, LeavesNumbered}
 use Rattle.sched_hear.specs.Net.{Stands, BooksRun}
 use Rattle.sched_hear.specs.declared.books.Books.{Books}
 use Rattle.sched_run.specs.declared.fault.MakeFault.{MakeFault}
@@ -31,18 +31,18 @@ use Rattle.blazes_commands.proofs.MakeLemmas.{after_events, making_replies, runs
 use Rattle.command_files.proofs.ScriptLemmas.{came_checked, gives_ran}
 
 -- the net of a topology runs after it made a schedule
-pub runs_on : (v : View) (given : Data) (loaded : List (Option Program)) (tables next : List Sets) (old new : Books) (w : View) (result : Result (List Line) MakeFault) → w ≡ v → Stands v given [] loaded tables old → LeavesMade w loaded tables next old new result → OnOk result (BooksRun v new)
-runs_on v given loaded tables next old new w result same stands leaves = runs_made v given 0 loaded tables next old new v v result refl refl stands (subst (λ (z : View). LeavesMade z loaded tables next old new result) same leaves)
+pub runs_on : (v : View) (given : Data) (loaded : List (Option Program)) (tables next : List Sets) (old new : Books) (w : View) (result : Result (List Event) MakeFault) → w ≡ v → Stands v given [] loaded tables old → LeavesNumbered w loaded tables next old new result → OnOk result (BooksRun v new)
+runs_on v given loaded tables next old new w result same stands leaves = runs_made v given 0 loaded tables next old new v v result refl refl stands (subst (λ (z : View). LeavesNumbered z loaded tables next old new result) same leaves)
 
 -- a net that made a schedule is summed up
-pub sums_reply : (batches : ℕ) (v : View) (given : Data) (seed : ℕ) (loaded : List (Option Program)) (tables next : List Sets) (old new : Books) (bench : BenchStates) (s : Source) (w : View) (result : Result (List Line) MakeFault) (outcome : Result Reply Stop)
-    → check.opened v (fault_of_opening v (λ kind. kind) bench.kinds) ≡ Ok tt → w ≡ v → Stands v given [] loaded tables old → AnswersMade w loaded tables old seed result → LeavesMade w loaded tables next old new result
+pub sums_reply : (batches : ℕ) (v : View) (given : Data) (seed : ℕ) (loaded : List (Option Program)) (tables next : List Sets) (old new : Books) (bench : BenchStates) (s : Source) (w : View) (result : Result (List Event) MakeFault) (outcome : Result Reply Stop)
+    → check.opened v (fault_of_opening v (λ kind. kind) bench.kinds) ≡ Ok tt → w ≡ v → Stands v given [] loaded tables old → AnswersNumbered w loaded tables old seed result → LeavesNumbered w loaded tables next old new result
     → IsSummaryOf batches v new result outcome → RepliesWith Says (files_states s s) bench outcome (making_for (soaked batches v given) bench.kinds v given seed)
 sums_reply batches v given seed loaded tables next old new bench s w result outcome opens same stands answers leaves said =
-    making_replies v given seed loaded tables next old new bench s (soaked batches v given) (λ lines answer. SumsBooks batches v new answer)
-    (λ lines answer stands leaves said. record {
+    making_replies v given seed loaded tables next old new bench s (soaked batches v given) (λ events answer. SumsBooks batches v new answer)
+    (λ events answer stands leaves said. record {
       leaves = leaves;
-      summary = subst (λ (x : Execution). HasSummary batches v given x answer) (after_events v given lines loaded next new stands leaves) (said given (steps_of v lines) stands.books);
+      summary = subst (λ (x : Execution). HasSummary batches v given x answer) (after_events v given events loaded next new stands leaves) (said given (map event events) stands.books);
     })
     w result outcome opens same stands answers leaves said
 

@@ -1,9 +1,8 @@
 //! The command that makes a schedule.
 ghost use Rattle.std.specs.Prelude.{◌≡◌, IfOk, OnOk, Some, map};
 ghost use Rattle.report_print.specs.declared.refusal.Refusal.TheVariants as refusal;
-ghost use Rattle.sched_run.specs.Making.{CountFromOne};
+ghost use Rattle.sched_run.specs.Naming.{CanBeWritten};
 ghost use Rattle.sched_hear.specs.Net.{BooksRun};
-ghost use Rattle.sched_text.specs.Text.{IsPrintable};
 ghost use Rattle.topo_types.specs.Data.{IsData};
 ghost use Rattle.blazes_commands.specs.Checks as check;
 ghost use Rattle.blazes_commands.specs.Code.Made.{IsMadeOf, PrintsBooks};
@@ -24,8 +23,7 @@ use command_files::{Reply, Stop, stop_at};
 use command_runs::{opened, status_of};
 use data_read::Data;
 use report_print::{MakeKind, Refusal};
-use sched_run::{MakeFault, Net};
-use sched_text::{Schedule, print};
+use sched_run::{Made, MakeFault, Net, make_numbered};
 use std::alloc::{AllocError, Global};
 use topo_types::Valid;
 
@@ -50,32 +48,26 @@ pub fn make_refusal(fault: &MakeFault) -> Option<Refusal>
     }
 }
 
-// The text of a schedule that a net has just made, and whether anything is held after it.
-fn printed(alloc: Global, net: &Net<'_>, schedule: &Schedule) -> Result<Reply, AllocError>
+// The text of the schedule that a net has just made, and whether anything is held after it.
+fn printed(alloc: Global, net: &Net<'_>, made: &Made) -> Result<Reply, AllocError>
     requires runs { BooksRun net.now.valid.now.view net.now.books }
-    requires numbers { CountFromOne schedule.now }
-    requires printable { IsPrintable schedule.now }
-    ensures { IfOk result (λ reply. PrintsBooks net.now.valid.now.view net.now.books schedule.now (answer_of reply)) }
+    requires written { CanBeWritten net.now.valid.now.view made.now }
+    ensures { IfOk result (λ reply. PrintsBooks net.now.valid.now.view net.now.books made.now (answer_of reply)) }
 {
     Ok(Reply {
         status: status_of(net),
-        text: print(alloc, schedule)?,
+        text: made.text(alloc, net.valid())?,
     })
 }
 
 // The outcome of a net that made a schedule, or couldn't.
-fn outcome_of(
-    alloc: Global,
-    net: &Net<'_>,
-    made: Result<Schedule, MakeFault>,
-) -> Result<Reply, Stop>
+fn outcome_of(alloc: Global, net: &Net<'_>, made: Result<Made, MakeFault>) -> Result<Reply, Stop>
     requires runs { OnOk made (BooksRun net.now.valid.now.view net.now.books) }
-    requires numbers { IfOk made CountFromOne }
-    requires printable { IfOk made IsPrintable }
+    requires written { IfOk made (CanBeWritten net.now.valid.now.view) }
     ensures { IsMadeOf net.now.valid.now.view net.now.books made result }
 {
     match made {
-        Ok(schedule) => Ok(printed(alloc, net, &schedule)?),
+        Ok(made) => Ok(printed(alloc, net, &made)?),
         Err(fault) => Err(stop_at(alloc, make_refusal(&fault))),
     }
 }
@@ -100,7 +92,7 @@ fn made_over(
         result }
 {
     let mut net = opened(alloc, valid, given, bench)?;
-    let made = sched_run::make(&mut net, seed);
+    let made = make_numbered(&mut net, seed);
     let outcome = outcome_of(alloc, &net, made);
     net.close(bench)?;
     outcome

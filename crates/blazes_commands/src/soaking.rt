@@ -20,8 +20,7 @@ use command_labels::{planned_count, sound_labels};
 use command_runs::opened;
 use data_read::Data;
 use report_runs::soak_text;
-use sched_run::{MakeFault, Net, make};
-use sched_text::Schedule;
+use sched_run::{Made, MakeFault, Net, make_numbered};
 use std::alloc::{AllocError, Global};
 use topo_types::Valid;
 
@@ -42,7 +41,7 @@ fn outcome_of(
     valid: &Valid,
     batches: u32,
     net: &Net<'_>,
-    made: Result<Schedule, MakeFault>,
+    made: Result<Made, MakeFault>,
 ) -> Result<Reply, Stop>
     requires same { net.now.valid.now.view ≡ valid.now.view }
     requires runs { OnOk made (BooksRun valid.now.view net.now.books) }
@@ -76,7 +75,7 @@ fn soaked_over(
         result }
 {
     let mut net = opened(alloc, valid, given, bench)?;
-    let made = make(&mut net, words.seed);
+    let made = make_numbered(&mut net, words.seed);
     let outcome = outcome_of(alloc, valid, words.count, &net, made);
     net.close(bench)?;
     outcome

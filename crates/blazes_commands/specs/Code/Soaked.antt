@@ -2,8 +2,7 @@
 use Rattle.std.specs.Prelude.{ℕ, List, Result}
 use Rattle.topo_types.specs.Data.{Data}
 use Rattle.topo_types.specs.View.{View}
-use Rattle.inbox.specs.Events.{Step}
-use Rattle.sched_run.specs.Applying.{Line}
+use Rattle.inbox.specs.Events.{Step, Event}
 use Rattle.sched_hear.specs.Net.{BooksStand, execution_in}
 use Rattle.sched_hear.specs.declared.books.Books.{Books}
 use Rattle.sched_run.specs.declared.fault.MakeFault.{MakeFault}
@@ -18,5 +17,5 @@ abbrev pub SumsBooks : (batches : ℕ) → View → Books → Answer → Type 0
 SumsBooks batches v b answer = (given : Data) (steps : List Step) (stand : BooksStand v given steps b) → HasSummary batches v given (execution_in stand) answer
 
 -- the outcome of a net that has these books and made a schedule, or couldn't
-abbrev pub IsSummaryOf : (batches : ℕ) → View → Books → Result (List Line) MakeFault → Result Reply Stop → Type 0
-IsSummaryOf batches v b result outcome = IsMade (λ lines answer. SumsBooks batches v b answer) result outcome
+abbrev pub IsSummaryOf : (batches : ℕ) → View → Books → Result (List Event) MakeFault → Result Reply Stop → Type 0
+IsSummaryOf batches v b result outcome = IsMade (λ events answer. SumsBooks batches v b answer) result outcome

@@ -7,11 +7,11 @@ use Rattle.command_runs.specs.Bench.{bench_states}
 use Rattle.command_runs.proofs.BenchLemmas.{same_kinds}
 use Rattle.command_runs.proofs.OpeningLemmas.{opening_stops}
 use Rattle.command_runs.proofs.RepliesLemmas.{kept_anyway}
-use Rattle.blazes_commands.proofs.MakeLemmas.{make_replies, runs_first, runs_made}
+use Rattle.blazes_commands.proofs.MakeLemmas.{make_replies, runs_first, runs_made, written_on}
 use Rattle.blazes_commands.proofs.making.made_over.Goals as goal
 
-pub make-made-requires : goal.make-made-requires
-make-made-requires g c =
+pub make_numbered-made-requires : goal.make_numbered-made-requires
+make_numbered-made-requires g c =
     let net = c.in_ok-net.net in
     runs_first c.args.valid.now.view net.valid.now.view c.args.given (map (λ b. (goal.Component-dyn g (b.vtable, b.value)).loaded b.value) net.shells.items) (map (λ b. (goal.Component-dyn g (b.vtable, b.value)).kept b.value) net.shells.items) net.books
     (ap (λ (t : Validated). t.view) c.in_ok-net.ensures.valid) c.in_ok-net.ensures.stands
@@ -19,12 +19,11 @@ make-made-requires g c =
 pub outcome_of-outcome-requires : goal.outcome_of-outcome-requires
 outcome_of-outcome-requires g c =
     let net = c.in_ok-net.net in
-    let after = c.make-made.new.net in
+    let after = c.make_numbered-made.new.net in
     record {
       runs = runs_made c.args.valid.now.view c.args.given c.args.seed (map (λ b. (goal.Component-dyn g (b.vtable, b.value)).loaded b.value) net.shells.items) (map (λ b. (goal.Component-dyn g (b.vtable, b.value)).kept b.value) net.shells.items) (map (λ b. (goal.Component-dyn g (b.vtable, b.value)).kept b.value) after.shells.items) net.books after.books
-          net.valid.now.view after.valid.now.view c.make-made.result (ap (λ (t : Validated). t.view) c.in_ok-net.ensures.valid) (ap (λ valid. valid.now.view) c.make-made.ensures.valid) c.in_ok-net.ensures.stands c.make-made.ensures.leaves;
-      numbers = c.make-made.ensures.numbers;
-      printable = c.make-made.ensures.printable;
+          net.valid.now.view after.valid.now.view c.make_numbered-made.result (ap (λ (t : Validated). t.view) c.in_ok-net.ensures.valid) (ap (λ valid. valid.now.view) c.make_numbered-made.ensures.valid) c.in_ok-net.ensures.stands c.make_numbered-made.ensures.leaves;
+      written = written_on net.valid.now.view after.valid.now.view c.make_numbered-made.result (ap (λ valid. valid.now.view) c.make_numbered-made.ensures.valid) c.make_numbered-made.ensures.written;
     }
 
 pub returns-in_err-net : goal.returns-in_err-net
@@ -40,13 +39,13 @@ returns-in_err-net g c =
 pub returns : goal.returns
 returns g c =
     let net = c.in_ok-net.net in
-    let after = c.make-made.new.net in
+    let after = c.make_numbered-made.new.net in
     let all = c.close.new.bench.items in
     let bench = bench_states (map (λ b. (goal.Component-dyn g (b.vtable, b.value)).kind b.value) c.args.bench.now.items) (map (λ b. (goal.Component-dyn g (b.vtable, b.value)).kind b.value) all) (map (λ b. (goal.Component-dyn g (b.vtable, b.value)).loaded b.value) all) (map (λ b. (goal.Component-dyn g (b.vtable, b.value)).kept b.value) all) in
     record {
       replies = λ s. make_replies c.args.valid.now.view c.args.given c.args.seed (map (λ b. (goal.Component-dyn g (b.vtable, b.value)).loaded b.value) net.shells.items) (map (λ b. (goal.Component-dyn g (b.vtable, b.value)).kept b.value) net.shells.items) (map (λ b. (goal.Component-dyn g (b.vtable, b.value)).kept b.value) after.shells.items) net.books after.books
-          bench s net.valid.now.view after.valid.now.view c.make-made.result c.outcome_of-outcome.result c.in_ok-net.ensures.gives (ap (λ (t : Validated). t.view) c.in_ok-net.ensures.valid) (ap (λ valid. valid.now.view) c.make-made.ensures.valid) c.in_ok-net.ensures.stands
-          c.make-made.ensures.made c.make-made.ensures.leaves c.outcome_of-outcome.ensures;
+          bench s net.valid.now.view after.valid.now.view c.make_numbered-made.result c.outcome_of-outcome.result c.in_ok-net.ensures.gives (ap (λ (t : Validated). t.view) c.in_ok-net.ensures.valid) (ap (λ valid. valid.now.view) c.make_numbered-made.ensures.valid) c.in_ok-net.ensures.stands
+          c.make_numbered-made.ensures.made c.make_numbered-made.ensures.leaves c.outcome_of-outcome.ensures;
       kinds = kept_anyway bench c.outcome_of-outcome.result
-          (same_kinds (λ b. (goal.Component-dyn g (b.vtable, b.value)).kind b.value) bench.kinds c.opened.new.bench.items net.shells.items after.shells.items all c.in_ok-net.ensures.kinds c.make-made.ensures.kinds c.in_ok-close.ensures.ok);
+          (same_kinds (λ b. (goal.Component-dyn g (b.vtable, b.value)).kind b.value) bench.kinds c.opened.new.bench.items net.shells.items after.shells.items all c.in_ok-net.ensures.kinds c.make_numbered-made.ensures.kinds c.in_ok-close.ensures.ok);
     }

@@ -1,12 +1,14 @@
-use Rattle.std.proofs.Common.{List, subst}
-use Rattle.sched_run.specs.Applying.{Line}
-use Rattle.sched_text.specs.Reading.{ReadsAs, event_reading}
-use Rattle.blazes_commands.proofs.MakeLemmas.{numbered_alike}
+use Rattle.std.proofs.Common.{subst, sym}
+use Rattle.topo_types.specs.Valid.{Validated}
+use Rattle.sched_run.specs.Making.{IsTextOf}
+use Rattle.sched_run.specs.Naming.{CanBeWritten}
 use Rattle.blazes_commands.proofs.making.printed.Goals as goal
+
+pub text-requires : goal.text-requires
+text-requires g c = subst (λ (s : Validated). CanBeWritten s.view c.args.made.now) (sym c.valid.ensures) c.requires.written
 
 pub returns : goal.returns
 returns g c = record {
-  text = c.in_ok-print.ensures.text;
-  reads = subst (λ (lines : List Line). ReadsAs event_reading c.in_ok-print.field-0.items lines) (numbered_alike c.args.schedule.now c.requires.numbers) c.in_ok-print.ensures.read_again;
+  text = subst (λ (s : Validated). IsTextOf s.view c.args.made.now c.in_ok-text.field-0.items) c.valid.ensures c.in_ok-text.ensures;
   status = c.status_of.ensures;
 }

@@ -1,0 +1,69 @@
+-- The tables that are kept have rows of their widths, each has the rows of its collection, and what is kept of the rules can be looked into.
+use Rattle.std.proofs.Common.{◌≡◌, ◌<◌, ℕ, Bool, List, [], length, Option, None, Some, Result, Ok, Err, ap, ◌∙◌, sym, subst, arith}
+use Rattle.std.proofs.lemmas.List.{length-map}
+use Rattle.std.specs.Result.{IsErrAnd}
+use Rattle.blz_boxes.proofs.Tables.{empties_wide}
+use Rattle.bloom_ast.specs.declared.module.Kind.TheVariants.{Table}
+use Rattle.bloom_ast.specs.declared.module.Collection.{Collection}
+use Rattle.bloom_ast.specs.declared.numbered.NumberedRule.{NumberedRule}
+use Rattle.bloom_ast.specs.declared.program.Program.TheVariants.{Module}
+use Rattle.bloom_ast.specs.Form.{Accepted}
+use Rattle.bloom_ast.specs.Kinds.{of_kind, kind_at, place_in_kind}
+use Rattle.bloom_ast.specs.Numbered.{AreNumbered}
+use Rattle.bloom_ast.specs.Program.{columns_of_kind, table_columns}
+use Rattle.bloom_ast.specs.ProgramStep.{empty_tables}
+use Rattle.bloom_ast.specs.Step.{Sets, set_at}
+use Rattle.bloom_ast.specs.Widths.{AreSetsOf}
+use Rattle.bloom_ast.proofs.Collections.Numbers.{set-of_kind}
+use Rattle.bloom_ast.proofs.Ends.SameEnds.{none_at}
+use Rattle.bloom_eval.specs.declared.fault.StepFault.{StepFault}
+use Rattle.bloom_eval.proofs.Widths.{length-sets_of}
+use Rattle.bloom_index.specs.declared.heads.RuleMemo.{RuleMemo}
+use Rattle.bloom_index.specs.declared.step.Parts.{Parts}
+use Rattle.bloom_index.specs.Code.Kept.{tables_in, held_over, kept_tables, PartsStand, KeptStands}
+use Rattle.bloom_index.specs.Code.SideParts.{BodiesStand, AreKept}
+use Rattle.bloom_index.proofs.SideLemmas.{bodies_stand}
+
+module _ (a : Accepted) where
+  pub kept_wide : (parts : Option Parts) → KeptStands a parts → AreSetsOf (columns_of_kind Table a.form.collections) (kept_tables a parts)
+  kept_wide None stands = empties_wide (columns_of_kind Table a.form.collections)
+  kept_wide (Some parts) stands = stands.wide
+
+  -- there is a table for each that is kept
+  pub table_within : (parts : Parts) → PartsStand a parts → (table : ℕ) → table < length (tables_in a parts.rows.items) → table < length (of_kind Table a.form.collections)
+  table_within parts stands table lt =
+      omega (arith, lt, length-sets_of (columns_of_kind Table a.form.collections) (tables_in a parts.rows.items) stands.wide, length-map (of_kind Table a.form.collections) (λ (c : Collection). c.columns))
+
+  -- the rows of the collection that is a table are those of the table
+  pub table_rows : (parts : Parts) → PartsStand a parts → (table number : ℕ) → kind_at a.form.collections number ≡ Some Table → place_in_kind Table a.form.collections number ≡ table → set_at parts.rows.items number ≡ set_at (tables_in a parts.rows.items) table
+  table_rows parts stands table number kind place =
+      sym (set-of_kind Table a.form.collections parts.rows.items number stands.many kind) ∙ ap (set_at (tables_in a parts.rows.items)) place
+
+  pub no_table : (table : ℕ) → set_at (empty_tables (Module a)) table ≡ []
+  no_table table = none_at (table_columns (Module a)) table
+
+  -- ---- sides
+
+  abbrev pub are_kept : (parts : Parts) → PartsStand a parts → (growing : List Bool) (memos : List RuleMemo) → growing ≡ parts.growing.items → memos ≡ parts.memos.items → (rules : List NumberedRule) → AreNumbered a.form.collections a.form.rules rules → AreKept growing rules memos
+  are_kept parts stands growing memos is also rules numbered =
+      let sets = held_over a (tables_in a parts.rows.items) in
+      let grow = sym is in
+      let kept = sym also in
+      record {
+        sets = sets;
+        stand = subst (λ (X : Type 0). X) (λ i. BodiesStand (grow i) sets rules (kept i)) (bodies_stand a parts.growing.items sets rules parts.memos.items (stands.memos rules numbered));
+      }
+
+-- what holds of a step of an equal module, over tables that are kept and what arrives
+pub step_moved : (P : Accepted → (kept now : Sets) → Type 0) (a b : Accepted) (rows kept now other : Sets) → b ≡ a → tables_in a rows ≡ kept → other ≡ now → P b (tables_in b rows) other → P a kept now
+step_moved P a b rows kept now other same is arrives h =
+    subst (λ (tables : Sets). P a tables now) is
+    (subst (λ (n : Sets). P a (tables_in a rows) n) arrives
+    (subst (λ (c : Accepted). P c (tables_in c rows) other) same h))
+
+-- a fault that is handed on is the one that there was
+pub step_handed : (X Y : Type 0) (r : Result X StepFault) (s : Result Y StepFault) (fault other : StepFault) → IsErrAnd r (λ d. d ≡ fault) → r ≡ Err other → s ≡ Err fault → s ≡ Err other
+step_handed X Y (Ok x) s fault other is handed was = absurd is
+step_handed X Y (Err d) s fault other is handed was =
+    let same : d ≡ other = cc in
+    was ∙ ap Err (sym is ∙ same)

@@ -1,0 +1,167 @@
+-- Where no collection holds a row, no expression has one, and what is kept before the first step stands.
+-- Over empty tables, with nothing arriving, no collection holds a row.
+use Rattle.std.proofs.Common.{◌≡◌, ◌∙◌, ◌++◌, ℕ, zero, suc, Bool, Option, None, Some, unwrap_or, List, [], ◌∷◌, refl, ap, sym, subst}
+use Rattle.std.specs.Prelude.{slice_get, slice_set}
+use Rattle.std.specs.Option.{option_map_or}
+use Rattle.std.specs.BTreeMap.{BTreeMap, IsEmpty, is_at, get}
+use Rattle.std.specs.List.{fold}
+use Rattle.std.specs.Map.{lookup}
+use Rattle.blz_value.specs.declared.aggregate.Agg.{Agg}
+use Rattle.blz_value.specs.declared.aggregate.Agg.TheVariants.{Count}
+use Rattle.blz_value.specs.Groups.{with_key, group_rows, at_least_rows}
+use Rattle.blz_value.specs.Operators.{Pairs, select_rows, project_rows, join_rows, notin_rows}
+use Rattle.blz_value.specs.Record.{Row, record_cmp}
+use Rattle.blz_value.specs.Sets.{set_of}
+use Rattle.blz_value.specs.Test.{test_holds}
+use Rattle.blz_set.specs.Code.Pairs.{lefts_of, rights_of}
+use Rattle.bloom_ast.specs.declared.module.Kind.{Kind}
+use Rattle.bloom_ast.specs.declared.module.Kind.TheVariants.{Input, Output, Table, Scratch}
+use Rattle.bloom_ast.specs.declared.numbered.NumberedExpr.{NumberedExpr}
+use Rattle.bloom_ast.specs.declared.numbered.NumberedExpr as expr
+use Rattle.bloom_ast.specs.declared.program.Program.TheVariants.{Module}
+use Rattle.bloom_ast.specs.Equations.{Env}
+use Rattle.bloom_ast.specs.Form.{RuleForm, Form, Accepted}
+use Rattle.bloom_ast.specs.Kinds.{kind_at, place_in_kind}
+use Rattle.bloom_ast.specs.Lookup.{collection_number, declared}
+use Rattle.bloom_ast.specs.OverTables.{without_table_rules, env_over}
+use Rattle.bloom_ast.specs.Program.{port_columns, table_columns}
+use Rattle.bloom_ast.specs.ProgramStep.{no_arrivals, empty_tables}
+use Rattle.bloom_ast.specs.Query.{Name}
+use Rattle.bloom_ast.specs.Step.{Sets, set_at, begun, ended, at_start, rules_at, union_of, ruled_at, rows_named, with_head, at_end}
+use Rattle.bloom_ast.proofs.Ends.Equated.{starts}
+use Rattle.bloom_ast.proofs.Ends.SameEnds.{none_at}
+use Rattle.bloom_ast.proofs.Reach.Quiet.{empty_rows}
+use Rattle.bloom_eval.specs.Code.NumberedRows.{numbered_rows}
+use Rattle.bloom_index.specs.declared.excluding.NotInMemo.{NotInMemo}
+use Rattle.bloom_index.specs.declared.groups.Groups.{Groups}
+use Rattle.bloom_index.specs.declared.joining.JoinMemo.{JoinMemo}
+use Rattle.bloom_index.specs.declared.memo.Memo.{Memo}
+use Rattle.bloom_index.specs.declared.memo.Memo as memo
+use Rattle.bloom_index.specs.declared.running.Running.{Running}
+use Rattle.bloom_index.specs.declared.side.Side.{Side}
+use Rattle.bloom_index.specs.Code.Evaluation.{Stands}
+use Rattle.bloom_index.specs.Code.Emptiness.{AreEmpty, IsFreshSide, IsFreshJoin, IsFreshNotIn, AreFreshGroups, IsFresh}
+use Rattle.bloom_index.specs.Code.Groups.{IsRunningAt}
+use Rattle.bloom_index.specs.Code.Kept.{held_over}
+use Rattle.bloom_index.specs.Code.Memos.{JoinStands, NotInStands, GroupsStand}
+use Rattle.bloom_index.specs.Code.Side.{IsSideOf}
+use Rattle.bloom_index.specs.Sides.{module_sides, part_side, side_rows, SidePart}
+
+-- ---- what is kept
+
+-- each key of an empty map finds nothing
+none_found : {X : Type 0} (m : BTreeMap Row X) → IsEmpty m → (key : Row) → get record_cmp m key ≡ None
+none_found {X} m none key = ap (λ (entries : List (Row × X)). lookup (is_at (record_cmp key)) entries) none
+
+side_of_none : (columns : List ℕ) (side : Side) (rows : List Row) → IsFreshSide columns side → rows ≡ [] → IsSideOf columns rows side.sets
+side_of_none columns side rows fresh none key =
+    ap (λ (o : Option (List Row)). unwrap_or o []) (none_found side.sets fresh.none key) ∙ sym (ap (with_key columns key) none)
+
+join_of_none : (pairs : Pairs) (left right : Bool) (lefts rights : List Row) (kept : JoinMemo) → IsFreshJoin pairs kept → lefts ≡ [] → rights ≡ [] → JoinStands pairs left right lefts rights kept
+join_of_none pairs left right lefts rights kept fresh none also = record {
+  left_columns = fresh.left.columns_are;
+  right_columns = fresh.right.columns_are;
+  left = λ grow. side_of_none (lefts_of pairs) kept.left lefts fresh.left none;
+  right = λ grow. side_of_none (rights_of pairs) kept.right rights fresh.right also;
+  rows = λ grow more. fresh.rows ∙ sym (ap (λ (rows : List Row). set_of (join_rows pairs rows rights)) none);
+}
+
+notin_of_none : (pairs : Pairs) (left right : Bool) (lefts rights : List Row) (kept : NotInMemo) → IsFreshNotIn pairs kept → lefts ≡ [] → rights ≡ [] → NotInStands pairs left right lefts rights kept
+notin_of_none pairs left right lefts rights kept fresh none also = record {
+  right_columns = fresh.right.columns_are;
+  left = λ grow. fresh.lefts ∙ sym none;
+  right = λ grow. side_of_none (rights_of pairs) kept.right rights fresh.right also;
+}
+
+groups_of_none : (keys : List ℕ) (agg : Agg) (grow : Bool) (rows : List Row) (groups : Groups) → AreFreshGroups keys agg groups → rows ≡ [] → GroupsStand keys agg grow rows groups
+groups_of_none keys agg grow rows groups fresh none = record {
+  keys_are = fresh.keys_are;
+  agg_is = fresh.agg_is;
+  running = λ is key. subst (λ (o : Option Running). IsRunningAt agg (with_key keys key rows) o) (sym (none_found groups.running fresh.none key)) (ap (with_key keys key) none);
+}
+
+-- ---- where no collection holds a row
+
+module _ (sets : Sets) (empty : AreEmpty sets) where
+  pub no_rows : (e : NumberedExpr) → numbered_rows sets e ≡ []
+  no_rows (expr.Base number) = empty number
+  no_rows (expr.Select' p e test) = ap (λ (rows : List Row). set_of (select_rows (test_holds test) rows)) (no_rows e)
+  no_rows (expr.Project' p e columns) = ap (λ (rows : List Row). set_of (project_rows columns rows)) (no_rows e)
+  no_rows (expr.Join' p l q r pairs) = ap (λ (rows : List Row). set_of (join_rows pairs rows (numbered_rows sets r))) (no_rows l)
+  no_rows (expr.NotIn' p l q r pairs) = ap (λ (rows : List Row). set_of (notin_rows pairs rows (numbered_rows sets r))) (no_rows l)
+  no_rows (expr.Group' p e keys agg) = ap (λ (rows : List Row). set_of (group_rows keys agg rows)) (no_rows e)
+  no_rows (expr.AtLeast' p e keys bound) = ap (λ (rows : List Row). set_of (at_least_rows keys bound rows)) (no_rows e)
+
+  pub fresh_stands : (growing : List Bool) (e : NumberedExpr) (m : Memo) → IsFresh e m → Stands growing sets e m
+  fresh_stands growing (expr.Base number) memo.Base fresh = tt
+  fresh_stands growing (expr.Select' p e test) (memo.Select' q m) fresh = fresh_stands growing e m fresh
+  fresh_stands growing (expr.Project' p e columns) (memo.Project' q m rows) fresh = (fresh_stands growing e m fresh.0, λ grow. fresh.1 ∙ sym (no_rows (expr.Project' p e columns)))
+  fresh_stands growing (expr.Join' p l q r pairs) (memo.Join' s m t n kept) fresh = (fresh_stands growing l m fresh.0, fresh_stands growing r n fresh.1, join_of_none pairs _ _ (numbered_rows sets l) (numbered_rows sets r) kept fresh.2 (no_rows l) (no_rows r))
+  fresh_stands growing (expr.NotIn' p l q r pairs) (memo.NotIn' s m t n kept) fresh = (fresh_stands growing l m fresh.0, fresh_stands growing r n fresh.1, notin_of_none pairs _ _ (numbered_rows sets l) (numbered_rows sets r) kept fresh.2 (no_rows l) (no_rows r))
+  fresh_stands growing (expr.Group' p e keys agg) (memo.Group' q m groups) fresh = (fresh_stands growing e m fresh.0, groups_of_none keys agg _ (numbered_rows sets e) groups fresh.1 (no_rows e))
+  fresh_stands growing (expr.AtLeast' p e keys bound) (memo.AtLeast' q m groups rows) fresh =
+      (fresh_stands growing e m fresh.0, groups_of_none keys Count _ (numbered_rows sets e) groups fresh.1 (no_rows e), λ grow. fresh.2 ∙ sym (no_rows (expr.AtLeast' p e keys bound)))
+  fresh_stands growing e m fresh = absurd fresh
+
+-- ---- over empty tables
+
+emptied_one : (sets : Sets) → AreEmpty sets → (place : ℕ) (rows : List Row) → rows ≡ [] → AreEmpty (slice_set sets place rows)
+emptied_one [] empty place rows none number = empty number
+emptied_one (s ∷ sets) empty zero rows none zero = none
+emptied_one (s ∷ sets) empty zero rows none (suc number) = empty (suc number)
+emptied_one (s ∷ sets) empty (suc place) rows none zero = empty 0
+emptied_one (s ∷ sets) empty (suc place) rows none (suc number) = emptied_one sets (λ k. empty (suc k)) place rows none number
+
+none_of_rules : (columns : Name → List Name) (env : Env) → ((n : Name) → env n ≡ []) → (rules : List RuleForm) → union_of columns env rules ≡ []
+none_of_rules columns env none [] = refl
+none_of_rules columns env none (r ∷ rules) = ap (λ (rows : List Row). rows ++ union_of columns env rules) (empty_rows columns env none r.1) ∙ none_of_rules columns env none rules
+
+ended_empty : (o : Option Kind) (old given : List Row) → old ≡ [] → given ≡ [] → ended o old old given ≡ []
+ended_empty None old given none also = refl
+ended_empty (Some Input) old given none also = none
+ended_empty (Some Output) old given none also = ap set_of also
+ended_empty (Some Scratch) old given none also = ap set_of also
+ended_empty (Some Table) old given none also = λ i. set_of (none i ++ also i)
+
+begun_empty : (o : Option Kind) (kept now : List Row) → kept ≡ [] → now ≡ [] → begun o kept now ≡ []
+begun_empty None kept now none also = refl
+begun_empty (Some Input) kept now none also = also
+begun_empty (Some Output) kept now none also = refl
+begun_empty (Some Scratch) kept now none also = refl
+begun_empty (Some Table) kept now none also = none
+
+module _ (form : Form) where
+  heads_empty : (heads : List ℕ) (sets : Sets) → AreEmpty sets → AreEmpty (fold (with_head form) sets heads)
+  heads_empty [] sets empty = empty
+  heads_empty (h ∷ heads) sets empty =
+      heads_empty heads (with_head form sets h)
+      (emptied_one sets empty h (ended (kind_at form.collections h) (set_at sets h) (set_at sets h) (ruled_at form sets h))
+      (ended_empty (kind_at form.collections h) (set_at sets h) (ruled_at form sets h) (empty h)
+      (none_of_rules (declared form.collections) (rows_named form.collections sets) (λ n. empty (collection_number form.collections n)) (rules_at form.collections form.rules h))))
+
+-- nothing is held at the end of a step over empty tables in which nothing arrives
+pub ends_empty : (a : Accepted) (tables now : Sets) → AreEmpty tables → AreEmpty now → AreEmpty (at_end a tables now)
+ends_empty a tables now empty none =
+    let cs = a.form.collections in
+    heads_empty a.form a.heads (at_start cs tables now) (λ number.
+    starts cs tables now number
+    ∙ begun_empty (kind_at cs number) (set_at tables (place_in_kind Table cs number)) (set_at now (place_in_kind Input cs number)) (empty (place_in_kind Table cs number)) (none (place_in_kind Input cs number)))
+
+module _ (a : Accepted) where
+  pub no_tables : AreEmpty (empty_tables (Module a))
+  no_tables number = none_at (table_columns (Module a)) number
+
+  pub no_ports : AreEmpty (no_arrivals (Module a))
+  no_ports number = none_at (port_columns (Module a)) number
+
+  -- nothing is held over empty tables
+  pub nothing_held : (tables : Sets) → AreEmpty tables → AreEmpty (held_over a tables)
+  nothing_held tables empty = ends_empty (without_table_rules a) tables (no_arrivals (Module a)) empty no_ports
+
+  -- no side has a row
+  pub no_side_rows : (tables : Sets) → AreEmpty tables → (number : ℕ) (key : Row) → side_rows (Some (Module a)) tables number key ≡ []
+  no_side_rows tables empty number key = go (slice_get (module_sides a.form) number)
+    where
+      go : (o : Option SidePart) → option_map_or (λ (side : SidePart). part_side a tables side key) o [] ≡ []
+      go None = refl
+      go (Some side) = ap (with_key side.columns key) (empty_rows (declared a.form.collections) (env_over a tables (no_arrivals (Module a))) (λ n. nothing_held tables empty (collection_number a.form.collections n)) side.part)

@@ -1,0 +1,111 @@
+-- Sides one rule after the other, and one part of a rule after the other.
+use Rattle.std.proofs.Common.{◌≡◌, ◌∙◌, ◌<◌, ◌≤◌, ◌+◌, ℕ, zero, suc, Bool, IsTrue, IsSomeAnd, List, [], ◌∷◌, ◌++◌, length, get_or, take, drop, slice_get, Bor, ap, sym, subst, arith}
+use Rattle.std.specs.List.{AllZip, flat_map}
+use Rattle.std.specs.declared.ops.ControlFlow.{ControlFlow}
+use Rattle.std.specs.declared.ops.ControlFlow.TheVariants.{Continue, Break}
+use Rattle.std.proofs.lemmas.List.{append-nil, take_more, take_all, take-append-drop, drop_more, length-append, get_or_default}
+use Rattle.std.proofs.lemmas.List.Concat.{flat_map-append}
+use Rattle.std.proofs.lemmas.Slice.Zip.{AllZip-long}
+use Rattle.bloom_ast.specs.declared.numbered.NumberedExpr.{NumberedExpr}
+use Rattle.bloom_ast.specs.declared.numbered.NumberedRule.{NumberedRule}
+use Rattle.bloom_ast.specs.Step.{Sets}
+use Rattle.bloom_index.specs.declared.heads.RuleMemo.{RuleMemo}
+use Rattle.bloom_index.specs.declared.memo.Memo.{Memo}
+use Rattle.bloom_index.specs.declared.side.Side.{Side}
+use Rattle.bloom_eval.specs.Code.NumberedRows.{numbered_rows}
+use Rattle.bloom_index.specs.Code.Evaluation.{Stands}
+use Rattle.bloom_index.specs.Code.Growth.{grows}
+use Rattle.bloom_index.specs.Code.Side.{IsSideOf}
+use Rattle.bloom_index.specs.Code.SideParts.{NumberedSide, grown_side, numbered_sides, rules_sides, IsKept, BodiesStand, HasRowsOf, IsSideAt, Finds}
+
+-- the element at a place of two lists
+pub zip_at : {X Y : Type 0} (R : X → Y → Type 0) (xs : List X) (ys : List Y) (i : ℕ) (x : X) (y : Y) → AllZip R xs ys → i < length xs → x ≡ get_or xs i x → y ≡ get_or ys i y → R x y
+zip_at R [] ys i x y all lt ex ey = absurd (omega (arith, lt))
+zip_at R (u ∷ xs) [] i x y all lt ex ey = absurd all
+zip_at {X} {Y} R (u ∷ xs) (v ∷ ys) zero x y all lt ex ey = subst (λ (z : X). R z y) (sym ex) (subst (λ (w : Y). R u w) (sym ey) all.0)
+zip_at R (u ∷ xs) (v ∷ ys) (suc i) x y all lt ex ey = zip_at R xs ys i x y all.1 (omega (arith, lt)) ex ey
+
+-- a place in a later list, and in an earlier one
+pub at_after : {X : Type 0} (Q : X → Type 0) (before xs : List X) (k n : ℕ) → k + length before ≡ n → IsSomeAnd (slice_get xs k) Q → IsSomeAnd (slice_get (before ++ xs) n) Q
+at_after Q [] xs k n e h = let same : k ≡ n = omega (arith, e) in subst (λ (m : ℕ). IsSomeAnd (slice_get xs m) Q) same h
+at_after Q (b ∷ before) xs k zero e h = absurd (omega (arith, e))
+at_after Q (b ∷ before) xs k (suc n) e h = at_after Q before xs k n (omega (arith, e)) h
+
+pub at_before : {X : Type 0} (Q : X → Type 0) (xs more : List X) (k : ℕ) → IsSomeAnd (slice_get xs k) Q → IsSomeAnd (slice_get (xs ++ more) k) Q
+at_before Q [] more k h = absurd h
+at_before Q (x ∷ xs) more zero h = h
+at_before Q (x ∷ xs) more (suc k) h = at_before Q xs more k h
+
+module _ (growing : List Bool) (rules : List NumberedRule) where
+  abbrev own : NumberedRule → List NumberedSide
+  own rule = numbered_sides growing rule.body
+
+  -- the sides with those of one rule more
+  pub sides_more : (i : ℕ) (rule : NumberedRule) → i < length rules → rule ≡ get_or rules i rule → rules_sides growing (take (i + 1) rules) ≡ rules_sides growing (take i rules) ++ own rule
+  sides_more i rule lt is =
+      ap (λ (l : List NumberedRule). flat_map own l) (take_more rules i rule lt ∙ ap (λ (r : NumberedRule). take i rules ++ r ∷ []) (sym is))
+      ∙ flat_map-append own (take i rules) (rule ∷ [])
+      ∙ ap (λ (l : List NumberedSide). flat_map own (take i rules) ++ l) (append-nil (own rule))
+
+  -- those before a rule, its own and those after it
+  sides_split : (i : ℕ) (rule : NumberedRule) → i < length rules → rule ≡ get_or rules i rule → rules_sides growing rules ≡ rules_sides growing (take i rules) ++ (own rule ++ rules_sides growing (drop (i + 1) rules))
+  sides_split i rule lt is =
+      ap (λ (l : List NumberedRule). flat_map own l) (sym (take-append-drop i rules) ∙ ap (λ (l : List NumberedRule). take i rules ++ l) (drop_more rules i rule lt ∙ ap (λ (r : NumberedRule). r ∷ drop (i + 1) rules) (sym is)))
+      ∙ flat_map-append own (take i rules) (rule ∷ drop (i + 1) rules)
+
+  -- the side of a rule with a number is that of all rules with the number that counts those before it
+  pub side_of_all : (sets : Sets) (i : ℕ) (rule : NumberedRule) (left number : ℕ) (side : Side) → i < length rules → rule ≡ get_or rules i rule → left + length (rules_sides growing (take i rules)) ≡ number → IsSideAt sets (own rule) left side → IsSideAt sets (rules_sides growing rules) number side
+  side_of_all sets i rule left number side lt is passed at =
+      subst (λ (sides : List NumberedSide). IsSideAt sets sides number side) (sym (sides_split i rule lt is))
+      (at_after (HasRowsOf sets side) (rules_sides growing (take i rules)) (own rule ++ rules_sides growing (drop (i + 1) rules)) left number passed (at_before (HasRowsOf sets side) (own rule) (rules_sides growing (drop (i + 1) rules)) left at))
+
+  pub sides_all : (i : ℕ) → length rules ≤ i → rules_sides growing (take i rules) ≡ rules_sides growing rules
+  sides_all i le = ap (λ (l : List NumberedRule). flat_map own l) (take_all i rules le)
+
+-- ---- one part after the other
+
+-- a side that is found among the first
+pub finds_first : (sets : Sets) (xs ys : List NumberedSide) (number : ℕ) (side : Bor Side) → Finds sets xs number (Break side) → Finds sets (xs ++ ys) number (Break side)
+finds_first sets xs ys number side found = at_before (HasRowsOf sets side.now) xs ys number found
+
+-- what is found of the later ones, where the first were passed
+pub finds_later : (sets : Sets) (xs ys : List NumberedSide) (number left : ℕ) (r : ControlFlow (Bor Side) ℕ) → Finds sets xs number (Continue left) → Finds sets ys left r → Finds sets (xs ++ ys) number r
+finds_later sets xs ys number left (Break side) passed found = at_after (HasRowsOf sets side.now) xs ys left number (omega (arith, passed)) found
+finds_later sets xs ys number left (Continue more) passed found = omega (arith, passed, found, length-append xs ys)
+
+-- what is found of a part itself
+abbrev FindsPart : List Bool → NumberedExpr → Side → (number : ℕ) → ControlFlow (Bor Side) ℕ → Type 0
+FindsPart growing e side number r = (sets : Sets) (columns : List ℕ) → (IsTrue (grows growing e) → IsSideOf columns (numbered_rows sets e) side.sets) → Finds sets (grown_side growing e columns) number r
+
+pub part_found : (growing : List Bool) (e0 e : NumberedExpr) (side : Side) (number : ℕ) (r : ControlFlow (Bor Side) ℕ) → e0 ≡ e → FindsPart growing e0 side number r → FindsPart growing e side number r
+part_found growing e0 e side number r ee f = subst (λ (x : NumberedExpr). FindsPart growing x side number r) ee f
+
+-- what is found of equal expressions and memos
+pub transport : (growing : List Bool) (e0 e : NumberedExpr) (m0 m : Memo) (number : ℕ) (r : ControlFlow (Bor Side) ℕ) → e0 ≡ e → m0 ≡ m → ((kept : IsKept growing e m) → Finds kept.sets (numbered_sides growing e) number r)
+    → (kept : IsKept growing e0 m0) → Finds kept.sets (numbered_sides growing e0) number r
+transport growing e0 e m0 m number r ee em f kept =
+    let there : IsKept growing e m = record { sets = kept.sets; stands = subst (λ (x : Memo). Stands growing kept.sets e x) em (subst (λ (x : NumberedExpr). Stands growing kept.sets x m0) ee kept.stands) } in
+    subst (λ (x : NumberedExpr). Finds kept.sets (numbered_sides growing x) number r) (sym ee) (f there)
+
+-- ---- what is kept of the rules
+
+module _ (growing : List Bool) (sets : Sets) (rules : List NumberedRule) (memos : List RuleMemo) (all : BodiesStand growing sets rules memos) where
+  abbrev Kept : NumberedRule → RuleMemo → Type 0
+  Kept rule memo = Stands growing sets rule.body memo.memo
+
+  pub as_many : length memos ≡ length rules
+  as_many = AllZip-long Kept rules memos all
+
+  -- what is kept of the rule at a place
+  abbrev pub body_at : (i : ℕ) (rule : NumberedRule) (d : RuleMemo) → i < length rules → rule ≡ get_or rules i rule → IsKept growing rule.body (get_or memos i d).memo
+  body_at i rule d lt is = record {
+    sets = sets;
+    stands = zip_at Kept rules memos i rule (get_or memos i d) all lt is (get_or_default memos i d (get_or memos i d) (omega (arith, lt, as_many)));
+  }
+
+-- one rule more is passed
+pub passed_more : (growing : List Bool) (rules : List NumberedRule) (i : ℕ) (rule : NumberedRule) (left later number : ℕ) → i < length rules → rule ≡ get_or rules i rule → left + length (rules_sides growing (take i rules)) ≡ number
+    → length (numbered_sides growing rule.body) + later ≡ left → later + length (rules_sides growing (take (i + 1) rules)) ≡ number
+passed_more growing rules i rule left later number lt is before here =
+    let more : length (rules_sides growing (take (i + 1) rules)) ≡ length (rules_sides growing (take i rules) ++ numbered_sides growing rule.body) = ap (λ (l : List NumberedSide). length l) (sides_more growing rules i rule lt is) in
+    omega (arith, before, here, more, length-append (rules_sides growing (take i rules)) (numbered_sides growing rule.body))

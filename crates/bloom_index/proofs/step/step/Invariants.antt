@@ -1,0 +1,12 @@
+-- the heads so far were taken
+use Rattle.std.proofs.Common.{drop}
+use Rattle.bloom_index.specs.Code.Kept.{tables_in}
+use Rattle.bloom_index.proofs.StepHeads.{IsStep}
+use Rattle.bloom_index.proofs.StepNext.{IsMid}
+use Rattle.bloom_index.proofs.step.step.Given as goal
+
+abbrev pub invariant-loop-head : goal.invariant-loop-head
+invariant-loop-head l =
+    let growing = l.initial.parts.growing.items in
+    let tables = tables_in l.program l.initial.parts.rows.items in
+    (st : IsStep l.program l.rules growing tables l.now) × IsMid l.program l.rules growing tables l.now st l.all l.parts l.held.items (drop l.head-index l.program.heads)

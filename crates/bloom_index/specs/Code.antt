@@ -1,0 +1,17 @@
+-- What private functions give.
+pub mod Changes
+pub mod Side
+pub mod Joins
+pub mod Turns
+pub mod Running
+pub mod Groups
+pub mod Memos
+pub mod Growth
+pub mod Evaluation
+pub mod Emptiness
+pub mod Heads
+pub mod SideParts
+pub mod Kept
+pub mod HeadRules
+pub mod KeptProps
+pub mod StepSets

@@ -1,0 +1,72 @@
+-- The sides of rules by numbers, and the sides that are kept of them.
+use Rattle.std.specs.Prelude.{ℕ, ◌≡◌, ◌+◌, Bool, if◌then◌else◌, List, [], ◌∷◌, ◌++◌, length, slice_get, IsSomeAnd}
+use denote.Ref.{Bor}
+use Rattle.std.specs.List.{AllZip, flat_map}
+use Rattle.std.specs.declared.ops.ControlFlow.{ControlFlow}
+use Rattle.std.specs.declared.ops.ControlFlow.TheVariants.{Continue, Break}
+use Rattle.blz_set.specs.Code.Pairs.{lefts_of, rights_of}
+use Rattle.bloom_ast.specs.declared.numbered.NumberedExpr.{NumberedExpr, Base, Select', Project', Join', NotIn', Group', AtLeast'}
+use Rattle.bloom_ast.specs.declared.numbered.NumberedRule.{NumberedRule}
+use Rattle.bloom_ast.specs.Step.{Sets}
+use Rattle.bloom_eval.specs.Code.NumberedRows.{numbered_rows}
+use Rattle.bloom_index.specs.declared.heads.RuleMemo.{RuleMemo}
+use Rattle.bloom_index.specs.declared.memo.Memo.{Memo}
+use Rattle.bloom_index.specs.declared.side.Side.{Side}
+use Rattle.bloom_index.specs.Code.Evaluation.{Stands}
+use Rattle.bloom_index.specs.Code.Growth.{grows}
+use Rattle.bloom_index.specs.Code.Side.{IsSideOf}
+
+-- ---- sides by numbers
+
+-- a part by numbers, and its columns in the pairs of its join or notin
+pub record NumberedSide : Type 0 where
+  pub part : NumberedExpr
+  pub columns : List ℕ
+
+-- the one part where it grows, else none
+abbrev pub grown_side : List Bool → NumberedExpr → List ℕ → List NumberedSide
+grown_side growing e columns = if grows growing e then record { part = e; columns = columns } ∷ [] else []
+
+-- the sides in an expression, in the order of the text
+abbrev pub numbered_sides : List Bool → NumberedExpr → List NumberedSide
+numbered_sides growing (Base number) = []
+numbered_sides growing (Select' p e test) = numbered_sides growing e
+numbered_sides growing (Project' p e columns) = numbered_sides growing e
+numbered_sides growing (Join' p a q b pairs) =
+    grown_side growing a (lefts_of pairs) ++ (numbered_sides growing a ++ (grown_side growing b (rights_of pairs) ++ numbered_sides growing b))
+numbered_sides growing (NotIn' p a q b pairs) = numbered_sides growing a ++ (grown_side growing b (rights_of pairs) ++ numbered_sides growing b)
+numbered_sides growing (Group' p e keys agg) = numbered_sides growing e
+numbered_sides growing (AtLeast' p e keys bound) = numbered_sides growing e
+
+-- the sides of all rules
+abbrev pub rules_sides : List Bool → List NumberedRule → List NumberedSide
+rules_sides growing rules = flat_map (λ rule. numbered_sides growing rule.body) rules
+
+-- ---- sides that are kept
+
+-- what is kept of an expression stands for it over some sets
+pub record IsKept (growing : List Bool) (e : NumberedExpr) (m : Memo) : Type 0 where
+  pub sets : Sets
+  pub stands : Stands growing sets e m
+
+-- what is kept of each rule's body is that over these sets
+abbrev pub BodiesStand : List Bool → Sets → List NumberedRule → List RuleMemo → Type 0
+BodiesStand growing sets rules memos = AllZip (λ rule kept. Stands growing sets rule.body kept.memo) rules memos
+
+-- the same over some sets
+pub record AreKept (growing : List Bool) (rules : List NumberedRule) (memos : List RuleMemo) : Type 0 where
+  pub sets : Sets
+  pub stand : BodiesStand growing sets rules memos
+
+-- a side has the rows of a part over the sets, by the part's columns
+abbrev pub HasRowsOf : Sets → Side → NumberedSide → Type 0
+HasRowsOf sets side numbered = IsSideOf numbered.columns (numbered_rows sets numbered.part) side.sets
+
+-- it is the side with the number
+abbrev pub IsSideAt : Sets → List NumberedSide → (number : ℕ) → Side → Type 0
+IsSideAt sets sides number side = IsSomeAnd (slice_get sides number) (HasRowsOf sets side)
+
+-- the side with the number was found, or all were passed and so many are to be passed after them
+abbrev pub Finds : Sets → List NumberedSide → (number : ℕ) → ControlFlow (Bor Side) ℕ → Type 0
+Finds sets sides number (Break side) = IsSideAt sets sides number side.now
+Finds sets sides number (Continue left) = length sides + left ≡ number

@@ -1,0 +1,155 @@
+//! A loaded module with what is kept.
+ghost use Rattle.std.specs.Prelude.{◌≡◌, ◌<◌, [], None, Some, Err, length, IfOk, OnOk};
+ghost use Rattle.bloom_ast.specs.declared.module.Kind.TheVariants.{Input, Table};
+ghost use Rattle.bloom_ast.specs.declared.program.Program.TheVariants.{Module as ModuleProgram};
+ghost use Rattle.bloom_ast.specs.Kinds.{kind_at, place_in_kind, of_kind};
+ghost use Rattle.bloom_ast.specs.Program.{columns_of_kind};
+ghost use Rattle.bloom_ast.specs.ProgramStep.{empty_tables};
+ghost use Rattle.bloom_ast.specs.Step.{set_at, tables_after};
+ghost use Rattle.bloom_ast.specs.Widths.{AreSetsOf};
+ghost use Rattle.bloom_eval.specs.declared.fault.StepFault.TheVariants.{TooManyRows};
+ghost use Rattle.bloom_eval.specs.StepAnswers.{AllFit, SomeIsOver, counted_sets};
+ghost use Rattle.bloom_index.specs.Code.Kept.{tables_in, kept_tables, PartsStand, KeptStands, PutsOut};
+ghost use Rattle.bloom_index.specs.Code.KeptProps.{KeptStands-prop};
+ghost use Rattle.bloom_index.specs.Sides.{module_sides, side_rows};
+
+use crate::empty::empty_parts;
+use crate::grows::growing_heads;
+use crate::sides::{side_at, side_count};
+use crate::step::{Parts, step};
+use bloom_ast::{Checked, Collection, Kind};
+use bloom_eval::{Arrivals, Outs, StepFault};
+use blz_set::RecordSet;
+use blz_value::Record;
+use std::alloc::{AllocError, Global};
+
+/// A module with what is kept of it, or with nothing kept.
+#[derive(Drop)]
+pub(crate) struct IndexBody {
+    alloc: Global,
+    program: Checked,
+    sides: u32,
+    none: RecordSet,
+    parts: Option<Parts>,
+    ghost counted: { sides ≡ length (module_sides program.form) },
+    ghost empty: { none ≡ [] },
+    ghost stands: { KeptStands program parts } by { KeptStands-prop program parts },
+}
+
+// The number of the collection that is a table, counted among the tables from 0.
+fn table_number(collections: &[Collection], table: u32) -> usize
+    requires { table < length (of_kind Table collections.now) }
+    ensures kind { kind_at collections.now result ≡ Some Table }
+    ensures place { place_in_kind Table collections.now result ≡ table }
+    ensures within { result < length collections.now }
+{
+    let mut left = table;
+    for (i, collection) in collections.iter().enumerate() {
+        if collection.kind == Kind::Table {
+            if left == 0 {
+                return i;
+            }
+            left -= 1;
+        }
+    }
+    unreachable!()
+}
+
+impl IndexBody {
+    /// A module with nothing kept.
+    pub(crate) fn new(alloc: Global, program: &Checked) -> Result<IndexBody, AllocError>
+        ensures program { IfOk result (λ body. body.program ≡ program.now) }
+        ensures kept { IfOk result (λ body. kept_tables body.program body.parts ≡ empty_tables (ModuleProgram program.now)) }
+    {
+        let program = program.copy(alloc)?;
+        let growing = growing_heads(alloc, &program)?;
+        let sides = side_count(program.rules(), &growing)?;
+        // For the proof: the module has no fault.
+        let _written = program.module();
+        Ok(IndexBody {
+            alloc,
+            program,
+            sides,
+            none: RecordSet::new(alloc),
+            parts: None,
+        })
+    }
+
+    // Takes out what is kept, which is made where there is nothing.
+    fn taken(&mut self) -> Result<Parts, AllocError>
+        ensures program { self.new.program ≡ self.old.program }
+        ensures alloc { self.new.alloc ≡ self.old.alloc }
+        ensures none { self.new.parts ≡ None }
+        ensures stands { IfOk result (λ parts. PartsStand self.old.program parts) }
+        ensures tables { IfOk result (λ parts. tables_in self.old.program parts.rows.items ≡ kept_tables self.old.program self.old.parts) }
+    {
+        match self.parts.take() {
+            Some(parts) => Ok(parts),
+            None => empty_parts(self.alloc, &self.program),
+        }
+    }
+
+    /// One step, which puts out all, or may leave out what the tables of before already give. After a
+    /// fault nothing is kept.
+    pub(crate) fn step(
+        &mut self,
+        now: &Arrivals,
+        outs: &mut Outs,
+        all: bool,
+    ) -> Result<(), StepFault>
+        requires ports { AreSetsOf (columns_of_kind Input self.old.program.form.collections) now.now }
+        ensures program { self.new.program ≡ self.old.program }
+        ensures kept { OnOk result (kept_tables self.new.program self.new.parts ≡ tables_after self.old.program (kept_tables self.old.program self.old.parts) now.now) }
+        ensures outs { OnOk result (PutsOut self.old.program all (kept_tables self.old.program self.old.parts) now.now outs.new) }
+        ensures few { OnOk result (AllFit (counted_sets self.old.program (kept_tables self.old.program self.old.parts) now.now)) }
+        ensures too_many { result ≡ Err TooManyRows → SomeIsOver (counted_sets self.old.program (kept_tables self.old.program self.old.parts) now.now) }
+        ensures wide { AreSetsOf (columns_of_kind Table self.new.program.form.collections) (kept_tables self.new.program self.new.parts) }
+    {
+        let mut parts = self.taken()?;
+        *outs = step(self.alloc, &self.program, &mut parts, now.sets(), all)?;
+        self.parts = Some(parts);
+        Ok(())
+    }
+
+    /// The rows of a table.
+    pub(crate) fn table(&self, table: u32) -> Result<RecordSet, AllocError>
+        requires { table < length (kept_tables self.now.program self.now.parts) }
+        ensures { IfOk result (λ set. set ≡ set_at (kept_tables self.now.program self.now.parts) table) }
+    {
+        let Some(parts) = &self.parts else {
+            return Ok(RecordSet::new(self.alloc));
+        };
+        let number = table_number(self.program.module().collections.as_slice(), table);
+        parts.rows[number].to_set(self.alloc)
+    }
+
+    /// Forgets all rows.
+    pub(crate) fn clear(&mut self)
+        ensures program { self.new.program ≡ self.old.program }
+        ensures kept { kept_tables self.new.program self.new.parts ≡ empty_tables (ModuleProgram self.old.program) }
+    {
+        self.parts = None;
+    }
+
+    /// The number of sides.
+    pub(crate) fn sides(&self) -> u32
+        ensures { result ≡ length (module_sides self.now.program.form) }
+    {
+        self.sides
+    }
+
+    /// The rows of a side with a key.
+    pub(crate) fn side(&self, side: u32, key: &Record) -> &RecordSet
+        requires { side < length (module_sides self.now.program.form) }
+        ensures { result.now ≡ side_rows (Some (ModuleProgram self.now.program)) (kept_tables self.now.program self.now.parts) side key.now }
+    {
+        match &self.parts {
+            Some(parts) => {
+                // For the proof: the module has no fault.
+                let _written = self.program.module();
+                side_at(self.program.rules(), &parts.growing, &parts.memos, side).at(key)
+            }
+            None => &self.none,
+        }
+    }
+}

@@ -1,0 +1,82 @@
+//! Which collections and expressions grow: their rows come from tables alone, without group and notin.
+ghost use Rattle.std.specs.Prelude.{◌≡◌, ◌<◌, false, length, replicate, IfOk};
+ghost use Rattle.std.specs.List.{list_all};
+ghost use Rattle.bloom_ast.specs.Kinds.{kind_at};
+ghost use Rattle.bloom_index.specs.Code.Growth.{grows_at, grows, grows_for, rules_grow, kind_grows, AreMarkedBelow, AreGrowing};
+
+use bloom_ast::{Checked, Kind, NumberedExpr, NumberedRule};
+use std::alloc::{AllocError, Global};
+
+// Whether a collection grows. One that there isn't doesn't.
+fn is_growing(growing: &[bool], number: u32) -> bool
+    ensures { result ≡ grows_at growing.now number }
+{
+    match growing.get(number as usize) {
+        Some(here) => *here,
+        None => false,
+    }
+}
+
+/// Whether an expression grows.
+pub(crate) fn grows(expr: &NumberedExpr, growing: &[bool]) -> bool
+    ensures { result ≡ grows growing.now expr.now }
+{
+    match expr {
+        NumberedExpr::Base(number) => is_growing(growing, *number),
+        NumberedExpr::Select(part, _) => grows(part, growing),
+        NumberedExpr::Project(part, _) => grows(part, growing),
+        NumberedExpr::Join(a, b, _) => grows(a, growing) && grows(b, growing),
+        NumberedExpr::NotIn(_, _, _) => false,
+        NumberedExpr::Group(_, _, _) => false,
+        NumberedExpr::AtLeast(part, _, _) => grows(part, growing),
+    }
+}
+
+// Whether a rule is of another head, or its body grows.
+fn grows_for(rule: &NumberedRule, head: u32, growing: &[bool]) -> bool
+    ensures { result ≡ grows_for growing.now head rule.now }
+{
+    rule.head != head || grows(&rule.body, growing)
+}
+
+// Whether all rules of a head grow.
+fn rules_grow(rules: &[NumberedRule], head: u32, growing: &[bool]) -> bool
+    ensures { result ≡ list_all (grows_for growing.now head) rules.now }
+{
+    rules.iter().all(|rule| grows_for(rule, head, growing))
+}
+
+// Whether a collection grows, where those that its rules name are marked.
+fn head_grows(program: &Checked, head: u32, growing: &[bool]) -> bool
+    requires within { head < length program.now.form.collections }
+    requires marked { AreMarkedBelow program.now.form growing.now head }
+    ensures { result ≡ kind_grows (kind_at program.now.form.collections head) (rules_grow program.now.form head) }
+{
+    let collections = program.module().collections.as_slice();
+    match collections[head as usize].kind {
+        Kind::Input => false,
+        Kind::Table => true,
+        Kind::Output | Kind::Scratch => rules_grow(program.rules(), head, growing),
+    }
+}
+
+// So many marks of collections that don't grow.
+fn none_grow(alloc: Global, count: usize) -> Result<Vec<bool>, AllocError>
+    ensures { IfOk result (λ growing. growing.items ≡ replicate count false) }
+{
+    Ok(vec![in alloc; false; count]?)
+}
+
+/// Which collections grow: tables, and scratches and outputs all whose rules grow.
+pub(crate) fn growing_heads(alloc: Global, program: &Checked) -> Result<Vec<bool>, AllocError>
+    ensures { IfOk result (λ growing. AreGrowing program.now growing.items) }
+{
+    let collections = program.module().collections.as_slice();
+    let mut growing = none_grow(alloc, collections.len())?;
+    // A head comes after those that its rules name.
+    for head in program.heads() {
+        let here = head_grows(program, *head, &growing);
+        growing[*head as usize] = here;
+    }
+    Ok(growing)
+}

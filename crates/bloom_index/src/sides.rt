@@ -1,0 +1,161 @@
+//! The sides of rules, in the order of the text.
+ghost use Rattle.std.specs.Prelude.{◌≡◌, ◌+◌, ◌<◌, List, ℕ, length, IfSome, IfOk, IsTrue};
+ghost use Rattle.bloom_ast.specs.Step.{Sets};
+ghost use Rattle.bloom_eval.specs.Code.NumberedRows.{numbered_rows};
+ghost use Rattle.bloom_index.specs.Code.Growth.{grows};
+ghost use Rattle.bloom_index.specs.Code.Side.{IsSideOf};
+ghost use Rattle.bloom_index.specs.Code.SideParts.{grown_side, numbered_sides, rules_sides, IsKept, AreKept, IsSideAt, Finds};
+
+use crate::grows::grows;
+use crate::heads::RuleMemo;
+use crate::memo::Memo;
+use crate::side::Side;
+use bloom_ast::{NumberedExpr, NumberedRule};
+use std::alloc::AllocError;
+use std::ops::ControlFlow;
+
+// The number of sides with one more where a part grows.
+fn with_side(part: &NumberedExpr, growing: &[bool], count: u32) -> Option<u32>
+    ensures { IfSome result (λ n. (columns : List ℕ) → n ≡ count + length (grown_side growing.now part.now columns)) }
+{
+    if grows(part, growing) {
+        count.checked_add(1)
+    } else {
+        Some(count)
+    }
+}
+
+// The number of sides with those of an expression. None where there are too many to count.
+fn count_sides(expr: &NumberedExpr, growing: &[bool], count: u32) -> Option<u32>
+    ensures { IfSome result (λ n. n ≡ count + length (numbered_sides growing.now expr.now)) }
+{
+    match expr {
+        NumberedExpr::Base(_) => Some(count),
+        NumberedExpr::Select(part, _) => count_sides(part, growing, count),
+        NumberedExpr::Project(part, _) => count_sides(part, growing, count),
+        NumberedExpr::Join(a, b, _) => {
+            let count = with_side(a, growing, count)?;
+            let count = count_sides(a, growing, count)?;
+            let count = with_side(b, growing, count)?;
+            count_sides(b, growing, count)
+        }
+        NumberedExpr::NotIn(a, b, _) => {
+            let count = count_sides(a, growing, count)?;
+            let count = with_side(b, growing, count)?;
+            count_sides(b, growing, count)
+        }
+        NumberedExpr::Group(part, _, _) => count_sides(part, growing, count),
+        NumberedExpr::AtLeast(part, _, _) => count_sides(part, growing, count),
+    }
+}
+
+/// How many sides the rules have. More than 2^32 - 1 of them are want of memory.
+pub(crate) fn side_count(rules: &[NumberedRule], growing: &[bool]) -> Result<u32, AllocError>
+    ensures { IfOk result (λ count. count ≡ length (rules_sides growing.now rules.now)) }
+{
+    let mut count = 0;
+    for rule in rules {
+        let Some(more) = count_sides(&rule.body, growing, count) else {
+            return Err(AllocError);
+        };
+        count = more;
+    }
+    Ok(count)
+}
+
+// The side of a part where it grows and none is to be passed before it, or how many are.
+fn this_side<'a>(
+    part: &NumberedExpr,
+    growing: &[bool],
+    side: &'a Side,
+    number: u32,
+) -> ControlFlow<&'a Side, u32>
+    ensures { (sets : Sets) (columns : List ℕ) → (IsTrue (grows growing.now part.now) → IsSideOf columns (numbered_rows sets part.now) side.now.sets) → Finds sets (grown_side growing.now part.now columns) number result }
+{
+    if !grows(part, growing) {
+        ControlFlow::Continue(number)
+    } else if number == 0 {
+        ControlFlow::Break(side)
+    } else {
+        ControlFlow::Continue(number - 1)
+    }
+}
+
+// The side of an expression with a number, counted from 0 in the order of the text, or how many are
+// to be passed after it.
+fn find_side<'a>(
+    expr: &NumberedExpr,
+    growing: &[bool],
+    memo: &'a Memo,
+    number: u32,
+) -> ControlFlow<&'a Side, u32>
+    requires { IsKept growing.now expr.now memo.now }
+    ensures { (kept : IsKept growing.now expr.now memo.now) → Finds kept.sets (numbered_sides growing.now expr.now) number result }
+{
+    match expr {
+        NumberedExpr::Base(_) => ControlFlow::Continue(number),
+        NumberedExpr::Select(part, _) => {
+            let Memo::Select(memo) = memo else {
+                unreachable!()
+            };
+            find_side(part, growing, memo, number)
+        }
+        NumberedExpr::Project(part, _) => {
+            let Memo::Project(memo, _) = memo else {
+                unreachable!()
+            };
+            find_side(part, growing, memo, number)
+        }
+        NumberedExpr::Join(a, b, _) => {
+            let Memo::Join(left, right, memo) = memo else {
+                unreachable!()
+            };
+            let number = this_side(a, growing, &memo.left, number)?;
+            let number = find_side(a, growing, left, number)?;
+            let number = this_side(b, growing, &memo.right, number)?;
+            find_side(b, growing, right, number)
+        }
+        NumberedExpr::NotIn(a, b, _) => {
+            let Memo::NotIn(left, right, memo) = memo else {
+                unreachable!()
+            };
+            let number = find_side(a, growing, left, number)?;
+            let number = this_side(b, growing, &memo.right, number)?;
+            find_side(b, growing, right, number)
+        }
+        NumberedExpr::Group(part, _, _) => {
+            let Memo::Group(memo, _) = memo else {
+                unreachable!()
+            };
+            find_side(part, growing, memo, number)
+        }
+        NumberedExpr::AtLeast(part, _, _) => {
+            let Memo::AtLeast(memo, _, _) = memo else {
+                unreachable!()
+            };
+            find_side(part, growing, memo, number)
+        }
+    }
+}
+
+/// The side with a number, counted from 0, rules as they are written and within a rule by the place
+/// in the text.
+pub(crate) fn side_at<'a>(
+    rules: &[NumberedRule],
+    growing: &[bool],
+    memos: &'a [RuleMemo],
+    number: u32,
+) -> &'a Side
+    requires within { number < length (rules_sides growing.now rules.now) }
+    requires kept { AreKept growing.now rules.now memos.now }
+    ensures { (kept : AreKept growing.now rules.now memos.now) → IsSideAt kept.sets (rules_sides growing.now rules.now) number result.now }
+{
+    let mut left = number;
+    for (i, rule) in rules.iter().enumerate() {
+        match find_side(&rule.body, growing, &memos[i].memo, left) {
+            ControlFlow::Break(side) => return side,
+            ControlFlow::Continue(later) => left = later,
+        }
+    }
+    unreachable!()
+}

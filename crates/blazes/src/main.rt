@@ -2,15 +2,16 @@
 #![tactic(auto)]
 
 use blazes_cli::{Status, blazes};
-use blz_boxes::{Component, LatestShell, NumberShell, PlainShell, SplitShell};
+use bloom_index::IndexShell;
+use blz_boxes::{Component, LatestShell, NumberShell, SplitShell};
 use blz_outside::{RealFiles, RealSink};
 use std::alloc::AllocError;
 use std::env::Env;
 use std::process::ExitCode;
 use std::{env, io};
 
-// How many shells of the bench are for modules: as many as a topology can have instances. They are plain
-// shells until there are some that keep indexes.
+// How many shells of the bench are for modules: as many as a topology can have instances. A step of one
+// costs what changes.
 const MODULE_SHELLS: usize = 64;
 
 // How many are for each stock body.
@@ -40,7 +41,7 @@ fn run(rt: &HostRuntime) -> Result<Status, AllocError> {
     let mut out = RealSink::new(rt.clone()?);
     let mut bench: Vec<Box<dyn Component>> = Vec::new(alloc);
     for number in 0..MODULE_SHELLS {
-        bench.push(Box::new(alloc, PlainShell::new(alloc))?)?;
+        bench.push(Box::new(alloc, IndexShell::new(alloc))?)?;
         if number < STOCK_SHELLS {
             bench.push(Box::new(alloc, SplitShell::new(alloc))?)?;
             bench.push(Box::new(alloc, LatestShell::new(alloc))?)?;

@@ -6,6 +6,7 @@ ghost use Rattle.worked_calls.specs.Shown.{AreShown, IsScheduleShown, IsShown, l
 
 use crate::modules::module_shown;
 use crate::shells::shells_shown;
+use crate::sides::sides_shown;
 use anyhow::{Result, bail};
 use blz_outside::{End, Files, MemFiles};
 use sched_text::{Schedule, ScheduleFault, print, read_line};
@@ -19,6 +20,8 @@ const FILE_LIMIT: usize = 16_777_216;
 /// - `printed FILE`: a schedule, as it is printed.
 /// - `event FILE`: the event of a line that stands alone, as it is printed.
 /// - `shells FILE`: what three shells put out and keep, one of them with the module of the file.
+/// - `sides FILE`: what the sides of an indexed shell with the module of the file lend, and whether its steps
+///   equal those of a plain shell.
 /// - a further word and FILE: what [`module_shown`] shows of the text of a module.
 pub fn shown(alloc: Global, words: &[String], files: &mut MemFiles) -> Result<Vec<u8>>
     ensures shown { IfOk result
@@ -57,6 +60,7 @@ fn bytes_shown(alloc: Global, kind: &str, bytes: &[u8]) -> Result<Vec<u8>>
         "printed" => printed(alloc, bytes),
         "event" => event_shown(alloc, bytes),
         "shells" => shells_shown(alloc, bytes),
+        "sides" => sides_shown(alloc, bytes),
         _ => module_shown(alloc, kind, bytes),
     }
 }

@@ -6,6 +6,7 @@ mod benches;
 mod calls;
 mod modules;
 mod shells;
+mod sides;
 
 pub use benches::{PoorShell, TellingShell};
 pub use calls::shown;

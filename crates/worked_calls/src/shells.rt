@@ -133,7 +133,7 @@ fn program_of(alloc: Global, text: &[u8]) -> Result<Program>
 }
 
 // Steps a shell that is loaded, and gives what it puts out.
-fn stepped(
+pub(crate) fn stepped(
     alloc: Global,
     shell: &mut Box<dyn Component>,
     program: &Program,
@@ -177,7 +177,7 @@ fn show_kept(alloc: Global, shell: &Box<dyn Component>, shown: &mut Vec<u8>) -> 
 }
 
 // Adds a line with a word and the records of some sets.
-fn show_sets(
+pub(crate) fn show_sets(
     alloc: Global,
     word: &str,
     sets: &[RecordSet],
@@ -219,7 +219,8 @@ fn text_value(alloc: Global, text: &str) -> Result<Value, AllocError> {
     Ok(Value::Text(Str::from_text(alloc, text)?))
 }
 
-fn pair(alloc: Global, first: Value, second: i64) -> Result<Record, AllocError>
+// A record of two values.
+pub(crate) fn pair(alloc: Global, first: Value, second: i64) -> Result<Record, AllocError>
     ensures { IfOk result (λ row. length row ≡ 2) }
 {
     Ok(Record::from_values(vec![in alloc; first, Value::Int(second)]?))

@@ -1,6 +1,7 @@
 //! Worked rows of the program: what it writes, and with which status it ends, for words over files.
 //!
-//! A word of the command line names a file of rows, which stands in the folder data/. A line of it that
+//! A word of the command line names a file of rows, which stands in the folder data/; behind
+//! `over-indexed-shells` and `over-both-kinds` the usual bench has other shells for modules. A line of it that
 //! begins with `== ` is a heading, and what is below it are the lines up to the next one. A line that
 //! ends with a backslash goes on in the next.
 //!
@@ -11,8 +12,8 @@
 //!   `*` in them is the number of the time, counted from 0.
 //! - `== fail NUMBER`: the read with this number fails, counted from 1; with 0 none does.
 //! - `== room COUNT`: no more than so many bytes can be written.
-//! - `== bench WORDS`: the bench has these shells, where it has four for modules and sixteen of each stock
-//!   body else. It is used again from answer to answer.
+//! - `== bench WORDS`: the bench has these shells, of `WORD*COUNT` so many, where it has four for modules
+//!   and sixteen of each stock body else. It is used again from answer to answer.
 //! - `== ask WORDS`: the words of the command line, with a blank between two; `\n` is the end of a line.
 //! - `== show WORDS`: in place of the program these rows themselves answer, with the status Done.
 //! - `== hold NAME`: what is written, asked so over the files so far, is the file NAME.
@@ -29,20 +30,23 @@ mod question;
 use crate::question::{Question, bytes_of};
 use anyhow::{Result, bail};
 use blazes_cli::{Status, blazes};
+use bloom_index::IndexShell;
 use blz_boxes::{Component, LatestShell, NumberShell, PlainShell, SplitShell};
 use blz_outside::MemSink;
 use std::alloc::Global;
 use std::env;
 use worked_calls::{PoorShell, TellingShell};
 
-// The bench of rows that name none: four shells for modules, and sixteen of each stock body.
-const USUAL_BENCH: &str =
-    "bench plain plain plain plain split split split split split split split split split split split split split split split split latest latest latest latest latest latest latest latest latest latest latest latest latest latest latest latest number number number number number number number number number number number number number number number number";
+// The benches of rows that name none: four shells for modules, which evaluate a module anew in each step,
+// or keep indexes, or do so by turns, and sixteen of each stock body.
+const PLAIN_BENCH: &str = "bench plain*4 split*16 latest*16 number*16";
+const INDEXED_BENCH: &str = "bench indexed*4 split*16 latest*16 number*16";
+const MIXED_BENCH: &str = "bench indexed plain indexed plain split*16 latest*16 number*16";
 
 // The headings of a text of rows, each with the text below it; the first is that of the usual bench.
-fn sections<'a>(alloc: Global, text: &'a str) -> Result<Vec<(&'a str, String)>> {
+fn sections<'a>(alloc: Global, bench: &'a str, text: &'a str) -> Result<Vec<(&'a str, String)>> {
     let mut sections: Vec<(&str, String)> = Vec::new(alloc);
-    sections.push((USUAL_BENCH, String::new(alloc)))?;
+    sections.push((bench, String::new(alloc)))?;
     for line in text.lines() {
         if let Some(heading) = line.strip_prefix("== ") {
             sections.push((heading, String::new(alloc)))?;
@@ -62,6 +66,18 @@ fn push_line(line: &str, text: &mut String) -> Result<()> {
         text.push('\n')?;
     }
     Ok(())
+}
+
+// The words, each as often as it says.
+fn repeated_words<'a>(alloc: Global, words: &'a str) -> Result<Vec<&'a str>> {
+    let mut repeated = Vec::new(alloc);
+    for word in words.split(' ') {
+        let (word, count) = word.split_once('*').unwrap_or((word, "1"));
+        for _ in 0..count.parse::<usize>()? {
+            repeated.push(word)?;
+        }
+    }
+    Ok(repeated)
 }
 
 // Whether what was answered has this status and this text, as far as there is room; one that differs is
@@ -107,22 +123,23 @@ fn compared(
 }
 
 // How many of the rows of a file are as it says, and how many it has.
-fn right_rows(rt: &HostRuntime, name: &str) -> Result<(u64, u64)> {
+fn right_rows(rt: &HostRuntime, usual_bench: &str, name: &str) -> Result<(u64, u64)> {
     let bytes = bytes_of(rt, name)?;
     let text = str::from_utf8(bytes.as_slice())?;
     let alloc = rt.alloc();
     let mut asked = Question::new(alloc)?;
     let mut bench: Vec<Box<dyn Component>> = Vec::new(alloc);
     let (mut right, mut all) = (0u64, 0u64);
-    for (heading, below) in &sections(alloc, text)? {
+    for (heading, below) in &sections(alloc, usual_bench, text)? {
         let kind_and_rest = heading.split_once(' ').unwrap_or((*heading, ""));
         let (kind, rest) = kind_and_rest;
         match kind {
             "bench" => {
                 bench.clear();
                 // Who owns a bench makes its shells: no function hands one out.
-                for word in rest.split(' ') {
+                for word in repeated_words(alloc, rest)? {
                     match word {
+                        "indexed" => bench.push(Box::new(alloc, IndexShell::new(alloc))?)?,
                         "plain" => bench.push(Box::new(alloc, PlainShell::new(alloc))?)?,
                         "split" => bench.push(Box::new(alloc, SplitShell::new(alloc))?)?,
                         "latest" => bench.push(Box::new(alloc, LatestShell::new(alloc))?)?,
@@ -162,9 +179,16 @@ fn right_rows(rt: &HostRuntime, name: &str) -> Result<(u64, u64)> {
 }
 
 fn main(rt: HostRuntime) -> Result<()> {
-    for name in env::args(&rt)?.skip(1) {
-        let (right, all) = right_rows(&rt, name.as_str())?;
-        println!(rt; "{name}: {right} of {all} rows")?;
+    let mut bench = PLAIN_BENCH;
+    for word in env::args(&rt)?.skip(1) {
+        match word.as_str() {
+            "over-indexed-shells" => bench = INDEXED_BENCH,
+            "over-both-kinds" => bench = MIXED_BENCH,
+            name => {
+                let (right, all) = right_rows(&rt, bench, name)?;
+                println!(rt; "{name}: {right} of {all} rows")?;
+            }
+        }
     }
     Ok(())
 }

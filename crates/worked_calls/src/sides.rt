@@ -1,0 +1,142 @@
+//! A shell that keeps indexes, over a module that joins its two tables by all of their columns: what its
+//! sides lend, and that each of its steps equals that of a plain shell.
+ghost use Rattle.std.specs.Prelude.{◌≡◌, ◌<◌, ◌-◌, ◌^◌, length, Some, IfOk};
+ghost use Rattle.bloom_ast.specs.Program.{IsStock, port_columns, table_columns};
+ghost use Rattle.bloom_ast.specs.Widths.{AreSetsOf};
+
+use crate::shells::{pair, show_sets, stepped};
+use anyhow::{Result, ensure};
+use bloom_ast::Program;
+use bloom_check::check;
+use bloom_eval::{Arrivals, Outs};
+use bloom_index::IndexShell;
+use bloom_parse::parse;
+use blz_boxes::{Component, PlainShell};
+use blz_set::RecordSet;
+use blz_value::{Record, Value, write_record};
+use std::alloc::Global;
+
+// How many records come to each port, one by one.
+const ROUNDS: i64 = 10;
+
+/// What the two sides of the module of a text lend once the record (1, 5) came to its first port, and after
+/// how many steps, of twenty, an indexed and a plain shell have put out and keep the same.
+pub(crate) fn sides_shown(alloc: Global, text: &[u8]) -> Result<Vec<u8>>
+    requires { length text.now < 2 ^ 32 - 1 }
+{
+    let program = joining_program(alloc, text)?;
+    let mut shown = Vec::new(alloc);
+    lent_shown(alloc, &program, &mut shown)?;
+    let steps = same_steps(alloc, &program)?;
+    let line = format!(in alloc; "the same after {steps} steps\n")?;
+    shown.extend_from_slice(line.as_bytes())?;
+    Ok(shown)
+}
+
+// The program of the module that a text is, which has two tables.
+fn joining_program(alloc: Global, text: &[u8]) -> Result<Program>
+    requires { length text.now < 2 ^ 32 - 1 }
+    ensures stock { IfOk result IsStock }
+    ensures tables { IfOk result (λ program. length (table_columns program) ≡ 2) }
+{
+    let module = parse(alloc, text)?;
+    let program = Program::Module(check(alloc, &module)?);
+    ensure!(program.table_count() == 2, "the module has two tables");
+    Ok(program)
+}
+
+// What arrives where a record comes to one of the two ports of a program.
+#[tactic(auto, using(crate::proofs::Ports::two_ports_wide))]
+fn arrival(alloc: Global, program: &Program, is_left: bool, row: Record) -> Result<Arrivals>
+    requires stock { IsStock program.now }
+    requires wide { length row ≡ 2 }
+    ensures { IfOk result (AreSetsOf (port_columns program.now)) }
+{
+    ensure!(program.port_count() == 2, "the module has two ports");
+    ensure!(program.port_width(0) == 2, "the first has two columns");
+    ensure!(program.port_width(1) == 2, "the second has two columns");
+    let some = RecordSet::from_rows(vec![in alloc; row]?)?;
+    let none = RecordSet::new(alloc);
+    let sets = if is_left {
+        vec![in alloc; some, none]?
+    } else {
+        vec![in alloc; none, some]?
+    };
+    Ok(Arrivals::from_sets(sets))
+}
+
+// What each side of an indexed shell lends for the record that came to the first port alone.
+fn lent_shown(alloc: Global, program: &Program, shown: &mut Vec<u8>) -> Result<()>
+    requires { IsStock program.now }
+{
+    let mut shell = IndexShell::new(alloc);
+    ensure!(shell.fits(program), "the shell is one for modules");
+    shell.load(program)?;
+    let now = arrival(alloc, program, true, pair(alloc, Value::Int(1), 5)?)?;
+    let mut outs = Outs::from_sets(Vec::new(alloc));
+    shell.step(&now, &mut outs)?;
+    ensure!(shell.sides() == 2, "the module has two sides");
+    let key = pair(alloc, Value::Int(1), 5)?;
+    show_rows(alloc, "side 0", shell.side(0, &key).rows(), shown)?;
+    show_rows(alloc, "side 1", shell.side(1, &key).rows(), shown)
+}
+
+// Adds a line with a word and some records.
+fn show_rows(alloc: Global, word: &str, rows: &[Record], shown: &mut Vec<u8>) -> Result<()> {
+    shown.extend_from_slice(word.as_bytes())?;
+    for row in rows {
+        shown.push(b' ')?;
+        write_record(alloc, row, shown)?;
+    }
+    shown.push(b'\n')?;
+    Ok(())
+}
+
+// How many steps an indexed and a plain shell made alike: a record to each port by turns, of which each to
+// the second port meets one of the first.
+fn same_steps(alloc: Global, program: &Program) -> Result<i64>
+    requires stock { IsStock program.now }
+    requires tables { length (table_columns program.now) ≡ 2 }
+{
+    let mut indexed: Box<dyn Component> = Box::new(alloc, IndexShell::new(alloc))?;
+    let mut plain: Box<dyn Component> = Box::new(alloc, PlainShell::new(alloc))?;
+    ensure!(indexed.fits(program), "the indexed shell is one for modules");
+    ensure!(plain.fits(program), "the plain shell is one for modules");
+    indexed.load(program)?;
+    plain.load(program)?;
+    let mut steps = 0;
+    for round in 0..ROUNDS {
+        for is_left in [true, false] {
+            let row = pair(alloc, Value::Int(round % 3), round)?;
+            let now = arrival(alloc, program, is_left, row)?;
+            let own = state_after(alloc, &mut indexed, program, &now)?;
+            let other = state_after(alloc, &mut plain, program, &now)?;
+            ensure!(own.as_slice() == other.as_slice(), "the shells differ after {steps} steps");
+            steps += 1;
+        }
+    }
+    Ok(steps)
+}
+
+// What a shell that is loaded puts out in a step, and what it keeps then.
+fn state_after(
+    alloc: Global,
+    shell: &mut Box<dyn Component>,
+    program: &Program,
+    now: &Arrivals,
+) -> Result<Vec<u8>>
+    requires loaded { loaded shell.old ≡ Some program.now }
+    requires wide { AreSetsOf (port_columns program.now) now.now }
+    requires tables { length (table_columns program.now) ≡ 2 }
+    ensures loaded { loaded shell.new ≡ Some program.now }
+{
+    let mut state = Vec::new(alloc);
+    let outs = stepped(alloc, shell, program, now)?;
+    show_sets(alloc, "puts out", outs.sets(), &mut state)?;
+    let mut rows = RecordSet::new(alloc);
+    shell.kept_rows(0, &mut rows)?;
+    show_rows(alloc, "keeps", rows.rows(), &mut state)?;
+    shell.kept_rows(1, &mut rows)?;
+    show_rows(alloc, "keeps", rows.rows(), &mut state)?;
+    Ok(state)
+}

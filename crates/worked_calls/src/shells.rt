@@ -63,10 +63,7 @@ fn puts_shown(
 // The record (7) arrives.
 fn number_shown(alloc: Global, shell: &mut Box<dyn Component>, shown: &mut Vec<u8>) -> Result<()> {
     let program = number_program(alloc)?;
-    ensure!(
-        shell.fits(&program),
-        "the middle shell isn't one of Number"
-    );
+    ensure!(shell.fits(&program), "the middle shell isn't one of Number");
     shell.load(&program)?;
     seven_shown(alloc, shell, &program, shown)
 }

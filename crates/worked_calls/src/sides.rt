@@ -1,6 +1,6 @@
 //! A shell that keeps indexes, over a module that joins its two tables by all of their columns: what its
 //! sides lend, and that each of its steps equals that of a plain shell.
-ghost use Rattle.std.specs.Prelude.{◌≡◌, ◌<◌, ◌-◌, ◌^◌, length, Some, IfOk};
+ghost use Rattle.std.specs.Prelude.{◌≡◌, ◌<◌, ◌-◌, ◌≤◌, ◌^◌, length, Some, IfOk};
 ghost use Rattle.bloom_ast.specs.Program.{IsStock, port_columns, table_columns};
 ghost use Rattle.bloom_ast.specs.Widths.{AreSetsOf};
 
@@ -16,20 +16,17 @@ use blz_set::RecordSet;
 use blz_value::{Record, Value, write_record};
 use std::alloc::Global;
 
-// How many records come to each port, one by one.
-const ROUNDS: i64 = 10;
-
-/// What the two sides of the module of a text lend once the record (1, 5) came to its first port, and after
-/// how many steps, of twenty, an indexed and a plain shell have put out and keep the same.
+/// What the two sides of the module of a text lend once the record (1, 5) came to its first port, and that an
+/// indexed and a plain shell put out and keep the same after each of twenty steps, in which ten records come
+/// to each port one by one.
 pub(crate) fn sides_shown(alloc: Global, text: &[u8]) -> Result<Vec<u8>>
     requires { length text.now < 2 ^ 32 - 1 }
 {
     let program = joining_program(alloc, text)?;
     let mut shown = Vec::new(alloc);
     lent_shown(alloc, &program, &mut shown)?;
-    let steps = same_steps(alloc, &program)?;
-    let line = format!(in alloc; "the same after {steps} steps\n")?;
-    shown.extend_from_slice(line.as_bytes())?;
+    same_steps(alloc, &program)?;
+    shown.extend_from_slice(b"the same after each of 20 steps\n")?;
     Ok(shown)
 }
 
@@ -57,12 +54,11 @@ fn arrival(alloc: Global, program: &Program, is_left: bool, row: Record) -> Resu
     ensure!(program.port_width(1) == 2, "the second has two columns");
     let some = RecordSet::from_rows(vec![in alloc; row]?)?;
     let none = RecordSet::new(alloc);
-    let sets = if is_left {
-        vec![in alloc; some, none]?
+    if is_left {
+        Ok(Arrivals::from_sets(vec![in alloc; some, none]?))
     } else {
-        vec![in alloc; none, some]?
-    };
-    Ok(Arrivals::from_sets(sets))
+        Ok(Arrivals::from_sets(vec![in alloc; none, some]?))
+    }
 }
 
 // What each side of an indexed shell lends for the record that came to the first port alone.
@@ -92,30 +88,90 @@ fn show_rows(alloc: Global, word: &str, rows: &[Record], shown: &mut Vec<u8>) ->
     Ok(())
 }
 
-// How many steps an indexed and a plain shell made alike: a record to each port by turns, of which each to
-// the second port meets one of the first.
-fn same_steps(alloc: Global, program: &Program) -> Result<i64>
+// That an indexed and a plain shell put out and keep the same after each of twenty steps.
+fn same_steps(alloc: Global, program: &Program) -> Result<()>
     requires stock { IsStock program.now }
     requires tables { length (table_columns program.now) ≡ 2 }
 {
     let mut indexed: Box<dyn Component> = Box::new(alloc, IndexShell::new(alloc))?;
     let mut plain: Box<dyn Component> = Box::new(alloc, PlainShell::new(alloc))?;
-    ensure!(indexed.fits(program), "the indexed shell is one for modules");
+    ensure!(
+        indexed.fits(program),
+        "the indexed shell is one for modules"
+    );
     ensure!(plain.fits(program), "the plain shell is one for modules");
     indexed.load(program)?;
     plain.load(program)?;
-    let mut steps = 0;
-    for round in 0..ROUNDS {
-        for is_left in [true, false] {
-            let row = pair(alloc, Value::Int(round % 3), round)?;
-            let now = arrival(alloc, program, is_left, row)?;
-            let own = state_after(alloc, &mut indexed, program, &now)?;
-            let other = state_after(alloc, &mut plain, program, &now)?;
-            ensure!(own.as_slice() == other.as_slice(), "the shells differ after {steps} steps");
-            steps += 1;
-        }
-    }
-    Ok(steps)
+    five_rounds(alloc, program, &mut indexed, &mut plain, 0)?;
+    five_rounds(alloc, program, &mut indexed, &mut plain, 5)
+}
+
+// Five rounds with numbers from this one on.
+fn five_rounds(
+    alloc: Global,
+    program: &Program,
+    indexed: &mut Box<dyn Component>,
+    plain: &mut Box<dyn Component>,
+    first: u8,
+) -> Result<()>
+    requires stock { IsStock program.now }
+    requires tables { length (table_columns program.now) ≡ 2 }
+    requires indexed { loaded indexed.old ≡ Some program.now }
+    requires plain { loaded plain.old ≡ Some program.now }
+    requires few { first ≤ 5 }
+    ensures indexed { loaded indexed.new ≡ Some program.now }
+    ensures plain { loaded plain.new ≡ Some program.now }
+{
+    round(alloc, program, indexed, plain, first)?;
+    round(alloc, program, indexed, plain, first + 1)?;
+    round(alloc, program, indexed, plain, first + 2)?;
+    round(alloc, program, indexed, plain, first + 3)?;
+    round(alloc, program, indexed, plain, first + 4)
+}
+
+// A record comes to the first port, and then an equal one to the second, which it meets there.
+fn round(
+    alloc: Global,
+    program: &Program,
+    indexed: &mut Box<dyn Component>,
+    plain: &mut Box<dyn Component>,
+    number: u8,
+) -> Result<()>
+    requires stock { IsStock program.now }
+    requires tables { length (table_columns program.now) ≡ 2 }
+    requires indexed { loaded indexed.old ≡ Some program.now }
+    requires plain { loaded plain.old ≡ Some program.now }
+    ensures indexed { loaded indexed.new ≡ Some program.now }
+    ensures plain { loaded plain.new ≡ Some program.now }
+{
+    same_step(alloc, program, indexed, plain, true, number)?;
+    same_step(alloc, program, indexed, plain, false, number)
+}
+
+fn same_step(
+    alloc: Global,
+    program: &Program,
+    indexed: &mut Box<dyn Component>,
+    plain: &mut Box<dyn Component>,
+    is_left: bool,
+    number: u8,
+) -> Result<()>
+    requires stock { IsStock program.now }
+    requires tables { length (table_columns program.now) ≡ 2 }
+    requires indexed { loaded indexed.old ≡ Some program.now }
+    requires plain { loaded plain.old ≡ Some program.now }
+    ensures indexed { loaded indexed.new ≡ Some program.now }
+    ensures plain { loaded plain.new ≡ Some program.now }
+{
+    let row = pair(alloc, Value::Int((number % 3) as i64), number as i64)?;
+    let now = arrival(alloc, program, is_left, row)?;
+    let own = state_after(alloc, indexed, program, &now)?;
+    let other = state_after(alloc, plain, program, &now)?;
+    ensure!(
+        own.as_slice() == other.as_slice(),
+        "the shells differ in round {number}"
+    );
+    Ok(())
 }
 
 // What a shell that is loaded puts out in a step, and what it keeps then.

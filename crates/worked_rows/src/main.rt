@@ -40,7 +40,9 @@ use worked_calls::{PoorShell, TellingShell};
 // The benches of rows that name none: four shells for modules, which evaluate a module anew in each step,
 // or keep indexes, or do so by turns, and sixteen of each stock body.
 const PLAIN_BENCH: &str = "bench plain*4 split*16 latest*16 number*16";
+
 const INDEXED_BENCH: &str = "bench indexed*4 split*16 latest*16 number*16";
+
 const MIXED_BENCH: &str = "bench indexed plain indexed plain split*16 latest*16 number*16";
 
 // The headings of a text of rows, each with the text below it; the first is that of the usual bench.

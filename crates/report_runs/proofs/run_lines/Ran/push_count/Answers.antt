@@ -8,5 +8,5 @@ use Rattle.report_runs.proofs.run_lines.Ran.push_count.Goals as goal
 pub returns : goal.returns
 returns g c given steps stand =
     ap (map word_text) c.in_ok-push.ensures.items
-    ∙ map-append word_text c.args.words.now.items (word.Large c.record_count.result ∷ [])
-    ∙ ap (λ n. map word_text c.args.words.now.items ++ decimal n ∷ []) (c.record_count.ensures given steps stand)
+    ∙ map-append word_text c.args.words.now.items (word.Large c.record_count-count.result ∷ [])
+    ∙ ap (λ n. map word_text c.args.words.now.items ++ decimal n ∷ []) (c.record_count-count.ensures given steps stand)

@@ -10,5 +10,5 @@ pub two_ports_wide : (columns : List (List Name)) (first second : List Row) → 
 two_ports_wide [] first second two one other wide also = absurd (omega (arith, two))
 two_ports_wide (names ∷ []) first second two one other wide also = absurd (omega (arith, two))
 two_ports_wide (names ∷ more ∷ []) first second two one other wide also =
-    (subst (λ width. All (λ (row : Row). length row ≡ width) first) (sym one) wide, subst (λ width. All (λ (row : Row). length row ≡ width) second) (sym other) also, tt)
+    (subst (λ width. All (λ (row : Row). length row ≡ width) first) (sym one) wide, (subst (λ width. All (λ (row : Row). length row ≡ width) second) (sym other) also, tt))
 two_ports_wide (names ∷ more ∷ last ∷ columns) first second two one other wide also = absurd (omega (arith, two))

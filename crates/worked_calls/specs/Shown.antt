@@ -1,5 +1,6 @@
 -- What rows show of a call, which they name, over the bytes of a file.
-use Rattle.std.specs.Prelude.{◌≡◌, ℕ, List, [], ◌∷◌, Option, None, Some, codes}
+use Rattle.std.specs.Prelude.{◌≡◌, ℕ, List, [], ◌∷◌, ◌++◌, Option, None, Some, codes}
+use Rattle.std.specs.Fmt.{decimal}
 use Rattle.bloom_ast.specs.Form.{Form}
 use Rattle.bloom_parse.specs.Layout.{printed}
 use Rattle.bloom_parse.specs.Parsing.{IsTextOf}
@@ -16,7 +17,7 @@ IsScheduleShown bytes text = (bad_line event_reading bytes ≡ None) × (text �
 abbrev pub line_shown : LineReading Event → List ℕ
 line_shown passed_over = []
 line_shown (stands_for event) = schedule_text ((1, event) ∷ [])
-line_shown bad = codes "line 1\n"
+line_shown bad = codes "line " ++ (decimal 1 ++ codes "\n")
 
 -- a module, as it is printed
 abbrev pub IsModuleShown : (bytes text : List ℕ) → Type 0

@@ -37,16 +37,32 @@ use std::alloc::Global;
 use std::env;
 use worked_calls::{PoorShell, TellingShell};
 
-// The benches of rows that name none: four shells for modules, which evaluate a module anew in each step,
-// or keep indexes, or do so by turns, and sixteen of each stock body.
-const PLAIN_BENCH: &str = "bench plain*4 split*16 latest*16 number*16";
+// Which shells for modules the bench has of rows that name none.
+#[derive(Clone, Copy)]
+enum Modules {
+    Plain,
+    Indexed,
+    Both,
+}
 
-const INDEXED_BENCH: &str = "bench indexed*4 split*16 latest*16 number*16";
-
-const MIXED_BENCH: &str = "bench indexed plain indexed plain split*16 latest*16 number*16";
+impl Modules {
+    // The bench of rows that name none: four shells for modules, which evaluate a module anew in each step,
+    // or keep indexes, or do so by turns, and sixteen of each stock body.
+    fn usual_bench(self) -> &'static str {
+        match self {
+            Modules::Plain => "bench plain*4 split*16 latest*16 number*16",
+            Modules::Indexed => "bench indexed*4 split*16 latest*16 number*16",
+            Modules::Both => "bench indexed plain indexed plain split*16 latest*16 number*16",
+        }
+    }
+}
 
 // The headings of a text of rows, each with the text below it; the first is that of the usual bench.
-fn sections<'a>(alloc: Global, bench: &'a str, text: &'a str) -> Result<Vec<(&'a str, String)>> {
+fn sections<'a>(
+    alloc: Global,
+    bench: &'static str,
+    text: &'a str,
+) -> Result<Vec<(&'a str, String)>> {
     let mut sections: Vec<(&str, String)> = Vec::new(alloc);
     sections.push((bench, String::new(alloc)))?;
     for line in text.lines() {
@@ -68,18 +84,6 @@ fn push_line(line: &str, text: &mut String) -> Result<()> {
         text.push('\n')?;
     }
     Ok(())
-}
-
-// The words, each as often as it says.
-fn repeated_words<'a>(alloc: Global, words: &'a str) -> Result<Vec<&'a str>> {
-    let mut repeated = Vec::new(alloc);
-    for word in words.split(' ') {
-        let (word, count) = word.split_once('*').unwrap_or((word, "1"));
-        for _ in 0..count.parse::<usize>()? {
-            repeated.push(word)?;
-        }
-    }
-    Ok(repeated)
 }
 
 // Whether what was answered has this status and this text, as far as there is room; one that differs is
@@ -125,7 +129,7 @@ fn compared(
 }
 
 // How many of the rows of a file are as it says, and how many it has.
-fn right_rows(rt: &HostRuntime, usual_bench: &str, name: &str) -> Result<(u64, u64)> {
+fn right_rows(rt: &HostRuntime, usual_bench: &'static str, name: &str) -> Result<(u64, u64)> {
     let bytes = bytes_of(rt, name)?;
     let text = str::from_utf8(bytes.as_slice())?;
     let alloc = rt.alloc();
@@ -139,21 +143,26 @@ fn right_rows(rt: &HostRuntime, usual_bench: &str, name: &str) -> Result<(u64, u
             "bench" => {
                 bench.clear();
                 // Who owns a bench makes its shells: no function hands one out.
-                for word in repeated_words(alloc, rest)? {
-                    match word {
-                        "indexed" => bench.push(Box::new(alloc, IndexShell::new(alloc))?)?,
-                        "plain" => bench.push(Box::new(alloc, PlainShell::new(alloc))?)?,
-                        "split" => bench.push(Box::new(alloc, SplitShell::new(alloc))?)?,
-                        "latest" => bench.push(Box::new(alloc, LatestShell::new(alloc))?)?,
-                        "number" => bench.push(Box::new(alloc, NumberShell::new(alloc))?)?,
-                        "telling" => bench.push(Box::new(alloc, TellingShell::new(alloc))?)?,
-                        "poor" => {
-                            bench.push(Box::new(alloc, PoorShell::new(PlainShell::new(alloc)))?)?
+                for words in rest.split(' ') {
+                    let (word, count) = words.split_once('*').unwrap_or((words, "1"));
+                    for _ in 0..count.parse::<usize>()? {
+                        match word {
+                            "indexed" => bench.push(Box::new(alloc, IndexShell::new(alloc))?)?,
+                            "plain" => bench.push(Box::new(alloc, PlainShell::new(alloc))?)?,
+                            "split" => bench.push(Box::new(alloc, SplitShell::new(alloc))?)?,
+                            "latest" => bench.push(Box::new(alloc, LatestShell::new(alloc))?)?,
+                            "number" => bench.push(Box::new(alloc, NumberShell::new(alloc))?)?,
+                            "telling" => bench.push(Box::new(alloc, TellingShell::new(alloc))?)?,
+                            "poor" => bench.push(Box::new(
+                                alloc,
+                                PoorShell::new(PlainShell::new(alloc)),
+                            )?)?,
+                            "poor-split" => bench.push(Box::new(
+                                alloc,
+                                PoorShell::new(SplitShell::new(alloc)),
+                            )?)?,
+                            _ => bail!("no shell is {word}"),
                         }
-                        "poor-split" => {
-                            bench.push(Box::new(alloc, PoorShell::new(SplitShell::new(alloc)))?)?
-                        }
-                        _ => bail!("no shell is {word}"),
                     }
                 }
             }
@@ -181,13 +190,13 @@ fn right_rows(rt: &HostRuntime, usual_bench: &str, name: &str) -> Result<(u64, u
 }
 
 fn main(rt: HostRuntime) -> Result<()> {
-    let mut bench = PLAIN_BENCH;
+    let mut modules = Modules::Plain;
     for word in env::args(&rt)?.skip(1) {
         match word.as_str() {
-            "over-indexed-shells" => bench = INDEXED_BENCH,
-            "over-both-kinds" => bench = MIXED_BENCH,
+            "over-indexed-shells" => modules = Modules::Indexed,
+            "over-both-kinds" => modules = Modules::Both,
             name => {
-                let (right, all) = right_rows(&rt, bench, name)?;
+                let (right, all) = right_rows(&rt, modules.usual_bench(), name)?;
                 println!(rt; "{name}: {right} of {all} rows")?;
             }
         }

@@ -1,5 +1,5 @@
--- What a hasher is fed of a text, a value and a record: other writes for other values.
-use Rattle.std.specs.Prelude.{ℕ, List, ◌++◌}
+-- What a hasher is fed of a value and of a record.
+use Rattle.std.specs.Prelude.{◌++◌}
 use Rattle.std.specs.Hash.{HashWrites, str, u8, i64}
 use Rattle.std.specs.List.{flat_map}
 use Rattle.blz_value.specs.declared.value.Value.{Value}

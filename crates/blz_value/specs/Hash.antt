@@ -1,4 +1,4 @@
--- What a hasher is fed of a text, a value and a record: other writes for other values.
+-- What a hasher is fed of a value and of a record.
 use Rattle.std.specs.Prelude.{◌++◌}
 use Rattle.std.specs.Hash.{HashWrites, str, u8, i64}
 use Rattle.std.specs.List.{flat_map}

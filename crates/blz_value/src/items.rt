@@ -31,4 +31,11 @@ impl<T> Items<T> {
     {
         &self.items
     }
+
+    /// The list of these items, handed back.
+    pub fn into_vec(self) -> Vec<T>
+        ensures { result.items ≡ self }
+    {
+        self.items
+    }
 }

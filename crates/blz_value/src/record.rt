@@ -1,15 +1,18 @@
 //! A record, seen as the list of its values.
 ghost use Rattle.std.specs.Prelude.{◌≡◌, IfOk};
-ghost use Rattle.std.proofs.Common.{rules};
+ghost use Rattle.std.proofs.Common.{rules, ap};
+ghost use Rattle.std.proofs.lemmas.Map.Views.{tells_apart};
 ghost use Rattle.std.specs.Cmp.{partial_equiv_from_equiv, partial_order_from_total, eq_by_cmp_equiv};
 ghost use Rattle.std.specs.Cmp.Rules.{comparing};
 ghost use Rattle.std.specs.Ordering.{as_partial_cmp, eq_by_cmp};
 ghost use Rattle.blz_value.specs.Record.{record_cmp};
-ghost use Rattle.blz_value.specs.RecordOrder.{record_cmp_total};
+ghost use Rattle.blz_value.specs.RecordOrder.{record_cmp_total, record_cmp_exact};
+ghost use Rattle.blz_value.specs.Hash.{record_writes};
 
 use crate::value::Value;
 use std::alloc::AllocError;
 use std::cmp::Ordering;
+use std::hash::{Hash, Hasher};
 use std::marker::Model;
 
 /// A record: a list of values, one a column.
@@ -89,6 +92,16 @@ impl PartialOrd for Record {
 
     fn partial_cmp(&self, other: &Record) -> Option<Ordering> {
         Some(compare(self, other))
+    }
+}
+
+impl Hash for Record {
+    ghost hash_input = { record_writes };
+
+    ghost respects_eq = { λ x y same. ap record_writes (tells_apart record_cmp_exact x y same) };
+
+    fn hash<H: Hasher>(&self, state: &mut H) {
+        Value::hash_slice(self.values(), state);
     }
 }
 

@@ -3,28 +3,38 @@ ghost use Rattle.std.specs.Prelude.{◌≡◌, ◌↔◌, ℕ, List, IfOk, IsTru
 ghost use Rattle.std.specs.Str.{bytes_eq};
 ghost use Rattle.std.proofs.Common.{rules};
 ghost use Rattle.std.specs.Cmp.{partial_order_from_own_ties};
-ghost use Rattle.std.specs.Cmp.Rules.{comparing};
+ghost use Rattle.std.specs.Cmp.Rules.{comparing, hashing};
+ghost use Rattle.std.specs.Hash as fed;
 ghost use Rattle.std.specs.Cmp.Lexicographic.{slice_cmp, pointwise, nat_list_cmp_total, nat_list_eq_equiv, texts_ties};
 ghost use Rattle.std.specs.Cmp.{partial_equiv_from_equiv, partial_order_from_agreeing_total};
 ghost use Rattle.std.specs.Ordering.{nat_cmp, as_partial_cmp};
 
+use arrayvec::ArrayString;
 use std::alloc::{AllocError, Global};
 use std::cmp::Ordering;
+use std::hash::{Hash, Hasher};
 use std::marker::Model;
 
-/// A text in UTF-8, seen as the list of its bytes.
+// The bytes of a text: up to 16 stand in the value itself.
+#[derive(Debug, Drop)]
+pub enum Bytes {
+    Short(ArrayString<16>),
+    Long(String),
+}
+
+/// A text in UTF-8, seen as the list of its bytes. One of up to 16 bytes takes no memory of its own.
 #[derive(Debug, Drop)]
 pub struct Str {
-    text: String,
+    bytes: Bytes,
 }
 
 impl Model for Str {
     ghost use Rattle.std.specs.Prelude.{List, ℕ};
-    ghost use Rattle.std.specs.String.{string_bytes};
+    ghost use Rattle.blz_value.specs.Bytes.{bytes_of};
 
     ghost Value = { List ℕ };
 
-    ghost view = { λ s. string_bytes s.text };
+    ghost view = { λ s. bytes_of s.bytes };
 }
 
 impl Str {
@@ -32,25 +42,32 @@ impl Str {
     pub fn from_text(alloc: Global, text: &str) -> Result<Str, AllocError>
         ensures { IfOk result (λ s. s ≡ text.now) }
     {
-        Ok(Str {
-            text: String::from_str(alloc, text)?,
-        })
+        let bytes = match ArrayString::from(text) {
+            Ok(short) => Bytes::Short(short),
+            Err(_) => Bytes::Long(String::from_str(alloc, text)?),
+        };
+        Ok(Str { bytes })
     }
 
     /// The text, lent.
     pub fn as_str(&self) -> &str
         ensures { result.now ≡ self.now }
     {
-        self.text.as_str()
+        match &self.bytes {
+            Bytes::Short(text) => text.as_str(),
+            Bytes::Long(text) => text.as_str(),
+        }
     }
 
     /// An equal text of its own.
     pub fn copy(&self) -> Result<Str, AllocError>
         ensures { IfOk result (λ s. s ≡ self.now) }
     {
-        Ok(Str {
-            text: self.text.clone()?,
-        })
+        let bytes = match &self.bytes {
+            Bytes::Short(text) => Bytes::Short(*text),
+            Bytes::Long(text) => Bytes::Long(text.clone()?),
+        };
+        Ok(Str { bytes })
     }
 
     /// Whether the two texts have the same bytes.
@@ -58,7 +75,7 @@ impl Str {
         ensures same { IsTrue result ↔ (self.now ≡ other.now) }
         ensures computed { result ≡ bytes_eq self.now other.now }
     {
-        self.text.as_str() == other.text.as_str()
+        self.as_str() == other.as_str()
     }
 }
 
@@ -97,5 +114,15 @@ impl PartialOrd for Str {
 
     fn partial_cmp(&self, other: &Str) -> Option<Ordering> {
         Some(self.cmp(other))
+    }
+}
+
+impl Hash for Str {
+    ghost hash_input = { fed.str };
+
+    ghost respects_eq = { Prim.search (hashing, rules) };
+
+    fn hash<H: Hasher>(&self, state: &mut H) {
+        self.as_str().hash(state);
     }
 }

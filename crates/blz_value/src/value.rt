@@ -1,15 +1,18 @@
 //! A value of a record.
 ghost use Rattle.std.specs.Prelude.{◌≡◌, IfOk};
-ghost use Rattle.std.proofs.Common.{rules};
+ghost use Rattle.std.proofs.Common.{rules, ap};
+ghost use Rattle.std.proofs.lemmas.Map.Views.{tells_apart};
 ghost use Rattle.std.specs.Cmp.{partial_equiv_from_equiv, partial_order_from_total, eq_by_cmp_equiv};
 ghost use Rattle.std.specs.Cmp.Rules.{comparing};
 ghost use Rattle.std.specs.Ordering.{as_partial_cmp, eq_by_cmp};
 ghost use Rattle.blz_value.specs.Value.{value_cmp};
-ghost use Rattle.blz_value.specs.ValueOrder.{value_cmp_total};
+ghost use Rattle.blz_value.specs.ValueOrder.{value_cmp_total, value_cmp_exact};
+ghost use Rattle.blz_value.specs.Hash.{value_writes};
 
 use crate::text::Str;
 use std::alloc::AllocError;
 use std::cmp::Ordering;
+use std::hash::{Hash, Hasher};
 
 /// What stands in a column of a record.
 #[derive(Debug, Drop)]
@@ -67,6 +70,22 @@ impl PartialOrd for Value {
 
     fn partial_cmp(&self, other: &Value) -> Option<Ordering> {
         Some(compare_values(self, other))
+    }
+}
+
+impl Hash for Value {
+    ghost hash_input = { value_writes };
+
+    ghost respects_eq = { λ x y same. ap value_writes (tells_apart value_cmp_exact x y same) };
+
+    fn hash<H: Hasher>(&self, state: &mut H) {
+        match self {
+            Value::Int(n) => {
+                state.write_u8(0xfe);
+                state.write_i64(*n);
+            }
+            Value::Text(s) => s.hash(state),
+        }
     }
 }
 

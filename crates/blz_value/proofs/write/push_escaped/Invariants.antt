@@ -1,7 +1,10 @@
--- the bytes so far
-use Rattle.std.proofs.Common.{◌≡◌, ◌++◌, take}
+-- the bytes before the run, and behind them the run, which is its own text
+use Rattle.std.proofs.Common.{◌≡◌, ◌≤◌, ◌++◌, take, drop}
 use Rattle.blz_value.specs.Text.{escaped}
 use Rattle.blz_value.proofs.write.push_escaped.Given as goal
 
-abbrev pub invariant-loop-byte : goal.invariant-loop-byte
-invariant-loop-byte l = l.into.items ≡ l.initial.into.items ++ escaped (take l.byte-index l.byte-items)
+abbrev pub invariant-loop-i : goal.invariant-loop-i
+invariant-loop-i l = record {
+  before : l.start ≤ l.i;
+  written : l.into.items ++ drop l.start (take l.i l.bytes) ≡ l.initial.into.items ++ escaped (take l.i l.bytes);
+}

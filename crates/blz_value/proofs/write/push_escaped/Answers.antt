@@ -1,0 +1,47 @@
+use Rattle.std.proofs.Common.{rules, ◌≡◌, ◌<◌, ◌≤◌, ◌∷◌, [], ◌++◌, ℕ, ◌+◌, ◌-◌, length, take, drop, get_or, List, arith, append_assoc, append-nil, ap, sym, ◌∙◌}
+use Rattle.std.proofs.lemmas.List.{take_more, drop_all, drop-append-le, drop-take, length-take-le}
+use Rattle.std.proofs.lemmas.Grind.{flat_map-append}
+use Rattle.blz_value.specs.Text.{escaped_byte, escaped}
+use Rattle.blz_value.proofs.write.push_escaped.Goals as goal
+use Rattle.blz_value.proofs.write.push_escaped.Goals.{then-is_escaped+in_ok-extend_from_slice+in_ok-push_escaped_byte, else-is_escaped}
+
+escaped-more : (bytes : List ℕ) (i : ℕ) → i < length bytes → escaped (take (i + 1) bytes) ≡ escaped (take i bytes) ++ escaped_byte (get_or bytes i 0)
+escaped-more bytes i lt = ap escaped (take_more bytes i 0 lt) ∙ flat_map-append escaped_byte (take i bytes) (get_or bytes i 0 ∷ []) ∙ ap (λ z. escaped (take i bytes) ++ z) (append-nil (escaped_byte (get_or bytes i 0)))
+
+-- the run in the list so far
+run-taken : (bytes : List ℕ) (start i : ℕ) → start ≤ i → take (i - start) (drop start bytes) ≡ drop start (take i bytes)
+run-taken bytes start i le =
+    let whole : start + (i - start) ≡ i = omega arith in
+    sym (drop-take start (i - start) bytes) ∙ ap (λ n. drop start (take n bytes)) whole
+
+-- an escape ends the run
+run-ended : (bytes into old : List ℕ) (i : ℕ) → i < length bytes → into ≡ old ++ escaped (take i bytes) → (into ++ escaped_byte (get_or bytes i 0)) ++ drop (i + 1) (take (i + 1) bytes) ≡ old ++ escaped (take (i + 1) bytes)
+run-ended bytes into old i lt e =
+    let none : drop (i + 1) (take (i + 1) bytes) ≡ [] = drop_all (i + 1) (take (i + 1) bytes) (omega (arith, length-take-le (i + 1) bytes)) in
+    rw (none, append-nil, e, escaped-more bytes i lt) (append_assoc old (escaped (take i bytes)) (escaped_byte (get_or bytes i 0)))
+
+-- a plain byte makes it longer
+run-longer : (bytes into old : List ℕ) (start i : ℕ) → i < length bytes → start ≤ i → escaped_byte (get_or bytes i 0) ≡ get_or bytes i 0 ∷ [] → into ++ drop start (take i bytes) ≡ old ++ escaped (take i bytes) → into ++ drop start (take (i + 1) bytes) ≡ old ++ escaped (take (i + 1) bytes)
+run-longer bytes into old start i lt le plain e =
+    let more : drop start (take (i + 1) bytes) ≡ drop start (take i bytes) ++ get_or bytes i 0 ∷ [] =
+    ap (drop start) (take_more bytes i 0 lt) ∙ drop-append-le start (take i bytes) (get_or bytes i 0 ∷ []) (omega (arith, length-take-le i bytes)) in
+    rw (more, escaped-more bytes i lt, plain, ← append_assoc, e) (append_assoc old (escaped (take i bytes)) (get_or bytes i 0 ∷ []))
+
+pub loop-i-preserved : goal.loop-i-preserved
+loop-i-preserved c = elim c.if-is_escaped.branch [
+  | then-is_escaped+in_ok-extend_from_slice+in_ok-push_escaped_byte w ↦ (
+      let run = run-taken c.as_bytes-bytes.result.now c.loop-i.start c.loop-i.i (omega arith) in
+      let into : w.extend_from_slice.new.self.items ≡ c.args.into.now.items ++ escaped (take c.loop-i.i c.as_bytes-bytes.result.now) =
+      w.in_ok-extend_from_slice.ensures.items ∙ ap (λ z. c.loop-i.into.items ++ z) run ∙ c.loop-i.invariant.written in
+      let items : c.if-is_escaped.into.items ≡ w.extend_from_slice.new.self.items ++ escaped_byte (get_or c.as_bytes-bytes.result.now c.loop-i.i 0) = search rules in
+      rw (items, w.start-is) (record {
+        before = omega arith;
+        written = run-ended c.as_bytes-bytes.result.now w.extend_from_slice.new.self.items c.args.into.now.items c.loop-i.i (omega arith) into;
+      }))
+  | else-is_escaped w ↦ (
+      let plain : escaped_byte (get_or c.as_bytes-bytes.result.now c.loop-i.i 0) ≡ get_or c.as_bytes-bytes.result.now c.loop-i.i 0 ∷ [] = search rules in
+      rw (w.into-is, w.start-is) (record {
+        before = omega arith;
+        written = run-longer c.as_bytes-bytes.result.now c.loop-i.into.items c.args.into.now.items c.loop-i.start c.loop-i.i (omega arith) (omega arith) plain c.loop-i.invariant.written;
+      }))
+]

@@ -7,7 +7,7 @@ use Rattle.messages.specs.Messages.{Pair, Batch, Entry, all_pairs}
 use Rattle.inbox.specs.Instances.{Instance, entries_of}
 use Rattle.inbox.specs.Timesteps.{is_due}
 use Rattle.messages.specs.Log.{AreGiven}
-use Rattle.messages.specs.Feeds.{feed_count}
+use Rattle.partitions.specs.Feeds.{feed_count}
 use Rattle.inbox.specs.Code.Heard.{FeedsHeard, WaitingHeard, IsIdle, is_sealing}
 use Rattle.inbox.specs.declared.inbox.Inbox.{Inbox}
 

@@ -9,7 +9,7 @@ use Rattle.topo_types.specs.Feeds.{Feed}
 use Rattle.topo_types.specs.declared.mode.Mode.{Mode}
 use Rattle.topo_types.specs.Messages.{is_same_row, row_in}
 use Rattle.messages.specs.Messages.{Pair, Entry}
-pub use Rattle.messages.specs.Ports.{PortKey}
+pub use Rattle.partitions.specs.Ports.{PortKey}
 
 -- an instance: its program where it has a body, its mode, its ports, its feeds by their numbers, and of each output the places of the key that its stream carries
 pub record Instance : Type 0 where

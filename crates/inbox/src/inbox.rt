@@ -14,7 +14,7 @@ ghost use Rattle.messages.specs.Messages.{Pair, Batch, Entry, all_pairs};
 ghost use Rattle.inbox.specs.Instances.{Instance};
 ghost use Rattle.inbox.specs.Timesteps.{set_off, held_count, one_timestep};
 ghost use Rattle.messages.specs.Log.{row_with_id, entries_with_ids};
-ghost use Rattle.messages.specs.Feeds.{port_count, port_in, key_in, carries_in, is_whole_in};
+ghost use Rattle.partitions.specs.Feeds.{port_count, port_in, key_in, carries_in, is_whole_in};
 
 use crate::instance::{feeds_of, key_of, ports_of, ports_of_feeds};
 use crate::step::{push_one_by_one, push_together, timestep};
@@ -22,7 +22,8 @@ use crate::waiting::Waiting;
 use bloom_eval::Arrivals;
 use blz_pool::{Id, Pool};
 use blz_value::{Items, Record};
-use messages::{Feeds, Message};
+use messages::Message;
+use partitions::Feeds;
 use std::alloc::{AllocError, Global};
 use std::collections::BTreeSet;
 use topo_types::{Mode, Valid};

@@ -7,12 +7,12 @@ ghost use Rattle.topo_types.specs.Feeds.{are_paired, feeds_from};
 ghost use Rattle.topo_types.specs.Sets.{set_of_numbers, below};
 ghost use Rattle.topo_types.specs.View as view;
 ghost use Rattle.inbox.specs.Wiring.{places_in_port, port_for, feeds_for};
-ghost use Rattle.messages.specs.Ports.{port_key, port_keys};
+ghost use Rattle.partitions.specs.Ports.{port_key, port_keys};
 ghost use Rattle.inbox.specs.Code.Senders.{is_sender, senders_for};
 
 use crate::feed::Feed;
 use blz_value::Items;
-use messages::Port;
+use partitions::Port;
 use std::alloc::{AllocError, Global};
 use topo_types::{Attrs, Mode, Valid, carries};
 

@@ -1,6 +1,7 @@
 pub mod Passing
 pub mod MessagesLemmas
 pub mod EmittedLemmas
+pub mod CountingLemmas
+pub mod NumbersLemmas
+pub mod KnownLemmas
 pub mod LogLemmas
-pub mod CountersLemmas
-pub mod FeedsLemmas

@@ -1,13 +1,6 @@
 -- In a pool that gave the ids, pairs of a port and a record are told apart by their ids.
 use Rattle.std.proofs.Common.{◌≡◌, ◌≢◌, refl, ap, sym, subst, ◌∙◌, ℕ, ◌+◌, ◌<◌, ◌==◌, ◌&&◌, ◌||◌, Bool, true, false, cond, List, [], ◌∷◌, ◌++◌, length, length-append, rules, arith, inl, inr}
-use Rattle.std.specs.BTreeSet.{BTreeSet, contains}
-use Rattle.std.specs.Cmp.{Equal-is, tied_itself}
-use Rattle.std.specs.FinMap.{nat_cmp-IsAntisymmetric}
 use Rattle.std.specs.List.{list_any}
-use Rattle.std.specs.Ordering.{is_eq, ordering_then, nat_cmp}
-use Rattle.std.specs.declared.cmp.Ordering.{Ordering}
-use Rattle.std.specs.declared.cmp.Ordering.TheVariants.{Less, Equal, Greater}
-use Rattle.std.proofs.lemmas.Cmp.{nat_cmp_total}
 use Rattle.std.proofs.lemmas.List.Folds.{list_any-append}
 use Rattle.std.proofs.lemmas.List.Quantifiers.{all_pairs_push}
 use Rattle.std.specs.Bool.{IsTrue}
@@ -21,7 +14,8 @@ use Rattle.blz_value.proofs.Membership.{Has-get_or, any_from_Has}
 use Rattle.messages.specs.Message.{is_same_row}
 use Rattle.messages.specs.Messages.{is_same_entry, with_new}
 use Rattle.messages.specs.Log.{EntryId, is_same_entry_id, row_with_id, entry_with_id, entries_with_ids, AreGiven, IsLog}
-use Rattle.messages.specs.Known.{entry_id_cmp, IsKept}
+use Rattle.messages.specs.Known.{is_known, KnowsAlso, IsKept}
+use Rattle.messages.proofs.NumbersLemmas.{none_set}
 use Rattle.messages.proofs.MessagesLemmas.{is_same_row-is, is_same_row-itself, any-from_same, same-from_any}
 
 same_truth : (a b : Bool) → (a ≡ true → b ≡ true) → (b ≡ true → a ≡ true) → a ≡ b
@@ -86,26 +80,6 @@ appended_records records old new entry is pool given within =
 
 -- ---- what is known
 
-same_turned : (a b : ℕ) → (a == b) ≡ (b == a)
-same_turned a b = same_truth (a == b) (b == a) (λ e. eq-eqb b a (sym (eqb-true a b e))) (λ e. eq-eqb a b (sym (eqb-true b a e)))
-
-is_eq-then : (o p : Ordering) → is_eq (ordering_then o p) ≡ (is_eq o && is_eq p)
-is_eq-then Less p = refl
-is_eq-then Equal p = refl
-is_eq-then Greater p = refl
-
-is_eq-nat_cmp : (a b : ℕ) → is_eq (nat_cmp a b) ≡ (a == b)
-is_eq-nat_cmp a b =
-    same_truth (is_eq (nat_cmp a b)) (a == b)
-    (λ e. eq-eqb a b (nat_cmp-IsAntisymmetric a b ((Equal-is (nat_cmp a b)).0 e)))
-    (λ e. subst (λ n. is_eq (nat_cmp a n) ≡ true) (eqb-true a b e) ((Equal-is (nat_cmp a a)).1 (tied_itself nat_cmp_total a)))
-
-is_eq-entry_id_cmp : (a b : EntryId) → is_eq (entry_id_cmp a b) ≡ is_same_entry_id b a
-is_eq-entry_id_cmp a b =
-    is_eq-then (nat_cmp a.0 b.0) (nat_cmp a.1 b.1)
-    ∙ ap (λ c. c && is_eq (nat_cmp a.1 b.1)) (is_eq-nat_cmp a.0 b.0 ∙ same_turned a.0 b.0)
-    ∙ ap (λ c. (b.0 == a.0) && c) (is_eq-nat_cmp a.1 b.1 ∙ same_turned a.1 b.1)
-
 once_more : (entries : List EntryId) (entry : EntryId) → IsLog entries → list_any (is_same_entry_id entry) entries ≡ false → IsLog (entries ++ entry ∷ [])
 once_more entries entry once absent =
     all_pairs_push (λ a b. a ≢ b) entries entry once (λ k d below same.
@@ -113,24 +87,29 @@ once_more entries entry once absent =
     let found : true ≡ false = sym (any_from_Has (is_same_entry_id entry) entry entries there (is_same_entry_id-itself entry)) ∙ absent in
     cc)
 
-pub known-more : (known new : BTreeSet EntryId) (entries : List EntryId) (entry key : EntryId) → IsKept known entries → list_any (is_same_entry_id entry) entries ≡ false → key ≡ entry
-    → ((q : EntryId) → contains entry_id_cmp new q ≡ cond (is_eq (entry_id_cmp key q)) true (contains entry_id_cmp known q)) → IsKept new (entries ++ entry ∷ [])
-known-more known new entries entry key kept absent same updates = record {
+pub known-more : (known new : List (List ℕ)) (entries : List EntryId) (entry : EntryId) (number : ℕ) → IsKept known entries → list_any (is_same_entry_id entry) entries ≡ false → number ≡ entry.1
+    → KnowsAlso entry.0 number known new → IsKept new (entries ++ entry ∷ [])
+known-more known new entries entry number kept absent same also = record {
   once = once_more entries entry kept.once absent;
   knows = λ q.
-      updates q
-      ∙ ap (λ k. cond (is_eq (entry_id_cmp k q)) true (contains entry_id_cmp known q)) same
-      ∙ ap (λ b. cond b true (contains entry_id_cmp known q)) (is_eq-entry_id_cmp entry q)
-      ∙ ap (λ b. cond (is_same_entry_id q entry) true b) (kept.knows q)
+      also q.0 q.1
+      ∙ ap (λ k. (q.0 == entry.0 && q.1 == k) || is_known known q.0 q.1) same
+      ∙ ap (λ b. is_same_entry_id q entry || b) (kept.knows q)
       ∙ or_last (is_same_entry_id q entry) (list_any (is_same_entry_id q) entries)
       ∙ sym (list_any-append (is_same_entry_id q) entries (entry ∷ []));
 }
   where
-    or_last : (a b : Bool) → cond a true b ≡ (b || (a || false))
+    or_last : (a b : Bool) → (a || b) ≡ (b || (a || false))
     or_last true true = refl
     or_last true false = refl
     or_last false true = refl
     or_last false false = refl
+
+pub known-same : (known new : List (List ℕ)) (entries : List EntryId) → IsKept known entries → ((n k : ℕ) → is_known new n k ≡ is_known known n k) → IsKept new entries
+known-same known new entries kept same = record { once = kept.once; knows = λ q. same q.0 q.1 ∙ kept.knows q }
+
+pub none-kept : IsKept [] []
+none-kept = record { once = search rules; knows = λ q. none_set q.1 }
 
 -- ---- one more
 

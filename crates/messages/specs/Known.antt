@@ -1,20 +1,22 @@
--- A log finds what it holds in an ordered set.
-use Rattle.std.specs.Prelude.{◌≡◌, List}
-use Rattle.std.specs.BTreeSet.{BTreeSet, contains}
+-- What is known of each place, and how a log knows its entries.
+use Rattle.std.specs.Prelude.{◌≡◌, ◌==◌, ◌&&◌, ◌||◌, ℕ, Bool, List, [], slice_index_or}
 use Rattle.std.specs.List.{list_any}
-use Rattle.std.specs.Ordering.{ordering_then, nat_cmp}
-use Rattle.std.specs.declared.cmp.Ordering.{Ordering}
 use Rattle.messages.specs.Log.{EntryId, is_same_entry_id, IsLog}
+use Rattle.messages.specs.Numbers.{has_number}
 
--- by port, and then by id
-abbrev pub entry_id_cmp : EntryId → EntryId → Ordering
-entry_id_cmp a b = ordering_then (nat_cmp a.0 b.0) (nat_cmp a.1 b.1)
+-- a number is known at a place
+abbrev pub is_known : (known : List (List ℕ)) → (place number : ℕ) → Bool
+is_known known place number = has_number (slice_index_or known place []) number
 
--- the set holds these pairs, and no other
-abbrev pub Knows : BTreeSet EntryId → List EntryId → Type 0
-Knows known entries = (entry : EntryId) → contains entry_id_cmp known entry ≡ list_any (is_same_entry_id entry) entries
+-- one number more is known at a place
+abbrev pub KnowsAlso : (place number : ℕ) → (old new : List (List ℕ)) → Type 0
+KnowsAlso place number old new = (n k : ℕ) → is_known new n k ≡ ((n == place && k == number) || is_known old n k)
+
+-- the entries of a log are known by their ports and ids, and nothing else is
+abbrev pub Knows : List (List ℕ) → List EntryId → Type 0
+Knows known entries = (entry : EntryId) → is_known known entry.0 entry.1 ≡ list_any (is_same_entry_id entry) entries
 
 -- the entries of a log, each known
-pub record IsKept (known : BTreeSet EntryId) (entries : List EntryId) : Type 0 where
+pub record IsKept (known : List (List ℕ)) (entries : List EntryId) : Type 0 where
   pub once : IsLog entries
   pub knows : Knows known entries

@@ -2,8 +2,6 @@ pub mod Message
 pub mod Messages
 pub mod Emitted
 pub mod Log
+pub mod Numbers
 pub mod Known
 pub mod Ids
-pub mod Ports
-pub mod Counts
-pub mod Feeds

@@ -1,17 +1,13 @@
-//! What comes to an instance, and what is kept of it: a log of records, each once, and for each feed
-//! and partition how many records came, and whether a seal of it counts no more.
+//! What comes to an instance: messages by the ids of their records, and a log of records, each once;
+//! with the sets of numbers in which such things are known.
 #![tactic(auto)]
 
-mod counter;
-mod feed;
-mod feeds;
+mod known;
 mod log;
 mod message;
-mod port;
+mod numbers;
 
-pub use counter::Counter;
-pub use feed::Feed;
-pub use feeds::Feeds;
+pub use known::Known;
 pub use log::Log;
 pub use message::Message;
-pub use port::Port;
+pub use numbers::NumberSet;

@@ -7,9 +7,9 @@ ghost use Rattle.blz_value.specs.Record.{Row};
 ghost use Rattle.messages.specs.Log.{IsLog, AreGiven, is_same_entry_id, entries_with_ids, row_with_id};
 ghost use Rattle.messages.specs.Messages.{with_new, is_same_entry};
 
+use crate::known::Known;
 use blz_pool::Id;
 use std::alloc::{AllocError, Global};
-use std::collections::BTreeSet;
 use std::marker::Model;
 
 /// Pairs of a port and the id of a record, each once, in the order in which they were first
@@ -17,7 +17,7 @@ use std::marker::Model;
 #[derive(Drop)]
 pub struct Log {
     entries: Vec<(u32, Id)>,
-    known: BTreeSet<(u32, u32)>,
+    known: Known,
 }
 
 impl Model for Log {
@@ -39,7 +39,7 @@ impl Log {
     {
         Log {
             entries: Vec::new(alloc),
-            known: BTreeSet::new(alloc),
+            known: Known::new(alloc),
         }
     }
 
@@ -71,7 +71,7 @@ impl Log {
     pub fn knows(&self, entry: (u32, Id)) -> bool
         ensures { result ≡ list_any (is_same_entry_id entry) self.now }
     {
-        self.known.contains(&(entry.0, entry.1.number()))
+        self.known.knows(entry.0, entry.1.number())
     }
 
     // Puts a new pair behind the others.
@@ -81,20 +81,19 @@ impl Log {
         ensures err { OnErr result (self.new ≡ self.old) }
     {
         let (port, id) = entry;
-        let key = (port, id.number());
         self.entries.push((port, id))?;
-        match self.known.insert(key) {
-            Ok(_) => Ok(()),
+        match self.known.know(port, id.number()) {
+            Ok(()) => Ok(()),
             Err(error) => {
                 let _ = self.entries.pop();
-                Err(AllocError::from(error))
+                Err(error)
             }
         }
     }
 
     /// Puts a pair at the end, unless the log has it, and answers whether it was new. A pair that
-    /// the log has takes no memory. It is looked up in an ordered set, so the cost grows with the
-    /// logarithm of the number of entries. The error is want of memory and leaves the log as it was.
+    /// the log has takes no memory. The log takes one bit at each port for each id up to the greatest
+    /// there. The error is want of memory and leaves the log as it was.
     pub fn append(&mut self, port: u32, row: Id) -> Result<bool, AllocError>
         ensures log { OnOk result (self.new ≡ with_new is_same_entry_id self.old (port, row)) }
         ensures added { IfOk result (λ added. IsTrue added ↔ ¬ Has (port, row) self.old) }

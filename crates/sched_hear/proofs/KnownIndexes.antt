@@ -1,59 +1,11 @@
 -- Messages that are noted one by one are known then, and no other.
-use Rattle.std.proofs.Common.{◌≡◌, ◌<◌, ◌≤◌, ◌+◌, ◌==◌, ◌&&◌, ◌||◌, ℕ, zero, suc, Bool, true, false, List, [], ◌∷◌, ◌++◌, length, get_or, set, take, refl, ap, ◌∙◌, sym, subst, inl, inr, ◌⊎◌}
-use Rattle.std.proofs.lemmas.Bool.{cases_eq, and_from, and_parts, eq-eqb, eqb-true, ne_eqb, or_cases, or_left, or_right}
-use Rattle.std.proofs.lemmas.List.{get_or_past, get_or_read, get_or-set_other, get_or-set_same, take_all, take_more}
+use Rattle.std.proofs.Common.{◌≡◌, ◌<◌, ◌≤◌, ◌+◌, ◌==◌, ◌&&◌, ◌||◌, ℕ, Bool, true, List, [], ◌∷◌, ◌++◌, length, get_or, take, ap, ◌∙◌, sym, subst, inl, inr, ◌⊎◌}
+use Rattle.std.proofs.lemmas.Bool.{and_from, and_parts, eq-eqb, eqb-true, or_cases, or_left, or_right}
+use Rattle.std.proofs.lemmas.List.{take_all, take_more}
 use Rattle.blz_value.specs.Members.{Has}
 use Rattle.blz_value.proofs.Membership.{Has-append_left, Has-append_right, Has-append_cases}
-use Rattle.sched_hear.specs.Known.{has_index, is_known, IsCountOf, KnowsAlso}
-use Rattle.sched_hear.specs.Code.Known.{HasAlso}
+use Rattle.messages.specs.Known.{is_known, KnowsAlso}
 use Rattle.sched_hear.specs.Code.Hearing.{KnowsMore}
-use Rattle.sched_hear.proofs.BelowCounts.{none_counted}
-use Rattle.sched_hear.proofs.KnownBits.{none_set}
-
--- ---- the feeds
-
--- nothing is known where nothing is kept
-pub none_known : (feed index : ℕ) → is_known [] feed index ≡ true → ⊥
-none_known feed index is = (let bad : false ≡ true = sym (none_set index) ∙ is in cc)
-
--- the count of a feed that is found, and of one past the last
-pub count_found : (known : List (List ℕ)) (feed : ℕ) (words : List ℕ) (count : ℕ) → feed < length known → words ≡ get_or known feed words → IsCountOf (has_index words) count → IsCountOf (is_known known feed) count
-count_found known feed words count inside at is = subst (λ (w : List ℕ). IsCountOf (has_index w) count) (get_or_read known feed words inside at []) is
-
-pub none_found : (known : List (List ℕ)) (feed : ℕ) → length known ≤ feed → IsCountOf (is_known known feed) 0
-none_found known feed past = subst (λ (w : List ℕ). IsCountOf (has_index w) 0) (sym (get_or_past known feed [] past)) (none_counted (has_index []) none_set)
-
-no_words : (known : List (List ℕ)) (feed : ℕ) → get_or (known ++ [] ∷ []) feed [] ≡ get_or known feed []
-no_words [] zero = refl
-no_words [] (suc feed) = refl
-no_words (words ∷ known) zero = refl
-no_words (words ∷ known) (suc feed) = no_words known feed
-
--- a feed more of which nothing is known
-pub feed_more : (first known new : List (List ℕ)) (words : List ℕ) → new ≡ known ++ words ∷ [] → words ≡ [] → ((n k : ℕ) → is_known known n k ≡ is_known first n k) → (n k : ℕ) → is_known new n k ≡ is_known first n k
-feed_more first known new words pushed none before n k =
-    ap (λ (l : List (List ℕ)). is_known l n k) (pushed ∙ ap (λ (w : List ℕ). known ++ w ∷ []) none)
-    ∙ ap (λ (w : List ℕ). has_index w k) (no_words known n)
-    ∙ before n k
-
--- one index more in the words of a feed
-pub feed_knows : (first feeds : List (List ℕ)) (feed index : ℕ) (was now : List ℕ) → feed < length feeds → was ≡ get_or feeds feed was → ((n k : ℕ) → is_known feeds n k ≡ is_known first n k) → HasAlso index was now → KnowsAlso feed index first (set feeds feed now)
-feed_knows first feeds feed index was now inside at before also n k = elim (cases_eq n feed) [
-  | inl same ↦
-      let own : get_or (set feeds feed now) n [] ≡ now = ap (λ j. get_or (set feeds feed now) j []) same ∙ get_or-set_same feeds feed now [] inside in
-      let old : get_or feeds n [] ≡ was = ap (λ j. get_or feeds j []) same ∙ sym (get_or_read feeds feed was inside at []) in
-      ap (λ (w : List ℕ). has_index w k) own
-      ∙ also k
-      ∙ ap (λ (w : List ℕ). k == index || has_index w k) (sym old)
-      ∙ ap (λ b. k == index || b) (before n k)
-      ∙ sym (ap (λ b. (b && k == index) || is_known first n k) (eq-eqb n feed same))
-  | inr other ↦
-      ap (λ (w : List ℕ). has_index w k) (get_or-set_other feeds feed n now [] other)
-      ∙ before n k
-      ∙ sym (ap (λ b. (b && k == index) || is_known first n k) (ne_eqb n feed other))
-]
-
--- ---- a list of indexes
 
 pair_same : (a b : ℕ × ℕ) → a.0 ≡ b.0 → a.1 ≡ b.1 → a ≡ b
 pair_same a b p q = let f : ℕ → ℕ → ℕ × ℕ = λ m n. (m, n) in ap (λ m. f m a.1) p ∙ ap (f b.0) q

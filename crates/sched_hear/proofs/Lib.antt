@@ -12,8 +12,6 @@ pub mod OrderingLemmas
 pub mod LoggingLemmas
 pub mod TakingEnds
 pub mod HearingTests
-pub mod BelowCounts
-pub mod KnownBits
 pub mod KnownIndexes
 pub mod HeardBatch
 pub mod HearingStands

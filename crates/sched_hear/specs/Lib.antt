@@ -2,7 +2,6 @@ pub mod Numbered
 pub mod Answers
 pub mod Shown
 pub mod Seated
-pub mod Known
 pub mod Net
 pub mod Seen
 pub mod Code

@@ -26,7 +26,7 @@ use Rattle.sched_lists.specs.Limits.{limit_of_event}
 use Rattle.sched_lists.specs.Lists.{Listed, IsExact, read_lists, list_at}
 use Rattle.sched_lists.specs.Outlets.{outlets_for}
 use Rattle.sched_lists.specs.Places.{ArePlaces, instance_place, instance_count, list_place}
-use Rattle.sched_hear.specs.Known.{is_known}
+use Rattle.messages.specs.Known.{is_known}
 use Rattle.sched_hear.specs.Shown.{ShowsSeats}
 use Rattle.sched_hear.specs.declared.seated.Ear.{Ear}
 use Rattle.sched_hear.specs.declared.seated.Ear.TheVariants.{Hears, Takes}

@@ -12,13 +12,13 @@ ghost use Rattle.sched_hear.specs.Code.Parts.{hears_itself};
 ghost use Rattle.sched_hear.specs.Code.Hearing.{EarCanHear, EarHears, KnowsMore, OneHears, HearingAnswers, HearingLeaves};
 
 use crate::books::Books;
-use crate::known::Known;
 use crate::numbered::{NumberedPart, part_of};
 use crate::parts::Pairs;
 use crate::seated::{Ear, Seated};
 use blz_boxes::Component;
 use blz_pool::Pool;
 use inbox::Timesteps;
+use messages::Known;
 use sched_lists::{EventFault, emit_at};
 use sched_text::Part;
 use std::alloc::{AllocError, Global};

@@ -4,14 +4,13 @@
 
 mod books;
 mod hearing;
-mod known;
 mod numbered;
 mod ordering;
 mod parts;
 mod seated;
 
 pub use books::Books;
-pub use known::Known;
+pub use messages::Known;
 pub use numbered::{NumberedEvent, NumberedPart, component_of, part_of};
 pub use ordering::is_order;
 pub use seated::{Ear, Seated};

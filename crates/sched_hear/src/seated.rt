@@ -2,9 +2,9 @@
 ghost use Rattle.std.specs.Prelude.{◌≡◌, ◌+◌, ◌<◌, ◌^◌};
 ghost use Rattle.sched_hear.specs.Code.Taking.{taken_in, took_one, EarForgets};
 
-use crate::known::Known;
 use blz_value::Items;
 use inbox::{Feed, Inbox};
+use messages::Known;
 use sched_lists::Outlet;
 
 /// What an instance hears: an inbox, with the messages that were heard in this life; or of an Order

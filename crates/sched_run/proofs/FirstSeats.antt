@@ -10,12 +10,12 @@ use Rattle.inbox.specs.Inbox.{HasHeard, IsFrom, feeds_in}
 use Rattle.inbox.specs.Wiring.{instance_for}
 use Rattle.inbox.specs.declared.inbox.Inbox.{Inbox}
 use Rattle.sched_lists.specs.Lists.{Listed}
-use Rattle.sched_hear.specs.Known.{is_known}
+use Rattle.messages.specs.Known.{is_known}
 use Rattle.sched_hear.specs.Net.{ShowsInbox}
 use Rattle.sched_lists.specs.Places.{instance_place}
 use Rattle.sched_run.specs.Code.First.{first_seat, IsFirst, AreFirst}
 use Rattle.sched_hear.specs.declared.seated.Seated.{Seated}
-use Rattle.sched_hear.proofs.KnownIndexes.{none_known}
+use Rattle.messages.proofs.KnownLemmas.{none_known}
 use Rattle.sched_lists.proofs.PlacesLemmas.{one_place, before-more}
 
 -- ---- one instance

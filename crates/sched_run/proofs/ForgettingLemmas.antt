@@ -35,7 +35,7 @@ use Rattle.sched_hear.specs.declared.seated.Ear.{Ear}
 use Rattle.sched_hear.specs.declared.seated.Ear.TheVariants.{Hears, Takes}
 use Rattle.sched_hear.proofs.CourseLemmas.{program_here, shell_inside}
 use Rattle.sched_lists.proofs.PlacesLemmas.{place-before}
-use Rattle.sched_hear.proofs.KnownIndexes.{none_known}
+use Rattle.messages.proofs.KnownLemmas.{none_known}
 use Rattle.sched_hear.proofs.Lifting.{forgetting_lifts}
 use Rattle.sched_hear.proofs.OrderingLemmas.{there_tested, seat_at}
 use Rattle.sched_lists.proofs.OutletsLemmas.{others_itself}

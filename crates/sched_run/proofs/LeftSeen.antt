@@ -39,7 +39,7 @@ use Rattle.messages.proofs.MessagesLemmas.{is_same_pair-is, is_same_pair-itself,
 use Rattle.inbox.proofs.Ranges.{all_below, not_all_below}
 use Rattle.inbox.proofs.WiringLemmas.{instance-feeds, instance-wired, instances-wired, length-below}
 use Rattle.sched_lists.specs.Lists.{read_lists, list_at}
-use Rattle.sched_hear.specs.Known.{is_known}
+use Rattle.messages.specs.Known.{is_known}
 use Rattle.sched_hear.specs.Net.{BooksStand, KnowsHeard, ShowsEar, ShowsInbox, execution_in, list_on}
 use Rattle.sched_lists.specs.Places.{instance_place}
 use Rattle.sched_run.specs.Reading.{holds_none_at, holds_none, is_complete}

@@ -30,7 +30,7 @@ use Rattle.sched_turns.specs.declared.windows.Stale.{Stale}
 use Rattle.emitted.specs.Ids.{id_in}
 use Rattle.sched_lists.specs.Lists.{read_list, read_lists, list_at}
 use Rattle.sched_run.specs.Made.{is_undelivered, is_unordered, is_open_in}
-use Rattle.sched_hear.specs.Known.{is_known}
+use Rattle.messages.specs.Known.{is_known}
 use Rattle.sched_hear.specs.Net.{BooksStand, ShowsEar, ShowsInbox, execution_in, list_on}
 use Rattle.sched_lists.specs.Places.{instance_place}
 use Rattle.sched_run.specs.Code.Looking.{is_unknown_at, is_unlogged_at, IsDelivery, IsOrdering, IsTaker, MayLook, LooksAt, TellsTake}

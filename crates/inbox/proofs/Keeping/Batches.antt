@@ -17,13 +17,13 @@ use Rattle.messages.specs.Messages.{Pair, Batch, Entry}
 use Rattle.inbox.specs.Instances.{Instance, port_of_feed, entries_of, key_of_entry}
 use Rattle.inbox.specs.Timesteps.{is_whole, is_due}
 use Rattle.messages.specs.Log.{EntryId, is_same_entry_id, row_with_id}
-use Rattle.messages.specs.Feeds.{feed_count, port_in, key_in, HearsSeal, IsOneChanged}
+use Rattle.partitions.specs.Feeds.{feed_count, port_in, key_in, HearsSeal, IsOneChanged}
 use Rattle.inbox.specs.Code.Batches.{open_key, is_open, HearsIf, HearsRecord, WaitsWith, AllWaitWith}
 use Rattle.inbox.specs.Code.Heard.{FeedsHeard, WaitingHeard, IsIdle}
 use Rattle.inbox.specs.Code.Waiting.{KeepsEntry}
 use Rattle.inbox.specs.Inbox.{Keeps, IsFrom}
-use Rattle.messages.specs.declared.feed.Feed.{Feed}
-use Rattle.messages.specs.declared.feeds.Feeds.{Feeds}
+use Rattle.partitions.specs.declared.feed.Feed.{Feed}
+use Rattle.partitions.specs.declared.feeds.Feeds.{Feeds}
 use Rattle.inbox.specs.declared.waiting.Waiting.{Waiting}
 use Rattle.inbox.specs.declared.inbox.Inbox.{Inbox}
 use Rattle.messages.proofs.LogLemmas.{one_id, is_same_entry_id-is, is_same_entry_id-itself}

@@ -25,13 +25,13 @@ use Rattle.messages.specs.Messages.{Pair, Entry}
 use Rattle.inbox.specs.Instances.{PortKey, Instance, port_of_feed, is_carrying, entries_of, key_of_entry, is_of_key}
 use Rattle.inbox.specs.Timesteps.{is_seal_within, from_feed}
 use Rattle.messages.specs.Log.{row_with_id}
-use Rattle.messages.specs.Counts.{is_met}
-use Rattle.messages.specs.Ports.{port_keys}
-use Rattle.messages.specs.Feeds.{feed_count, port_in, key_in, carries_in, FeedHearsRow, FeedHearsSeal, HearsRow, HearsSeal, IsOneChanged}
+use Rattle.partitions.specs.Counts.{is_met}
+use Rattle.partitions.specs.Ports.{port_keys}
+use Rattle.partitions.specs.Feeds.{feed_count, port_in, key_in, carries_in, FeedHearsRow, FeedHearsSeal, HearsRow, HearsSeal, IsOneChanged}
 use Rattle.inbox.specs.Code.Heard.{keyed_rows, count_sent, FeedHeard, FeedsHeard}
-use Rattle.messages.specs.declared.feed.Feed.{Feed}
-use Rattle.messages.specs.declared.feeds.Feeds.{Feeds}
-use Rattle.messages.specs.declared.port.Port.{Port}
+use Rattle.partitions.specs.declared.feed.Feed.{Feed}
+use Rattle.partitions.specs.declared.feeds.Feeds.{Feeds}
+use Rattle.partitions.specs.declared.port.Port.{Port}
 use Rattle.messages.proofs.LogLemmas.{IsOneId, same_row-same_id}
 use Rattle.messages.proofs.MessagesLemmas.{is_same_row-is, is_same_row-itself, any-from_same, same-from_any}
 use Rattle.inbox.proofs.TimestepLemmas.Entries.{heard_entry}

@@ -12,13 +12,13 @@ use Rattle.inbox.specs.Instances.{Instance, PortKey, port_of_feed, is_carrying}
 use Rattle.inbox.specs.Timesteps.{is_some_feed, is_due}
 use Rattle.inbox.specs.Wiring.{instance_for, port_for}
 use Rattle.messages.specs.Log.{EntryId, entries_with_ids}
-use Rattle.messages.specs.Ports.{port_keys}
+use Rattle.partitions.specs.Ports.{port_keys}
 use Rattle.inbox.specs.Code.Places.{places_of}
-use Rattle.messages.specs.Feeds.{feed_count, IsFreshFeed, carries_at, IsFresh, IsCleared}
+use Rattle.partitions.specs.Feeds.{feed_count, IsFreshFeed, carries_at, IsFresh, IsCleared}
 use Rattle.inbox.specs.Code.Heard.{FeedHeard, FeedsHeard, WaitingHeard, is_sealing}
 use Rattle.inbox.specs.Inbox.{Keeps, HasHeard}
-use Rattle.messages.specs.declared.feed.Feed.{Feed}
-use Rattle.messages.specs.declared.feeds.Feeds.{Feeds}
+use Rattle.partitions.specs.declared.feed.Feed.{Feed}
+use Rattle.partitions.specs.declared.feeds.Feeds.{Feeds}
 use Rattle.inbox.specs.declared.waiting.Waiting.{Waiting}
 use Rattle.inbox.specs.declared.inbox.Inbox.{Inbox}
 use Rattle.inbox.proofs.WiringLemmas.{instance-feeds, instance-ports, port_of-feed}

@@ -22,17 +22,17 @@ use Rattle.inbox.specs.Instances.{Instance, port_of_feed, is_carrying, entry_of,
 use Rattle.inbox.specs.Timesteps.{is_due, is_of_some, timestep_of, one_timestep, one_by_one, first_part, second_part, newly_whole, steps_in, held_count}
 use Rattle.messages.specs.Ids.{message_with_id, pair_with_id, batch_with_ids, IsGiven}
 use Rattle.messages.specs.Log.{EntryId, AreGiven, is_same_entry_id, row_with_id, entry_with_id, entries_with_ids}
-use Rattle.messages.specs.Feeds.{feed_count, port_count, port_in, key_in, carries_in, is_whole_in, is_due_in}
+use Rattle.partitions.specs.Feeds.{feed_count, port_count, port_in, key_in, carries_in, is_whole_in, is_due_in}
 use Rattle.inbox.specs.Code.Batches.{AllWaitWith, id_in, entry_ids_of, goes_in, open_key, steps_released, Releases}
 use Rattle.inbox.specs.Code.Heard.{FeedsHeard, WaitingHeard, IsIdle, is_sealing, is_place_of}
-use Rattle.messages.specs.Ports.{port_keys}
+use Rattle.partitions.specs.Ports.{port_keys}
 use Rattle.inbox.specs.Code.Places.{places_of}
 use Rattle.inbox.specs.Code.Waiting.{released_of}
 use Rattle.inbox.specs.Inbox.{Keeps, HasHeard}
 use Rattle.messages.specs.declared.message.Message.{Message as IdMessage}
 use Rattle.messages.specs.declared.message.Message.TheVariants.{Row, Seal}
-use Rattle.messages.specs.declared.feeds.Feeds.{Feeds}
-use Rattle.messages.specs.declared.port.Port.{Port}
+use Rattle.partitions.specs.declared.feeds.Feeds.{Feeds}
+use Rattle.partitions.specs.declared.port.Port.{Port}
 use Rattle.inbox.specs.declared.waiting.Waiting.{Waiting}
 use Rattle.inbox.specs.declared.inbox.Inbox.{Inbox}
 use Rattle.messages.proofs.LogLemmas.{one_id, any-with_ids}

@@ -19,8 +19,8 @@ use Rattle.messages.specs.Log.{EntryId, AreGiven, row_with_id, entry_with_id, en
 use Rattle.inbox.specs.Code.Heard.{keyed_rows, FeedHeard, FeedsHeard, WaitingHeard, is_place_of}
 use Rattle.inbox.specs.Inbox.{Keeps}
 use Rattle.inbox.specs.Pools.{IsLater, PlacedIsLater, LaterInSteps, StandsLater, KeepsLater, GivenLater, ReadsLater}
-use Rattle.messages.specs.declared.feed.Feed.{Feed}
-use Rattle.messages.specs.declared.feeds.Feeds.{Feeds}
+use Rattle.partitions.specs.declared.feed.Feed.{Feed}
+use Rattle.partitions.specs.declared.feeds.Feeds.{Feeds}
 use Rattle.inbox.specs.declared.waiting.Waiting.{Waiting}
 use Rattle.inbox.specs.declared.inbox.Inbox.{Inbox}
 use Rattle.messages.proofs.LogLemmas.{one_id}

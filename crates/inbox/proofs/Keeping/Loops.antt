@@ -21,7 +21,7 @@ use Rattle.inbox.specs.Code.Places.{places_of}
 use Rattle.inbox.specs.Code.Waiting.{released_of}
 use Rattle.inbox.specs.Code.Batches.{open_key, with_key, entry_id_of, entry_ids_of, steps_released, Releases}
 use Rattle.messages.specs.declared.message.Message.{Message}
-use Rattle.messages.specs.declared.feeds.Feeds.{Feeds}
+use Rattle.partitions.specs.declared.feeds.Feeds.{Feeds}
 use Rattle.inbox.specs.declared.waiting.Waiting.{Waiting}
 use Rattle.inbox.specs.declared.inbox.Inbox.{Inbox}
 use Rattle.inbox.proofs.TimestepLemmas.Whole.{Has-from_filter_map}

@@ -13,12 +13,12 @@ use Rattle.topo_types.specs.Messages.{Message, row, seal}
 use Rattle.messages.specs.Messages.{Pair, Batch, Entry, sealed_in}
 use Rattle.inbox.specs.Instances.{Instance, port_of_feed, is_carrying, carrying_feeds, key_of_entry}
 use Rattle.inbox.specs.Timesteps.{is_seal_within, from_feed, is_whole_from, is_some_feed, is_whole, is_due, sealed_keys, newly_whole}
-use Rattle.messages.specs.Counts.{have_of}
-use Rattle.messages.specs.Feeds.{feed_count, key_in, is_enough, is_whole_in, is_due_in}
+use Rattle.partitions.specs.Counts.{have_of}
+use Rattle.partitions.specs.Feeds.{feed_count, key_in, is_enough, is_whole_in, is_due_in}
 use Rattle.inbox.specs.Code.Batches.{key_by, if_open, open_key}
 use Rattle.inbox.specs.Code.Heard.{FeedsHeard}
-use Rattle.messages.specs.declared.feed.Feed.{Feed}
-use Rattle.messages.specs.declared.feeds.Feeds.{Feeds}
+use Rattle.partitions.specs.declared.feed.Feed.{Feed}
+use Rattle.partitions.specs.declared.feeds.Feeds.{Feeds}
 use Rattle.messages.proofs.MessagesLemmas.{is_same_row-is}
 use Rattle.inbox.proofs.TimestepLemmas.Touching.{is_touching, is_message_of, becomes-is_touching}
 use Rattle.inbox.proofs.TimestepLemmas.UnderSeal.{of_key-is}

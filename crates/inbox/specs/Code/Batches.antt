@@ -11,11 +11,11 @@ use Rattle.inbox.specs.Instances.{Instance, entry_of, key_of_entry}
 use Rattle.messages.specs.Messages.{Pair, Batch, Entry}
 use Rattle.messages.specs.Log.{EntryId, entry_with_id, entries_with_ids, is_same_entry_id}
 use Rattle.inbox.specs.Timesteps.{timestep_of, one_by_one}
-use Rattle.messages.specs.Feeds.{port_count, port_in, key_in, carries_in, is_whole_in, is_due_in, HearsRow}
+use Rattle.partitions.specs.Feeds.{port_count, port_in, key_in, carries_in, is_whole_in, is_due_in, HearsRow}
 use Rattle.inbox.specs.Code.Waiting.{KeepsEntry, released_of}
 use Rattle.messages.specs.declared.message.Message.{Message as IdMessage}
 use Rattle.messages.specs.declared.message.Message.TheVariants.{Row, Seal}
-use Rattle.messages.specs.declared.feeds.Feeds.{Feeds}
+use Rattle.partitions.specs.declared.feeds.Feeds.{Feeds}
 use Rattle.inbox.specs.declared.inbox.Inbox.{Inbox}
 
 -- ---- partitions

@@ -13,12 +13,12 @@ use Rattle.messages.specs.Messages.{Pair, Entry, is_same_entry, firsts}
 use Rattle.inbox.specs.Instances.{Instance, port_of_feed, is_carrying, carrying_feeds, entries_of, key_of_entry, is_of_key}
 use Rattle.inbox.specs.Timesteps.{is_seal_within, from_feed, is_some_feed}
 use Rattle.messages.specs.Log.{EntryId, AreGiven, entry_with_id, entries_with_ids, row_with_id}
-use Rattle.messages.specs.Counts.{have_of, need_of, is_met}
-use Rattle.messages.specs.Ports.{port_keys}
-use Rattle.messages.specs.Feeds.{feed_count}
+use Rattle.partitions.specs.Counts.{have_of, need_of, is_met}
+use Rattle.partitions.specs.Ports.{port_keys}
+use Rattle.partitions.specs.Feeds.{feed_count}
 use Rattle.inbox.specs.Code.Places.{places_of}
-use Rattle.messages.specs.declared.feed.Feed.{Feed}
-use Rattle.messages.specs.declared.feeds.Feeds.{Feeds}
+use Rattle.partitions.specs.declared.feed.Feed.{Feed}
+use Rattle.partitions.specs.declared.feeds.Feeds.{Feeds}
 use Rattle.inbox.specs.declared.waiting.Waiting.{Waiting}
 
 -- the records of partitions among what was heard from one feed

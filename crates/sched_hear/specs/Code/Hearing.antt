@@ -18,7 +18,7 @@ use Rattle.inbox.specs.Events.{Part, Event, event, Step}
 use Rattle.inbox.specs.declared.inbox.Inbox.{Inbox}
 use Rattle.messages.specs.declared.message.Message.{Message as IdMessage}
 use Rattle.sched_lists.specs.Limits.{limit_of_event, limit_of_hearing}
-use Rattle.sched_hear.specs.Known.{is_known}
+use Rattle.messages.specs.Known.{is_known}
 use Rattle.sched_hear.specs.Net.{Stands, EventAnswers}
 use Rattle.sched_hear.specs.declared.books.Books.{Books}
 use Rattle.emitted.specs.declared.fault.EventFault.{EventFault}

@@ -12,7 +12,7 @@ use Rattle.messages.specs.declared.message.Message.{Message as IdMessage}
 use Rattle.sched_turns.specs.Windows.{Looked, IsWindow, MayShow, OthersAreOpen}
 use Rattle.sched_turns.specs.declared.windows.Stale.{Stale}
 use Rattle.emitted.specs.Ids.{id_in}
-use Rattle.sched_hear.specs.Known.{is_known}
+use Rattle.messages.specs.Known.{is_known}
 use Rattle.sched_run.specs.Made.{is_open_in, lane_list, can_take}
 use Rattle.sched_hear.specs.Net.{BooksStand, execution_in}
 use Rattle.sched_run.specs.Reading.{IsRead}

@@ -11,7 +11,7 @@ use Rattle.inbox.specs.Ids.{message_with_id}
 use Rattle.inbox.specs.Log.{EntryId, entries_with_ids}
 use Rattle.inbox.specs.Messages.{is_same_entry}
 use Rattle.messages.specs.declared.message.Message.{Message as IdMessage}
-use Rattle.sched_hear.specs.Known.{is_known}
+use Rattle.messages.specs.Known.{is_known}
 use Rattle.sched_hear.specs.Seen.{list_seen}
 
 -- the list of a feed with a number

@@ -12,7 +12,7 @@ use Rattle.messages.specs.Log.{EntryId, entries_with_ids}
 use Rattle.messages.specs.Messages.{Batch}
 use Rattle.inbox.specs.Timesteps.{one_timestep}
 use Rattle.inbox.specs.Code.Batches.{AllWaitWith, open_key, goes_in, entry_ids_of, Releases}
-use Rattle.messages.specs.Feeds.{feed_count, port_count}
+use Rattle.partitions.specs.Feeds.{feed_count, port_count}
 use Rattle.messages.specs.declared.message.Message.{Message}
 use Rattle.inbox.proofs.Keeping.Hears.{Heard, HearsBatch, hears_all, given_going}
 use Rattle.inbox.proofs.inbox.Inbox.hear.Goals.{In_ok-push_going}

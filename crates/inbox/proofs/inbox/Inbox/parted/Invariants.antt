@@ -1,6 +1,6 @@
 -- the entries so far, at carrying ports and at others
 use Rattle.std.proofs.Common.{◌≡◌, not, filter, take}
-use Rattle.messages.specs.Feeds.{carries_in}
+use Rattle.partitions.specs.Feeds.{carries_in}
 use Rattle.inbox.proofs.inbox.Inbox.parted.Given as goal
 
 abbrev pub invariant-loop-entry : goal.invariant-loop-entry

@@ -1,7 +1,7 @@
 use Rattle.std.proofs.Common.{◌<◌, ◌∙◌, sym, subst, length, not, List}
 use Rattle.std.specs.List.{All}
 use Rattle.messages.specs.Log.{EntryId}
-use Rattle.messages.specs.Feeds.{carries_in}
+use Rattle.partitions.specs.Feeds.{carries_in}
 use Rattle.inbox.proofs.Keeping.Loops.{given_filter}
 use Rattle.inbox.proofs.inbox.Inbox.push_released.Goals as goal
 

@@ -1,6 +1,6 @@
 -- the partitions so far that are whole, and those still to come
 use Rattle.std.proofs.Common.{◌≡◌, ◌++◌, filter}
-use Rattle.messages.specs.Feeds.{is_whole_in}
+use Rattle.partitions.specs.Feeds.{is_whole_in}
 use Rattle.inbox.proofs.inbox.Inbox.whole_among.Given as goal
 
 abbrev pub invariant-loop-key : goal.invariant-loop-key

@@ -9,4 +9,4 @@ invariant_of-self-in-Ok c =
     let entries = c.self.inside.entries.items in
     let items : c.push.new.self.items ≡ entries ++ c.args.entry ∷ [] = search rules in
     let absent : list_any (is_same_entry_id c.args.entry) entries ≡ false = search rules in
-    rw items (known-more c.self.inside.known c.insert.new.self entries c.args.entry (c.args.entry.0, c.number.result) c.self.invariant absent (search rules) c.in-Ok.ensures.updates.0)
+    rw items (known-more c.self.inside.known c.know.new.self entries c.args.entry c.number.result c.self.invariant absent (search rules) c.in-Ok.ensures.ok)

@@ -5,7 +5,7 @@ use Rattle.topo_types.specs.View.{replicas_of}
 use Rattle.inbox.specs.Completeness.{left_of, left_out}
 use Rattle.inbox.specs.Wiring.{wiring_of}
 use Rattle.sched_hear.specs.Net.{execution_in}
-use Rattle.sched_hear.proofs.BelowCounts.{sum_below_more}
+use Rattle.messages.proofs.CountingLemmas.{sum_below_more}
 use Rattle.sched_run.proofs.net.Net.left_at.Goals as goal
 
 pub loop-replica-preserved : goal.loop-replica-preserved

@@ -1,6 +1,6 @@
 use Rattle.std.proofs.Common.{arith}
 use Rattle.sched_run.specs.Code.Remaining.{unknown_at}
-use Rattle.sched_hear.proofs.BelowCounts.{sum_below_more}
+use Rattle.messages.proofs.CountingLemmas.{sum_below_more}
 use Rattle.sched_run.proofs.net.Net.undelivered.Goals as goal
 
 pub loop-number-preserved : goal.loop-number-preserved

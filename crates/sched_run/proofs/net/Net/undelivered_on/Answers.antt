@@ -1,8 +1,8 @@
 use Rattle.std.proofs.Common.{◌≡◌, ◌<◌, ◌∙◌, ℕ, true, List, length, get_or, ap, sym, subst, arith}
 use Rattle.messages.specs.declared.message.Message.{Message as IdMessage}
 use Rattle.topo_types.specs.Feeds.{no_feed}
-use Rattle.sched_hear.specs.Known.{is_known}
-use Rattle.sched_hear.proofs.BelowCounts.{count_others, few_counted}
+use Rattle.messages.specs.Known.{is_known}
+use Rattle.messages.proofs.CountingLemmas.{count_others, few_counted}
 use Rattle.sched_run.specs.Code.Remaining.{unknown_on}
 use Rattle.sched_run.proofs.EmittedSeen.{seen_within}
 use Rattle.sched_run.proofs.net.Net.undelivered_on.Goals as goal

@@ -1,0 +1,2 @@
+pub mod CountersLemmas
+pub mod FeedsLemmas

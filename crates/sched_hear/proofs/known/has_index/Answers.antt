@@ -1,7 +1,0 @@
-use Rattle.std.proofs.Common.{◌/◌, ◌%◌, get_or}
-use Rattle.fd_closure.specs.Bits.{bit_of}
-use Rattle.sched_hear.proofs.KnownBits.{bit_tested}
-use Rattle.sched_hear.proofs.known.has_index.Goals as goal
-
-pub returns : goal.returns
-returns c = bit_tested (bit_of (c.args.index % 64)) (get_or c.args.words.now (c.args.index / 64) 0) c.bit_of.result c.word_of.result c.bit_of.ensures c.word_of.ensures

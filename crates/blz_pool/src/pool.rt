@@ -17,7 +17,8 @@ const MAX_RECORDS: usize = 262_144;
 /// of a record.
 #[derive(Drop)]
 pub struct Pool {
-    // Strangers may write the records, so the hasher is SipHash, whose collisions are hard to find.
+    // Files of strangers fill a pool, so it hashes by SipHash, and not by the quick hasher, for which
+    // keys that collide are easily written.
     records: IndexSet<Record, BuildHasherDefault<DefaultHasher>>,
 }
 

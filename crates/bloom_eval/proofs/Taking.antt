@@ -65,7 +65,7 @@ module _ (columns : Name → List Name) (env other : Env) where
       let more = same_parts q same in
       λ i. own i ∷ more i
 
-  same_rule_sets : (rules : List RuleForm) → ((rule : RuleForm) → Has rule rules → (n : Name) → Has n (names_of rule.1) → env n ≡ other n) → rule_sets columns env rules ≡ rule_sets columns other rules
+  pub same_rule_sets : (rules : List RuleForm) → ((rule : RuleForm) → Has rule rules → (n : Name) → Has n (names_of rule.1) → env n ≡ other n) → rule_sets columns env rules ≡ rule_sets columns other rules
   same_rule_sets [] same = refl
   same_rule_sets (rule ∷ rules) same =
       let own = same_parts rule.1 (same rule (inl refl)) in

@@ -1,8 +1,14 @@
 -- Records and their numbers in a pool.
-use Rattle.std.proofs.Common.{◌≡◌, ◌≢◌, ◌<◌, ◌+◌, ℕ, Bool, true, false, cond, Option, None, Some, List, [], ◌∷◌, ◌++◌, length, get_or, slice_get, refl, ap, ◌∙◌, sym, subst, arith, length-append}
-use Rattle.std.specs.BTreeMap.{BTreeMap, get}
-use Rattle.std.specs.Option.{is_some, IsSome}
-use Rattle.std.specs.Ordering.{is_eq, eq_by_cmp}
+use Rattle.std.proofs.Common.{◌≡◌, ◌≢◌, ◌<◌, ◌+◌, ℕ, Bool, true, false, Option, None, Some, List, [], ◌∷◌, ◌++◌, length, get_or, slice_get, refl, ap, ◌∙◌, subst, arith, length-append, inl, inr}
+use Rattle.std.specs.Option.{IsSome}
+use Rattle.std.specs.List.{position, position_from, list_any}
+use Rattle.std.specs.Ordering.{is_eq, eq_by_cmp, ordering_reverse}
+use Rattle.std.specs.declared.cmp.Ordering.{Ordering}
+use Rattle.std.specs.declared.cmp.Ordering.TheVariants.{Less, Equal, Greater}
+use Rattle.std.specs.Prelude.{if◌then◌else◌}
+use Rattle.std.proofs.lemmas.Bool.{cases_Bool}
+use Rattle.std.proofs.lemmas.Iterator.Adapters.{position_from-zero}
+use Rattle.indexmap.specs.IndexSet.{insert_key}
 use Rattle.std.specs.Cmp.{eq_by_cmp_equiv}
 use Rattle.std.proofs.lemmas.List.Quantifiers.{all_pairs_push}
 use Rattle.std.proofs.lemmas.Map.Views.{tells_apart}
@@ -13,7 +19,6 @@ use Rattle.blz_value.specs.Record.{Row, record_cmp}
 use Rattle.blz_value.specs.RecordOrder.{record_cmp_total, record_cmp_exact}
 use Rattle.blz_value.proofs.Membership.{Has-get_or}
 use Rattle.blz_pool.specs.Pool.{IsPool, record_limit, number_of}
-use Rattle.blz_pool.specs.Code.Numbers.{AreNumbersOf}
 use Rattle.blz_pool.proofs.Positions.{position_from-found, position_from-none, position_from-last}
 
 -- equal exactly where the order doesn't tell them apart
@@ -65,11 +70,27 @@ IsPool-more records row pool room none = record {
   few = simp length-append (omega (arith, room));
 }
 
--- and the map of numbers gets one more
-pub AreNumbersOf-more : (records : List Row) (row : Row) (numbers new : BTreeMap Row ℕ) → AreNumbersOf records numbers → number_of records row ≡ None → ((other : Row) → get record_cmp new other ≡ cond (is_eq (record_cmp row other)) (Some (length records)) (get record_cmp numbers other)) → AreNumbersOf (records ++ row ∷ []) new
-AreNumbersOf-more records row numbers new held none updates other =
-    updates other ∙ rw (held other) (by (eq_by_cmp record_cmp row other) refl ∙ sym (position_from-last (λ x. eq_by_cmp record_cmp x other) 0 records row))
+-- ---- the set that holds the records
+
+eq_sym : (a b : Row) → eq_by_cmp record_cmp a b ≡ eq_by_cmp record_cmp b a
+eq_sym a b = ap is_eq (record_cmp_total.antisymm a b) ∙ by (record_cmp b a)
   where
-    by : (b : Bool) → eq_by_cmp record_cmp row other ≡ b → cond b (Some (length records)) (number_of records other) ≡ cond (is_some (number_of records other)) (number_of records other) (cond b (Some (0 + length records)) None)
-    by true e = (let is : row ≡ other = tells_apart record_cmp_exact row other e in let lacks : number_of records other ≡ None = ap (number_of records) (sym is) ∙ none in rw lacks (ap Some (omega arith)))
-    by false e = elim (number_of records other) as (λ o. o ≡ cond (is_some o) o None) [ None ↦ refl | Some n ↦ refl ]
+    by : (o : Ordering) → is_eq (ordering_reverse o) ≡ is_eq o
+    by Less = refl
+    by Equal = refl
+    by Greater = refl
+
+-- the set's index of a record is its number
+pub number_of-index : (records : List Row) (row : Row) → position (eq_by_cmp record_cmp row) records ≡ number_of records row
+number_of-index records row = position_from-zero (eq_by_cmp record_cmp row) records ∙ ap (λ (test : Row → Bool). position_from test 0 records) (λ i held. eq_sym row held i)
+
+-- the set puts a new record last
+pub insert_key-new : (records : List Row) (row : Row) → number_of records row ≡ None → insert_key (eq_by_cmp record_cmp) records row ≡ records ++ row ∷ []
+insert_key-new records row none = ap (λ b. if b then records else records ++ row ∷ []) (lacks 0 records none)
+  where
+    lacks : (i : ℕ) (xs : List Row) → position_from (λ held. eq_by_cmp record_cmp held row) i xs ≡ None → list_any (eq_by_cmp record_cmp row) xs ≡ false
+    lacks i [] none = refl
+    lacks i (x ∷ xs) none = elim (cases_Bool (eq_by_cmp record_cmp x row)) [
+      | inl t ↦ (let bad : Some i ≡ None = rw t at none in cc)
+      | inr f ↦ rw (eq_sym row x, f) (lacks (i + 1) xs (rw f at none))
+    ]

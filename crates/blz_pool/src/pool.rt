@@ -1,36 +1,36 @@
 //! A pool of records, seen as the list of its records by number.
-ghost use Rattle.std.specs.Prelude.{ℕ, ◌≡◌, ◌<◌, ◌≤◌, ◌≢◌, ◌↔◌, [], ◌∷◌, ◌++◌, length, slice_get, AllPairs, Some, None, Err, IfOk, IsOk, IsTrue, OnOk, OnErr};
+ghost use Rattle.std.specs.Prelude.{ℕ, ◌≡◌, ◌<◌, ◌≤◌, ◌≢◌, ◌↔◌, [], ◌∷◌, ◌++◌, length, slice_get, AllPairs, Some, None, Err, IfOk, IfSome, IsFalse, IsOk, IsSome, IsTrue, OnOk, OnErr};
 ghost use Rattle.blz_value.specs.Members.{Has};
 ghost use Rattle.blz_pool.specs.Pool.{IsPool, record_limit, number_of, with_record};
 
 use crate::fault::PoolFault;
 use crate::id::Id;
 use blz_value::Record;
+use indexmap::IndexSet;
 use std::alloc::Global;
-use std::collections::BTreeMap;
+use std::hash::{BuildHasherDefault, DefaultHasher};
 use std::marker::Model;
 
 const MAX_RECORDS: usize = 262_144;
 
-/// At most 262,144 records, each once. A record is known by its number, and an ordered index finds
-/// the number of a record.
+/// At most 262,144 records, each once. A record is known by its number, and its hash finds the number
+/// of a record.
 #[derive(Drop)]
 pub struct Pool {
-    records: Vec<Record>,
-    numbers: BTreeMap<Record, u32>,
+    // Strangers may write the records, so the hasher is SipHash, whose collisions are hard to find.
+    records: IndexSet<Record, BuildHasherDefault<DefaultHasher>>,
 }
 
 impl Model for Pool {
     ghost use Rattle.std.specs.Prelude.{List};
     ghost use Rattle.blz_value.specs.Record.{Row};
     ghost use Rattle.blz_pool.specs.Pool.{IsPool};
-    ghost use Rattle.blz_pool.specs.Code.Numbers.{AreNumbersOf};
 
     ghost Value = { List Row };
 
-    ghost view = { λ pool. pool.records.items };
+    ghost view = { λ pool. pool.records.keys };
 
-    ghost invariant = { λ pool. IsPool pool.records.items × AreNumbersOf pool.records.items pool.numbers };
+    ghost invariant = { λ pool. IsPool pool.records.keys };
 }
 
 impl Pool {
@@ -39,8 +39,7 @@ impl Pool {
         ensures { result ≡ [] }
     {
         Pool {
-            records: Vec::new(alloc),
-            numbers: BTreeMap::new(alloc),
+            records: IndexSet::with_hasher(alloc, BuildHasherDefault::new()),
         }
     }
 
@@ -68,12 +67,12 @@ impl Pool {
         // No other id has this record.
         ensures one { (other : ℕ) → slice_get self.now other ≡ Some result.now → other ≡ id }
     {
-        &self.records[id.number() as usize]
+        &self.records.as_slice()[id.number() as usize]
     }
 
     /// The id of a record, of which a copy goes last where it is new. A record that is held takes no
-    /// memory. It is looked up in an ordered index, so the cost grows with the logarithm of the number
-    /// of records. Full comes exactly where 262,144 other records are held, and each fault leaves the
+    /// memory. It is looked up by its hash, in a time that on average doesn't grow with the number of
+    /// records. Full comes exactly where 262,144 other records are held, and each fault leaves the
     /// pool as it was.
     pub fn place_ref(&mut self, row: &Record) -> Result<Id, PoolFault>
         ensures record { IfOk result (λ id. slice_get self.new id ≡ Some row.now) }
@@ -89,8 +88,8 @@ impl Pool {
         ensures full { (result ≡ Err PoolFault.Full) ↔ ((length self.old ≡ record_limit) × ¬ Has row.now self.old) }
         ensures err { OnErr result (self.new ≡ self.old) }
     {
-        if let Some(number) = self.numbers.get(row) {
-            return Ok(Id::new(*number));
+        if let Some(id) = self.find(row) {
+            return Ok(id);
         }
         if self.is_full() {
             return Err(PoolFault::Full);
@@ -114,12 +113,29 @@ impl Pool {
         ensures full { (result ≡ Err PoolFault.Full) ↔ ((length self.old ≡ record_limit) × ¬ Has row self.old) }
         ensures err { OnErr result (self.new ≡ self.old) }
     {
-        self.place_ref(&row)
+        match self.find(&row) {
+            Some(id) => Ok(id),
+            None if self.is_full() => Err(PoolFault::Full),
+            None => self.add(row),
+        }
+    }
+
+    // The id of a record that is held.
+    fn find(&self, row: &Record) -> Option<Id>
+        ensures number { result ≡ number_of self.now row.now }
+        ensures record { IfSome result (λ id. slice_get self.now id ≡ Some row.now) }
+        ensures within { IfSome result (λ id. id < length self.now) }
+        ensures held { Has row.now self.now → IsSome result }
+        ensures new { ¬ Has row.now self.now → result ≡ None }
+    {
+        let number = self.records.get_index_of(row)?;
+        Some(Id::new(number as u32))
     }
 
     // Whether no other record can be held.
     fn is_full(&self) -> bool
-        ensures { IsTrue result ↔ (length self.now ≡ record_limit) }
+        ensures full { IsTrue result ↔ (length self.now ≡ record_limit) }
+        ensures room { IsFalse result → length self.now < record_limit }
     {
         self.records.len() == MAX_RECORDS
     }
@@ -135,16 +151,9 @@ impl Pool {
         ensures memory { result ≢ Err PoolFault.Full }
         ensures err { OnErr result (self.new ≡ self.old) }
     {
-        let key = row.copy()?;
         let number = self.records.len() as u32;
-        self.records.push(row)?;
-        match self.numbers.insert(key, number) {
-            Ok(_) => Ok(Id::new(number)),
-            Err(error) => {
-                let _ = self.records.pop();
-                Err(PoolFault::from(error))
-            }
-        }
+        self.records.insert(row)?;
+        Ok(Id::new(number))
     }
 
     /// Forgets all records, so that ids are given from 0 again. It takes no memory.
@@ -152,6 +161,5 @@ impl Pool {
         ensures { self.new ≡ [] }
     {
         self.records.clear();
-        self.numbers.clear();
     }
 }

@@ -1,2 +1,0 @@
--- What the private parts of a pool keep.
-pub mod Numbers

@@ -3,3 +3,4 @@ pub mod Unusable
 pub mod OneLevel
 pub mod Once
 pub mod FoundAt
+pub mod IntoPorts

@@ -1,5 +1,5 @@
 -- What is found of a view once, and what that asks of it.
-use Rattle.std.specs.Prelude.{ℕ, ◌≡◌, ◌≤◌, ◌<◌, Some, map, length}
+use Rattle.std.specs.Prelude.{ℕ, ◌≡◌, ◌≤◌, ◌<◌, Some, List, map, length}
 use Rattle.blz_value.specs.Members.{Has}
 use Rattle.fd_closure.specs.declared.attrs.Fd.{Fd}
 use Rattle.topo_types.specs.declared.graph_facts.GraphFacts.{GraphFacts}
@@ -7,7 +7,7 @@ use Rattle.topo_types.specs.Carried.{carries}
 use Rattle.topo_types.specs.Dependencies.{upholders, is_usable}
 use Rattle.topo_types.specs.Regions.{regions, region_of, is_cyclic}
 use Rattle.topo_types.specs.Sets.{below, set_where}
-use Rattle.topo_types.specs.View.{View, End, origin_of, ends_of, stream_numbers, component_numbers}
+use Rattle.topo_types.specs.View.{View, End, origin_of, ends_of, goes_to, stream_numbers, component_numbers, port_numbers}
 
 -- few parts, and streams go between components that are there
 pub record HasEnds (v : View) : Type 0 where
@@ -16,13 +16,22 @@ pub record HasEnds (v : View) : Type 0 where
   pub origins : (s : ℕ) (output : End) → s < length v.streams → origin_of v s ≡ Some output → output.0 < length v.components
   pub ends : (s : ℕ) (end : End) → s < length v.streams → Has end (ends_of v s) → end.0 < length v.components
 
+-- the streams into a port
+abbrev pub into_port : View → (component port : ℕ) → ℕ
+into_port v c p = set_where (goes_to v c p) (stream_numbers v)
+
+-- the streams into each port of a component
+abbrev pub into_ports : View → (component : ℕ) → List ℕ
+into_ports v c = map (into_port v c) (port_numbers v c)
+
 -- the components at which a dependency is usable
 abbrev pub usable_at : View → Fd → ℕ
 usable_at v fd = set_where (λ c. is_usable v c fd) (component_numbers v)
 
--- the regions, whether each is cyclic, and the number of that of each component; the streams that uphold each dependency, and the components at which it is usable; the key that each stream carries
+-- the streams into each port of each component; the regions, whether each is cyclic, and the number of that of each component; the streams that uphold each dependency, and the components at which it is usable; the key that each stream carries
 abbrev pub found_of : View → GraphFacts
 found_of v = record {
+  into = map (into_ports v) (component_numbers v);
   regions = regions v;
   cyclic = map (is_cyclic v) (below (length (regions v)));
   numbers = map (region_of v) (component_numbers v);

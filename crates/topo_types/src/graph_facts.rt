@@ -1,10 +1,13 @@
-//! What is found of a view once: regions, dependencies and carried seals.
+//! What is found of a view once: the streams into its ports, regions, dependencies and carried
+//! seals.
 use blz_value::Items;
 use fd_closure::Attrs;
 
 /// What is found of a view.
 #[derive(Drop)]
 pub struct GraphFacts {
+    /// The streams into each port of each component.
+    pub into: Items<Items<u64>>,
     /// The members of each region.
     pub regions: Items<u64>,
     /// Whether each region is cyclic.

@@ -23,4 +23,4 @@ pub use topology::{
     Body, ColumnType, ComponentEntry, Declared, FdEntry, ModeName, NoteName, Side, SourceEntry,
     Spot, Stock, StreamEntry, Topology,
 };
-pub use valid::{Valid, carries, upholds, usable};
+pub use valid::{Valid, carries, goes_to, upholds, usable};

@@ -1,13 +1,17 @@
 -- Events that can be written: one more of them has names, and one line more is numbered on and can be printed.
-use Rattle.std.proofs.Common.{◌≡◌, ◌∙◌, ◌+◌, ◌<◌, ◌≤◌, ◌++◌, ℕ, zero, suc, true, List, [], ◌∷◌, get_or, length, map, take, refl, sym, subst, ap, arith, add-zero}
-use Rattle.std.specs.Prelude.{Result, Ok, Err, IfOk}
+use Rattle.std.proofs.Common.{◌≡◌, ◌∙◌, ◌+◌, ◌<◌, ◌≤◌, ◌++◌, ℕ, zero, suc, true, List, [], ◌∷◌, get_or, length, map, take, refl, sym, subst, ap, append-nil, arith, add-zero}
+use Rattle.std.specs.Prelude.{codes}
 use Rattle.std.specs.List.{All, enumerate_from, range_with_len}
 use Rattle.std.proofs.lemmas.Bool.{and_from}
 use Rattle.std.proofs.lemmas.List.{get_or-map, length-append, length-map, length-take-le, map-append, take_all, take_more}
 use Rattle.std.proofs.lemmas.List.Elements.{All-nil, All-push}
+use Rattle.std.proofs.lemmas.Grind.{flat_map-append}
 use Rattle.std.proofs.lemmas.List.Folds.{list_all-append}
 use Rattle.sched_text.specs.Reading.{ReadsAs, event_reading, line_limit}
-use Rattle.sched_text.specs.Text.{is_printable, numbered_again, schedule_text}
+use Rattle.sched_text.specs.Small.{IsSmall}
+use Rattle.sched_text.specs.Text.{event_text, is_printable, numbered_again, schedule_text}
+use Rattle.sched_text.proofs.PrintedEvents.{recursion_from_All}
+use Rattle.sched_text.proofs.PrintedLines.{read_again}
 use Rattle.sched_text.specs.declared.event.Event.{Event as NamedEvent}
 use Rattle.topo_types.specs.View.{View}
 use Rattle.inbox.specs.Events.{Event}
@@ -18,7 +22,7 @@ use Rattle.sched_run.specs.Made.{event_limit}
 use Rattle.sched_run.specs.Making.{CountFromOne, IsTextOf, events_of}
 use Rattle.sched_run.specs.Naming.{CanBeWritten, HasEventNames}
 use Rattle.sched_run.specs.Code.Works.{HasNames, work_event}
-use Rattle.sched_run.specs.Code.Written.{AreLines, AreLinesOf}
+use Rattle.sched_run.specs.Code.Written.{AreLines, AreLinesOf, IsTextSoFar}
 use Rattle.sched_run.specs.declared.lanes.Lane.TheVariants.{Deliver, Order}
 use Rattle.sched_run.specs.declared.works.Work.{Work}
 use Rattle.sched_run.specs.declared.works.Work.TheVariants.{Message, Take}
@@ -143,8 +147,34 @@ numbered_from n (line ∷ lines) is =
 pub numbered_alike : (lines : List Line) → CountFromOne lines → numbered_again lines ≡ lines
 numbered_alike lines is = numbered_from 1 lines is
 
--- what is printed of lines is the text of their events
-pub text_printed : {X E : Type 0} (v : View) (events : List Event) (lines : List Line) (items : X → List ℕ) (result : Result X E) → events_of v lines ≡ events → CountFromOne lines
-    → IfOk result (λ x. items x ≡ schedule_text lines) → IfOk result (λ x. ReadsAs event_reading (items x) (numbered_again lines)) → IfOk result (λ x. IsTextOf v events (items x))
-text_printed v events lines items (Ok x) are numbers text reads = record { lines = lines; is = text; reads = subst (ReadsAs event_reading (items x)) (numbered_alike lines numbers) reads; are = are }
-text_printed v events lines items (Err e) are numbers text reads = tt
+-- no line yet
+pub text_first : (v : View) (events : List NumberedEvent) (text : List ℕ) → text ≡ [] → IsTextSoFar v events 0 text
+text_first v events text none = record { lines = []; are = lines_first v events [] refl; is = none; small = All-nil (λ (line : Line). IsSmall line.1) }
+
+module _ (v : View) (events : List NumberedEvent) (count : ℕ) (text : List ℕ) (so : IsTextSoFar v events count text) where
+  -- one more
+  pub text_more : (later : List ℕ) (event : NumberedEvent) (named : NamedEvent) → length events ≤ event_limit → count < length events → event ≡ get_or events count event
+      → numbered v named ≡ event_by_numbers event → is_printable named ≡ true → IsSmall named → later ≡ text ++ (event_text named ++ codes "\n") → IsTextSoFar v events (count + 1) later
+  text_more later event named few within at is printable small more =
+      let line : Line = (count + 1, named) in
+      let own : Line → List ℕ = λ l. event_text l.1 ++ codes "\n" in
+      record {
+        lines = so.lines ++ line ∷ [];
+        are = lines_more v events count so.lines so.are (so.lines ++ line ∷ []) (count + 1) event named few within at refl is printable refl;
+        is = more
+            ∙ ap (λ (t : List ℕ). t ++ own line) so.is
+            ∙ ap (λ (t : List ℕ). schedule_text so.lines ++ t) (sym (append-nil (own line)))
+            ∙ sym (flat_map-append own so.lines (line ∷ []));
+        small = All-push (λ (l : Line). IsSmall l.1) so.lines line so.small small;
+      }
+
+  -- and all
+  pub text_whole : length events ≤ count → IsTextOf v (map event_by_numbers events) text
+  text_whole past = record {
+    lines = so.lines;
+    is = so.is;
+    reads = subst (λ (t : List ℕ). ReadsAs event_reading t so.lines) (sym so.is)
+        (subst (ReadsAs event_reading (schedule_text so.lines)) (numbered_alike so.lines so.are.lined.numbers)
+        (read_again so.lines so.are.lined.printable (recursion_from_All (λ (l : Line). IsSmall l.1) so.lines so.small)));
+    are = lines_whole v events count so.lines so.are past;
+  }

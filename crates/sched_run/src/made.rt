@@ -10,7 +10,7 @@ ghost use Rattle.sched_run.specs.Code.Written.{AreLines};
 
 use crate::naming::named;
 use sched_hear::NumberedEvent;
-use sched_text::{Event, Schedule, print};
+use sched_text::{Event, Schedule, push_line};
 use std::alloc::{AllocError, Global};
 use std::marker::Model;
 use topo_types::Valid;
@@ -50,6 +50,24 @@ fn lines_of(
     Ok(lines)
 }
 
+// The text of events, one a line; each has its names only until its line is written.
+fn text_of(
+    alloc: Global,
+    valid: &Valid,
+    events: &[NumberedEvent],
+) -> Result<Vec<u8>, AllocError>
+    requires few { length events.now ≤ event_limit }
+    requires named { All (λ event. HasEventNames valid.now.view (event_by_numbers event)) events.now }
+    ensures { IfOk result (λ text. IsTextOf valid.now.view (map event_by_numbers events.now) text.items) }
+{
+    let mut text = Vec::new(alloc);
+    for event in events {
+        let line = named(valid, event)?;
+        push_line(&line, &mut text)?;
+    }
+    Ok(text)
+}
+
 impl Made {
     /// No event.
     pub(crate) fn new(alloc: Global) -> Made
@@ -87,12 +105,12 @@ impl Made {
         Ok(Schedule::from_lines(lines))
     }
 
-    /// The text of their schedule, one event a line. The error is want of memory.
+    /// The text of their schedule, one event a line. No more than one event has its names at a time. The
+    /// error is want of memory.
     pub fn text(&self, alloc: Global, valid: &Valid) -> Result<Vec<u8>, AllocError>
         requires { CanBeWritten valid.now.view self.now }
         ensures { IfOk result (λ text. IsTextOf valid.now.view self.now text.items) }
     {
-        let schedule = self.schedule(alloc, valid)?;
-        print(alloc, &schedule)
+        text_of(alloc, valid, self.events.as_slice())
     }
 }

@@ -21,7 +21,7 @@ use Rattle.sched_text.specs.Lines.{has_bytes}
 use Rattle.sched_text.specs.Fields.{Field, name_of, number_of, is_number, spot_of, is_dot, only_if, ◌>>=◌}
 use Rattle.sched_text.specs.Kinds.{Front, part_limit, part_at, parts_of, groups_of, event_of, deliver_of, order_of, take_of, batch_of}
 use Rattle.sched_text.specs.Text.{part_text, event_text, is_printable, has_names_part, has_names_sent}
-use Rattle.sched_text.specs.Code.Printed.{IsSmall, IsSmallPart, IsSmallSent}
+use Rattle.sched_text.specs.Small.{IsSmall, IsSmallPart, IsSmallSent}
 use Rattle.sched_text.proofs.BytesLemmas.{digits_model, number_is, name_bytes}
 use Rattle.sched_text.proofs.PlainFields.{IsPlainField, ArePlain, is_plain, spaced}
 

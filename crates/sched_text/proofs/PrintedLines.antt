@@ -17,7 +17,7 @@ use Rattle.sched_text.specs.Fields.{fields_of}
 use Rattle.sched_text.specs.Kinds.{event_of}
 use Rattle.sched_text.specs.Reading.{LineReading, stands_for, is_bad, is_comment, reading_of_fields, event_reading, line_limit, entries_from, with_entry, ReadsAs}
 use Rattle.sched_text.specs.Text.{event_text, schedule_text, is_printable, IsPrintable, numbered_again}
-use Rattle.sched_text.specs.Code.Printed.{IsSmall}
+use Rattle.sched_text.specs.Small.{IsSmall}
 use Rattle.sched_text.proofs.LinesLemmas.{two_parts}
 use Rattle.sched_text.proofs.PlainFields.{fields_of-spaced, fields_inner, no_feeds, no_return, is_inner}
 use Rattle.sched_text.proofs.PrintedEvents.{recursion_from_All, first_field, other_fields, event_spaced, first_plain, others_plain, event_read}

@@ -1,3 +1,2 @@
 -- What private functions give.
 pub mod Given
-pub mod Printed

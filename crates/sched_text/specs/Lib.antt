@@ -3,4 +3,5 @@ pub mod Fields
 pub mod Kinds
 pub mod Reading
 pub mod Text
+pub mod Small
 pub mod Code

@@ -1,6 +1,5 @@
 //! The fields of a line, taken from the front one after another.
 ghost use Rattle.std.specs.Prelude.{◌≡◌, ◌∷◌, ◌↔◌, ◌≤◌, ◌<◌, [], Some, Option, length, take, drop, not, option_map, IsTrue, MatchOption, IfSome};
-ghost use Rattle.std.specs.Char.{is_ascii_digit};
 ghost use Rattle.std.specs.List.{list_all, prefix_len, position_or_len, before_first, after_first};
 ghost use Rattle.std.specs.Str.{bytes_eq};
 ghost use Rattle.sched_text.specs.Fields as spec;
@@ -51,29 +50,21 @@ fn name_of(field: &[u8]) -> Option<&str>
     }
 }
 
-fn has_digits(field: &[u8]) -> bool
-    ensures { result ≡ list_all is_ascii_digit field.now }
-{
-    field.iter().all(|byte| byte.is_ascii_digit())
-}
-
-fn is_number(field: &[u8]) -> bool
-    ensures { result ≡ spec.is_number field.now }
-{
-    1 <= field.len() && field.len() <= 10 && has_digits(field)
-}
-
-// The number that a field is.
+// The number that a field is. Ten digits fit into 64 bits.
 fn number_of(field: &[u8]) -> Option<u32>
     ensures { result ≡ spec.number_of field.now }
 {
-    if !is_number(field) {
+    if field.is_empty() || field.len() > 10 {
         return None;
     }
-    match std::str::from_utf8(field) {
-        Ok(text) => text.parse::<u32>().ok(),
-        Err(_) => None,
+    let mut number = 0u64;
+    for byte in field {
+        if !byte.is_ascii_digit() {
+            return None;
+        }
+        number = number * 10 + u64::from(*byte - b'0');
     }
+    u32::try_from(number).ok()
 }
 
 /// Whether a field is this word.

@@ -13,6 +13,6 @@ pub use event::{Event, Part, Sent};
 pub use fault::{LineFault, ScheduleFault};
 pub use fields::Fields;
 pub use lines::{FromLine, read_lines};
-pub use printing::print;
+pub use printing::{print, push_line};
 pub use reading::{event_of, read, read_line};
 pub use schedule::Schedule;

@@ -4,18 +4,20 @@ ghost use Rattle.std.specs.Fmt.{decimal};
 ghost use Rattle.std.specs.List.{flat_map};
 ghost use Rattle.sched_text.specs.Reading.{event_reading, ReadsAs};
 ghost use Rattle.sched_text.specs.Text.{sent_text, part_text, event_text, schedule_text, IsPrintable, numbered_again};
-ghost use Rattle.sched_text.specs.Code.Printed.{IsSmallSent, IsSmallPart, IsSmall};
+ghost use Rattle.sched_text.specs.Small.{IsSmallSent, IsSmallPart, IsSmall};
 
 use crate::event::{Event, Part, Sent};
 use crate::schedule::Schedule;
 use blz_value::Str;
+use itoa::Buffer;
 use std::alloc::{AllocError, Global};
 
-fn push_number(alloc: Global, number: u32, into: &mut Vec<u8>) -> Result<(), AllocError>
+fn push_number(number: u32, into: &mut Vec<u8>) -> Result<(), AllocError>
     ensures text { OnOk result (into.new.items ≡ into.old.items ++ decimal number) }
     ensures small { number < 2 ^ 32 }
 {
-    into.extend_from_slice(number.to_string(alloc)?.as_bytes())
+    let mut buffer = Buffer::new();
+    into.extend_from_slice(buffer.format(number).as_bytes())
 }
 
 fn push_name(name: &Str, into: &mut Vec<u8>) -> Result<(), AllocError>
@@ -32,38 +34,38 @@ fn push_spot(component: &Str, port: &Str, into: &mut Vec<u8>) -> Result<(), Allo
     push_name(port, into)
 }
 
-fn push_sent(alloc: Global, sent: &Sent, into: &mut Vec<u8>) -> Result<(), AllocError>
+fn push_sent(sent: &Sent, into: &mut Vec<u8>) -> Result<(), AllocError>
     ensures text { OnOk result (into.new.items ≡ into.old.items ++ sent_text sent.now) }
     ensures small { OnOk result (IsSmallSent sent.now) }
 {
     push_name(&sent.stream, into)?;
     into.extend_from_slice(b" ")?;
-    push_number(alloc, sent.replica, into)?;
+    push_number(sent.replica, into)?;
     into.extend_from_slice(b" ")?;
-    push_number(alloc, sent.index, into)
+    push_number(sent.index, into)
 }
 
-fn push_part(alloc: Global, part: &Part, into: &mut Vec<u8>) -> Result<(), AllocError>
+fn push_part(part: &Part, into: &mut Vec<u8>) -> Result<(), AllocError>
     ensures text { OnOk result (into.new.items ≡ into.old.items ++ part_text part.now) }
     ensures small { OnOk result (IsSmallPart part.now) }
 {
     into.extend_from_slice(b" ")?;
-    push_sent(alloc, &part.sent, into)?;
+    push_sent(&part.sent, into)?;
     into.extend_from_slice(b" ")?;
     push_name(&part.port, into)
 }
 
-fn push_parts(alloc: Global, parts: &[Part], into: &mut Vec<u8>) -> Result<(), AllocError>
+fn push_parts(parts: &[Part], into: &mut Vec<u8>) -> Result<(), AllocError>
     ensures text { OnOk result (into.new.items ≡ into.old.items ++ flat_map part_text parts.now) }
     ensures small { OnOk result (All IsSmallPart parts.now) }
 {
     for part in parts {
-        push_part(alloc, part, into)?;
+        push_part(part, into)?;
     }
     Ok(())
 }
 
-fn push_event(alloc: Global, event: &Event, into: &mut Vec<u8>) -> Result<(), AllocError>
+fn push_event(event: &Event, into: &mut Vec<u8>) -> Result<(), AllocError>
     ensures text { OnOk result (into.new.items ≡ into.old.items ++ event_text event.now) }
     ensures small { OnOk result (IsSmall event.now) }
 {
@@ -75,11 +77,11 @@ fn push_event(alloc: Global, event: &Event, into: &mut Vec<u8>) -> Result<(), Al
             replica,
         } => {
             into.extend_from_slice(b"deliver ")?;
-            push_sent(alloc, sent, into)?;
+            push_sent(sent, into)?;
             into.extend_from_slice(b" to ")?;
             push_spot(component, port, into)?;
             into.extend_from_slice(b" ")?;
-            push_number(alloc, *replica, into)
+            push_number(*replica, into)
         }
         Event::Order {
             sent,
@@ -87,7 +89,7 @@ fn push_event(alloc: Global, event: &Event, into: &mut Vec<u8>) -> Result<(), Al
             port,
         } => {
             into.extend_from_slice(b"order ")?;
-            push_sent(alloc, sent, into)?;
+            push_sent(sent, into)?;
             into.extend_from_slice(b" to ")?;
             push_spot(component, port, into)
         }
@@ -95,7 +97,7 @@ fn push_event(alloc: Global, event: &Event, into: &mut Vec<u8>) -> Result<(), Al
             into.extend_from_slice(b"take ")?;
             push_name(component, into)?;
             into.extend_from_slice(b" ")?;
-            push_number(alloc, *replica, into)
+            push_number(*replica, into)
         }
         Event::Batch {
             component,
@@ -105,17 +107,18 @@ fn push_event(alloc: Global, event: &Event, into: &mut Vec<u8>) -> Result<(), Al
             into.extend_from_slice(b"batch ")?;
             push_name(component, into)?;
             into.extend_from_slice(b" ")?;
-            push_number(alloc, *replica, into)?;
-            push_parts(alloc, parts.as_slice(), into)
+            push_number(*replica, into)?;
+            push_parts(parts.as_slice(), into)
         }
     }
 }
 
-fn push_line(alloc: Global, event: &Event, into: &mut Vec<u8>) -> Result<(), AllocError>
+/// Adds the line of an event to a text, as `print` writes it. The error is want of memory.
+pub fn push_line(event: &Event, into: &mut Vec<u8>) -> Result<(), AllocError>
     ensures text { OnOk result (into.new.items ≡ into.old.items ++ (event_text event.now ++ codes "\n")) }
     ensures small { OnOk result (IsSmall event.now) }
 {
-    push_event(alloc, event, into)?;
+    push_event(event, into)?;
     into.extend_from_slice(b"\n")
 }
 
@@ -128,7 +131,7 @@ pub fn print(alloc: Global, schedule: &Schedule) -> Result<Vec<u8>, AllocError>
 {
     let mut text = Vec::new(alloc);
     for (_, event) in schedule.lines() {
-        push_line(alloc, event, &mut text)?;
+        push_line(event, &mut text)?;
     }
     Ok(text)
 }

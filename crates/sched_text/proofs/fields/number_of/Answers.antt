@@ -1,13 +1,20 @@
-use Rattle.std.proofs.Common.{◌≡◌, true, rules, ◌∙◌, ap}
-use Rattle.sched_text.specs.Fields.{is_number, number_of}
-use Rattle.sched_text.proofs.BytesLemmas.{number_parsed, utf8_of_number}
+use Rattle.std.proofs.Common.{◌≡◌, true, get_or, arith, rules}
+use Rattle.std.specs.Char.{is_ascii_digit}
+use Rattle.sched_text.proofs.BytesLemmas.{digits_fit, one_more_digit, one_more_value}
 use Rattle.sched_text.proofs.fields.number_of.Goals as goal
 
-pub returns-in-Err : goal.returns-in-Err
-returns-in-Err c = absurd (let digits : is_number c.args.field.now ≡ true = search rules in c.in-Err.ensures.cases.0 (utf8_of_number c.args.field.now digits))
+pub overflow_mul-number : goal.overflow_mul-number
+overflow_mul-number c =
+    let small = digits_fit c.args.field.now c.loop-byte.byte-index c.loop-byte-test.true c.loop-byte.invariant.1 (omega arith) in
+    omega arith
 
-pub returns-in-Ok : goal.returns-in-Ok
-returns-in-Ok c =
-    let digits : is_number c.args.field.now ≡ true = search rules in
-    let same : c.in-Ok.text.now ≡ c.args.field.now = c.in-Ok.ensures.cases.0 in
-    c.ok.ensures.value ∙ number_parsed c.in-Ok.text.now c.parse.result c.parse.ensures.value.0 (rw same digits) ∙ ap number_of same
+pub overflow_add-number : goal.overflow_add-number
+overflow_add-number c =
+    let small = digits_fit c.args.field.now c.loop-byte.byte-index c.loop-byte-test.true c.loop-byte.invariant.1 (omega arith) in
+    omega arith
+
+pub loop-byte-preserved : goal.loop-byte-preserved
+loop-byte-preserved c =
+    let digit : is_ascii_digit (get_or c.args.field.now c.loop-byte.byte-index 0) ≡ true = search rules in
+    let more = one_more_value c.args.field.now c.loop-byte.byte-index c.loop-byte-test.true c.loop-byte.invariant.1 digit in
+    (omega arith, one_more_digit c.args.field.now c.loop-byte.byte-index c.loop-byte-test.true c.loop-byte.invariant.1 digit)

@@ -1,6 +1,6 @@
 use Rattle.std.proofs.Common.{[], ◌++◌, codes}
 use Rattle.sched_text.specs.Text.{event_text}
-use Rattle.sched_text.specs.Code.Printed.{IsSmall}
+use Rattle.sched_text.specs.Small.{IsSmall}
 use Rattle.sched_text.proofs.PrintedLines.{one_more_so, one_more_text, all_printed}
 use Rattle.sched_text.proofs.printing.print.Goals as goal
 

@@ -2,7 +2,7 @@
 use Rattle.std.proofs.Common.{◌≡◌, take}
 use Rattle.std.specs.List.{All}
 use Rattle.sched_text.specs.Text.{schedule_text}
-use Rattle.sched_text.specs.Code.Printed.{IsSmall}
+use Rattle.sched_text.specs.Small.{IsSmall}
 use Rattle.sched_text.proofs.printing.print.Given as goal
 
 abbrev pub invariant-loop-event : goal.invariant-loop-event

@@ -1,5 +1,5 @@
 use Rattle.sched_text.specs.Text.{part_text}
-use Rattle.sched_text.specs.Code.Printed.{IsSmallPart}
+use Rattle.sched_text.specs.Small.{IsSmallPart}
 use Rattle.sched_text.proofs.PrintedLines.{one_more_so, one_more_text}
 use Rattle.sched_text.proofs.printing.push_parts.Goals as goal
 

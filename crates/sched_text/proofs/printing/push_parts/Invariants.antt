@@ -2,7 +2,7 @@
 use Rattle.std.proofs.Common.{◌≡◌, ◌++◌, take}
 use Rattle.std.specs.List.{All, flat_map}
 use Rattle.sched_text.specs.Text.{part_text}
-use Rattle.sched_text.specs.Code.Printed.{IsSmallPart}
+use Rattle.sched_text.specs.Small.{IsSmallPart}
 use Rattle.sched_text.proofs.printing.push_parts.Given as goal
 
 abbrev pub invariant-loop-part : goal.invariant-loop-part

@@ -1,5 +1,5 @@
 -- A list of distinct names is made by adding each.
-use Rattle.std.proofs.Common.{◌≡◌, ◌≢◌, ◌<◌, ◌++◌, ℕ, true, false, if◌then◌else◌, is_some, IsNone, Option, None, Some, List, [], ◌∷◌, length, refl, arith, ap, sym, subst, ◌∙◌, append_assoc, append-nil}
+use Rattle.std.proofs.Common.{◌≡◌, ◌≢◌, ◌++◌, ℕ, true, false, if◌then◌else◌, is_some, IsNone, Option, None, Some, List, [], ◌∷◌, length, refl, arith, ap, sym, subst, ◌∙◌, append_assoc, append-nil}
 use Rattle.std.specs.List.{AllPairs}
 use Rattle.std.proofs.lemmas.List.{get_or_default, length-append}
 use Rattle.std.proofs.Math.ListN.{get_or-append}

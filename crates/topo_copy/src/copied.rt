@@ -12,7 +12,7 @@ pub trait Copied: Drop + Sized {
 }
 
 /// Equal items of their own, in a list that can be changed.
-pub fn copies_of<T: Copied>(alloc: Global, items: &[T]) -> Result<Vec<T>, AllocError>
+pub(crate) fn copies_of<T: Copied>(alloc: Global, items: &[T]) -> Result<Vec<T>, AllocError>
     ensures { IfOk result (λ copies. copies.items ≡ items.now) }
 {
     let mut copies = Vec::new(alloc);
@@ -30,7 +30,7 @@ pub fn copy_all<T: Copied>(alloc: Global, items: &[T]) -> Result<Items<T>, Alloc
 }
 
 /// Equal values of their own.
-pub fn copy_values<T: Copy>(alloc: Global, values: &[T]) -> Result<Items<T>, AllocError>
+pub(crate) fn copy_values<T: Copy>(alloc: Global, values: &[T]) -> Result<Items<T>, AllocError>
     ensures { IfOk result (λ copies. copies ≡ values.now) }
 {
     Ok(Items::from_vec(Vec::from_slice(alloc, values)?))

@@ -5,5 +5,5 @@ mod copied;
 mod topologies;
 mod views;
 
-pub use copied::{Copied, copies_of, copy_all, copy_values};
-pub use views::{copy_names, copy_program, kept_copy, valid_copy};
+pub use copied::{Copied, copy_all};
+pub use views::{copy_program, valid_copy};

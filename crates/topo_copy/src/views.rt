@@ -30,8 +30,8 @@ fn names_of(alloc: Global, list: &[Str]) -> Result<AttrNames, AllocError>
     Ok(names)
 }
 
-/// The names in a list of their own.
-pub fn copy_names(alloc: Global, names: &AttrNames) -> Result<AttrNames, AllocError>
+// The names in a list of their own.
+fn copy_names(alloc: Global, names: &AttrNames) -> Result<AttrNames, AllocError>
     ensures { IfOk result (λ copy. copy ≡ names.now) }
 {
     names_of(alloc, names.names())
@@ -111,9 +111,16 @@ impl Copied for KeptComponent {
     }
 }
 
+impl Copied for Items<u64> {
+    fn copied(&self, alloc: Global) -> Result<Items<u64>, AllocError> {
+        copy_values(alloc, self.as_slice())
+    }
+}
+
 impl Copied for GraphFacts {
     fn copied(&self, alloc: Global) -> Result<GraphFacts, AllocError> {
         Ok(GraphFacts {
+            into: copy_all(alloc, self.into.as_slice())?,
             regions: copy_values(alloc, self.regions.as_slice())?,
             cyclic: copy_values(alloc, self.cyclic.as_slice())?,
             numbers: copy_values(alloc, self.numbers.as_slice())?,
@@ -124,8 +131,8 @@ impl Copied for GraphFacts {
     }
 }
 
-/// Equal parts of their own.
-pub fn kept_copy(alloc: Global, kept: &Kept) -> Result<Kept, AllocError>
+// Equal parts of their own.
+fn kept_copy(alloc: Global, kept: &Kept) -> Result<Kept, AllocError>
     ensures { IfOk result (λ copy. view_kept copy ≡ view_kept kept.now) }
 {
     Ok(Kept {

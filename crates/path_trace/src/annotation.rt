@@ -110,8 +110,8 @@ fn port_notes(
         .collect(alloc)
 }
 
-// The notes of a module's paths from some ports.
-fn ports_notes(
+/// The notes of a module's paths from some ports.
+pub(crate) fn ports_notes(
     alloc: Global,
     rules: &Readings,
     ports: &[u32],
@@ -135,8 +135,8 @@ fn module_notes(alloc: Global, checked: &Checked, names: &AttrNames) -> Result<N
     ports_notes(alloc, &readings, &ports, &outputs)
 }
 
-// The one note of each port to the one output.
-fn stock_notes(alloc: Global, ports: &[Note]) -> Result<Notes, AllocError>
+/// The one note of each port to the one output.
+pub(crate) fn stock_notes(alloc: Global, ports: &[Note]) -> Result<Notes, AllocError>
     ensures { IfOk result (λ notes. notes ≡ map (λ note. Some note ∷ []) ports.now) }
 {
     let mut notes = Vec::new(alloc);

@@ -3,6 +3,7 @@
 
 mod annotation;
 mod collection_roots;
+mod facts;
 mod kinds;
 mod readings;
 mod stock;
@@ -10,3 +11,4 @@ mod tracing;
 mod uses;
 
 pub use annotation::{annotate, gate_of, roots};
+pub use facts::{ProgramFacts, program_facts};

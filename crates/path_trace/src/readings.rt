@@ -1,5 +1,6 @@
 //! What each rule of a module reads, and its gate.
 ghost use Rattle.std.specs.Prelude.{◌≡◌, map, IfOk};
+ghost use Rattle.path_annotate.specs.HeadRoots as heads;
 ghost use Rattle.path_trace.specs.Code.ByNumber.{named_by, is_plain_by, facts_by};
 ghost use Rattle.path_trace.specs.Code.Readings as spec;
 
@@ -73,6 +74,22 @@ fn all_facts(
     Ok(facts)
 }
 
+/// What the rules of a module read, and their gates, where its collections have these roots.
+pub(crate) fn readings_with(
+    alloc: Global,
+    names: &AttrNames,
+    checked: &Checked,
+    table: &[Items<Option<u8>>],
+) -> Result<Readings, AllocError>
+    requires { table.now ≡ heads.roots_table names.now checked.now }
+    ensures { IfOk result (λ readings. readings ≡ spec.readings_of names.now checked.now) }
+{
+    let all = all_attributes(names);
+    let facts = all_facts(alloc, all, table, checked.rules())?;
+    let collections = checked.module().collections.as_slice();
+    readings_from(alloc, collections, all, &facts)
+}
+
 /// What the rules of a module read, and their gates.
 pub(crate) fn readings_of(
     alloc: Global,
@@ -81,9 +98,6 @@ pub(crate) fn readings_of(
 ) -> Result<Readings, AllocError>
     ensures { IfOk result (λ readings. readings ≡ spec.readings_of names.now checked.now) }
 {
-    let all = all_attributes(names);
     let table = roots_table(alloc, names, checked)?;
-    let facts = all_facts(alloc, all, &table, checked.rules())?;
-    let collections = checked.module().collections.as_slice();
-    readings_from(alloc, collections, all, &facts)
+    readings_with(alloc, names, checked, &table)
 }

@@ -6,7 +6,7 @@ use Rattle.path_facts.specs.declared.readings.Readings.{Readings}
 use Rattle.path_trace.specs.Code.ByNumber.{facts_by}
 use Rattle.path_facts.specs.Readings.{readings_from}
 use Rattle.path_trace.proofs.ReadingsCorrect.{facts-same, readings-same}
-use Rattle.path_trace.proofs.readings.readings_of.Goals as goal
+use Rattle.path_trace.proofs.readings.readings_with.Goals as goal
 
 pub returns : goal.returns
 returns c =
@@ -16,6 +16,6 @@ returns c =
     let few = small.few a.form a.heads c.module.ensures.checked in
     let cs = c.as_slice-collections.ensures ∙ ap (λ (form : Form). form.collections) c.module.ensures.form in
     let all = c.all_attributes-all.ensures in
-    let table = c.deref.ensures.value ∙ c.in_ok-table.ensures in
-    let seen = c.deref-2.ensures.value ∙ c.in_ok-facts.ensures ∙ (λ i. map (facts_by (all i) (table i)) rules) ∙ facts-same names a rules c.rules.ensures.numbered in
+    let table = c.requires in
+    let seen = c.deref.ensures.value ∙ c.in_ok-facts.ensures ∙ (λ i. map (facts_by (all i) (table i)) rules) ∙ facts-same names a rules c.rules.ensures.numbered in
     subst (λ (wanted : Readings). IfOk c.readings_from.result (λ readings. readings ≡ wanted)) ((λ i. readings_from (cs i) (all i) (seen i)) ∙ readings-same names a few) c.readings_from.ensures

@@ -8,6 +8,7 @@ use Rattle.topo_types.specs.Carried.{carries}
 use Rattle.topo_types.specs.Found.{HasEnds, usable_at}
 use Rattle.topo_graph.specs.Code.Lines.{all_into, lines_by, upholders_by, good_set, usable_by}
 use Rattle.topo_graph.specs.Code.Paths.{paths_by, carried_by}
+use Rattle.topo_graph.specs.Code.Ports.{all_rows}
 use Rattle.topo_types.specs.Dependencies.{upholders}
 use Rattle.topo_types.specs.Regions.{is_in_cycle}
 use Rattle.topo_types.specs.View.{View, component_numbers, stream_numbers}
@@ -32,7 +33,7 @@ module _ (v : View) (given : HasEnds v) where
       ∙ ap (λ (n : List ℕ). map (λ fd. usable_by n (good_set (lines v given) fd (upholders_by (lines v given) fd))) v.fds) two
       ∙ map_same (λ fd. usable_by (all_into v) (good_set (lines v given) fd (upholders_by (lines v given) fd))) (usable_at v) (usable-same v given) v.fds
 
-  pub carried_found : (found : List ℕ) (ps : List Path) (keys : List (Option Attrs)) → found ≡ map (usable_at v) v.fds → ps ≡ paths_by v found → keys ≡ map (carried_by ps) (enumerate_from 0 ps)
+  pub carried_found : (rows : List (List ℕ)) (found : List ℕ) (ps : List Path) (keys : List (Option Attrs)) → rows ≡ all_rows v → found ≡ map (usable_at v) v.fds → ps ≡ paths_by v rows found → keys ≡ map (carried_by ps) (enumerate_from 0 ps)
       → keys ≡ map (carries v) (stream_numbers v)
-  carried_found found ps keys one made are =
-      are ∙ ap (λ (p : List Path). map (carried_by p) (enumerate_from 0 p)) (made ∙ ap (paths_by v) one) ∙ carried-same v given
+  carried_found rows found ps keys one two made are =
+      are ∙ ap (λ (p : List Path). map (carried_by p) (enumerate_from 0 p)) (made ∙ (λ i. paths_by v (one i) (two i))) ∙ carried-same v given

@@ -11,11 +11,13 @@ use Rattle.bloom_ast.specs.Reads.{arrow_from, with_all, bit_if}
 use Rattle.topo_graph.specs.declared.paths.Path.{Path}
 use Rattle.topo_types.specs.Carried.{is_key, allows_notes, may_carry, streams_behind, streams_towards, carriers, carries_key, key_before, carries}
 use Rattle.topo_types.specs.Found.{HasEnds, usable_at}
-use Rattle.topo_graph.specs.Code.Paths.{fds_by, path_from, path_by, paths_by, start_by, arrow_by, carriers_by, carried_if, carried_by}
+use Rattle.topo_graph.specs.Code.Paths.{fds_by, is_some_set, path_from, path_by, paths_by, start_by, arrow_by, carriers_by, carried_if, carried_by}
+use Rattle.topo_graph.specs.Code.Ports.{all_rows, at_port}
 use Rattle.topo_types.specs.Dependencies.{is_usable, usable_fds}
 use Rattle.topo_types.specs.Graph.{is_in}
 use Rattle.topo_types.specs.Sets.{set_of_numbers, spreading}
 use Rattle.topo_types.specs.View.{View, End, origin_of, stream_at, output_at, own_attrs, has_body, has_stream, mode_of, mode_key, ports_towards, stream_numbers}
+use Rattle.topo_graph.proofs.PortsFound.{behind_found, fed_found}
 use Rattle.topo_types.proofs.Regions.Spreading.{from_below}
 use Rattle.topo_types.proofs.Lists.Tables.{placed, map_on, where-is}
 
@@ -34,10 +36,10 @@ module _ (v : View) (given : HasEnds v) where
   usable = map (usable_at v) v.fds
 
   abbrev pub paths : List Path
-  paths = paths_by v usable
+  paths = paths_by v (all_rows v) usable
 
   abbrev path : ℕ → Path
-  path s = path_by v usable s
+  path s = path_by v (all_rows v) usable s
 
   own_fds : (c : ℕ) → c < length v.components → fds_by v.fds usable c ≡ usable_fds v c
   unfolding usable_fds
@@ -46,23 +48,25 @@ module _ (v : View) (given : HasEnds v) where
   start-same : (key s : ℕ) → start_by key (s, path s) ≡ bit_if (is_key key (stream_at v s).key) s
   start-same key s = go (origin_of v s)
     where
-      go : (o : Option End) → start_by key (s, path_from v usable (stream_at v s).key o) ≡ bit_if (is_key key (stream_at v s).key) s
+      go : (o : Option End) → start_by key (s, path_from v (all_rows v) usable (stream_at v s).key o) ≡ bit_if (is_key key (stream_at v s).key) s
       go None = refl
       go (Some output) = refl
 
   arrow-same : (key s : ℕ) → s < length v.streams → arrow_by key (s, path s) ≡ spreading (λ u. may_carry v key (origin_of v u)) (λ u. streams_behind v (origin_of v u)) s
   arrow-same key s lt = go (origin_of v s) refl
     where
-      go : (o : Option End) → origin_of v s ≡ o → arrow_by key (s, path_from v usable (stream_at v s).key o) ≡ arrow_from (streams_behind v o) (bit_if (may_carry v key o) s)
+      go : (o : Option End) → origin_of v s ≡ o → arrow_by key (s, path_from v (all_rows v) usable (stream_at v s).key o) ≡ arrow_from (streams_behind v o) (bit_if (may_carry v key o) s)
       go None is = refl
       go (Some output) is =
           let gate = (output_at v output.0 output.1).gate.bits in
           let own = own_attrs (output_at v output.0 output.1) in
           let towards = ports_towards v output.0 output.1 in
-          ap (λ (fds : List Fd). arrow_from (set_of_numbers (streams_towards v output.0 output.1)) (bit_if (has_body v output.0
-          && (is_key key (mode_key (mode_of v output.0)) && (nat_lt 0 (length towards) && (list_all (has_stream v output.0) towards
-          && (within key (closure gate fds) && (within key own && allows_notes v (mode_of v output.0) output.0 output.1)))))) s))
-          (own_fds output.0 (given.origins s output lt is))
+          let behind : with_all 0 (map (at_port (all_rows v) output.0) towards) ≡ set_of_numbers (streams_towards v output.0 output.1) = behind_found v output.0 output.1 in
+          let fed : list_all is_some_set (map (at_port (all_rows v) output.0) towards) ≡ list_all (has_stream v output.0) towards = fed_found v output.0 output.1 given.few_streams in
+          let fds : fds_by v.fds usable output.0 ≡ usable_fds v output.0 = own_fds output.0 (given.origins s output lt is) in
+          λ i. arrow_from (behind i) (bit_if (has_body v output.0
+          && (is_key key (mode_key (mode_of v output.0)) && (nat_lt 0 (length towards) && (fed i
+          && (within key (closure gate (fds i)) && (within key own && allows_notes v (mode_of v output.0) output.0 output.1)))))) s)
 
   -- the streams that carry a key
   pub carriers-same : (key : ℕ) → carriers_by paths key ≡ carriers v key
@@ -75,7 +79,7 @@ module _ (v : View) (given : HasEnds v) where
   key-same : (s : ℕ) → (path s).key ≡ key_before v s (origin_of v s)
   key-same s = go (origin_of v s)
     where
-      go : (o : Option End) → (path_from v usable (stream_at v s).key o).key ≡ key_before v s o
+      go : (o : Option End) → (path_from v (all_rows v) usable (stream_at v s).key o).key ≡ key_before v s o
       go None = refl
       go (Some output) = refl
 

@@ -1,3 +1,4 @@
 pub mod Feeders
 pub mod Lines
 pub mod Paths
+pub mod Ports

@@ -1,4 +1,4 @@
-//! Finds regions, dependencies and carried seals of a view, each once.
+//! Finds the streams into ports, regions, dependencies and carried seals of a view, each once.
 ghost use Rattle.std.specs.Prelude.{◌≡◌, ◌<◌, ◌≤◌, map, length, position, IfOk, IfSome};
 ghost use Rattle.std.specs.List.{position_or_len};
 ghost use Rattle.topo_graph.specs.Code.Feeders as feeders;
@@ -14,6 +14,7 @@ use crate::carried::all_carried;
 use crate::dependencies::{all_upholders, all_usable};
 use crate::lines::{all_into, lines_of};
 use crate::paths::paths_of;
+use crate::ports::all_rows;
 use crate::regions::{all_feeders, is_cyclic, regions_in, sets_of};
 use blz_value::Items;
 use std::alloc::{AllocError, Global};
@@ -117,9 +118,11 @@ pub fn found_with(
     let lines = lines_of(alloc, kept, &regions.cycles, &into)?;
     let upheld = all_upholders(alloc, &lines, fds)?;
     let usable = all_usable(alloc, &lines, &into, fds)?;
-    let paths = paths_of(alloc, kept, &usable)?;
+    let rows = all_rows(alloc, kept)?;
+    let paths = paths_of(alloc, kept, &rows, &usable)?;
     let carried = all_carried(alloc, &paths)?;
     Ok(GraphFacts {
+        into: Items::from_vec(rows),
         regions: Items::from_vec(regions.regions),
         cyclic: Items::from_vec(regions.cyclic),
         numbers: Items::from_vec(regions.numbers),

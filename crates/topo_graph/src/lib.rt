@@ -1,4 +1,5 @@
-//! What is found of a view once: regions, the dependencies that streams uphold, and carried seals.
+//! What is found of a view once: the streams into its ports, regions, the dependencies that streams
+//! uphold, and carried seals.
 #![tactic(auto)]
 
 mod carried;
@@ -7,6 +8,7 @@ mod finding;
 mod lines;
 mod lookups;
 mod paths;
+mod ports;
 mod regions;
 mod sets;
 

@@ -137,28 +137,6 @@ pub(crate) fn has_body(kept: &Kept, component: usize) -> bool
     }
 }
 
-fn is_end(component: usize, port: usize, end: (u32, u32)) -> bool
-    ensures { result ≡ view.same_end (component, port) (end.0, end.1) }
-{
-    component == end.0 as usize && port == end.1 as usize
-}
-
-fn have_end(ends: &[(u32, u32)], component: usize, port: usize) -> bool
-    ensures { result ≡ list_any (λ end. view.same_end (component, port) end) ends.now }
-{
-    ends.iter().any(|end| is_end(component, port, *end))
-}
-
-/// Whether a stream goes to a port of a component.
-pub(crate) fn goes_to(kept: &Kept, component: usize, port: usize, stream: usize) -> bool
-    ensures { result ≡ view.goes_to (view_kept kept.now) component port stream }
-{
-    match kept.streams.as_slice().get(stream) {
-        Some(s) => have_end(s.to.as_slice(), component, port),
-        None => false,
-    }
-}
-
 /// The key of the seals of a source.
 pub(crate) fn key_of(kept: &Kept, stream: usize) -> Option<Attrs>
     ensures { result ≡ (view.stream_at (view_kept kept.now) stream).key }

@@ -1,18 +1,19 @@
 //! What carried seals ask of a stream again and again, found once.
-ghost use Rattle.std.specs.Prelude.{◌≡◌, true, IfOk};
-ghost use Rattle.std.specs.List.{flat_map, list_all};
+ghost use Rattle.std.specs.Prelude.{◌≡◌, true, map, IfOk};
+ghost use Rattle.std.specs.List.{list_all};
 ghost use Rattle.std.specs.Option.{option_map_or};
 ghost use Rattle.topo_types.specs.Carried as carried;
 ghost use Rattle.topo_graph.specs.Code.Paths as spec;
+ghost use Rattle.topo_graph.specs.Code.Ports as ports_spec;
 ghost use Rattle.topo_types.specs.Kept.{view_kept};
-ghost use Rattle.topo_types.specs.Sets.{set_of_numbers};
 ghost use Rattle.topo_types.specs.View as view;
 
 use crate::lookups::{
-    gate_at, goes_to, has_body, key_of, mode_of, note_at, origin_of, own_attrs, port_count,
-    stream_count,
+    gate_at, has_body, key_of, mode_of, note_at, origin_of, own_attrs, port_count, stream_count,
 };
-use crate::sets::{bit_of, closed, union_of};
+use crate::ports::set_of;
+use crate::sets::{closed, union_of};
+use blz_value::Items;
 use fd_closure::{Attrs, Fd};
 use path_annotate::Note;
 use std::alloc::{AllocError, Global};
@@ -55,53 +56,31 @@ fn ports_towards(
         .collect(alloc)
 }
 
-fn has_stream(kept: &Kept, component: usize, port: usize) -> bool
-    ensures { result ≡ view.has_stream (view_kept kept.now) component port }
-{
-    (0..stream_count(kept)).any(|stream| goes_to(kept, component, port, stream))
-}
-
-fn have_streams(kept: &Kept, component: usize, ports: &[usize]) -> bool
-    ensures { result ≡ list_all (view.has_stream (view_kept kept.now) component) ports.now }
-{
-    ports.iter().all(|port| has_stream(kept, component, *port))
-}
-
-fn streams_to(
+// The streams into each of some ports.
+fn sets_into(
     alloc: Global,
-    kept: &Kept,
+    rows: &[Items<u64>],
     component: usize,
-    port: usize,
-) -> Result<Vec<usize>, AllocError>
-    ensures { IfOk result (λ streams. streams.items ≡ view.streams_to (view_kept kept.now) component port) }
+    ports: &[usize],
+) -> Result<Vec<u64>, AllocError>
+    ensures { IfOk result (λ sets. sets.items ≡ map (ports_spec.at_port rows.now component) ports.now) }
 {
-    (0..stream_count(kept))
-        .filter(|stream| goes_to(kept, component, port, *stream))
+    ports
+        .iter()
+        .map(|port| set_of(rows, component, *port))
         .collect(alloc)
 }
 
-// The streams into some ports.
-fn streams_to_all(
-    alloc: Global,
-    kept: &Kept,
-    component: usize,
-    ports: &[usize],
-) -> Result<Vec<usize>, AllocError>
-    ensures { IfOk result (λ streams. streams.items ≡ flat_map (view.streams_to (view_kept kept.now) component) ports.now) }
+fn is_some_set(set: u64) -> bool
+    ensures { result ≡ spec.is_some_set set }
 {
-    let mut streams = Vec::new(alloc);
-    for port in ports {
-        let more = streams_to(alloc, kept, component, *port)?;
-        streams.extend_from_slice(&more)?;
-    }
-    Ok(streams)
+    set != 0
 }
 
-fn set_of(alloc: Global, numbers: &[usize]) -> Result<u64, AllocError>
-    ensures { IfOk result (λ set. set ≡ set_of_numbers numbers.now) }
+fn are_some_sets(sets: &[u64]) -> bool
+    ensures { result ≡ list_all spec.is_some_set sets.now }
 {
-    let sets: Vec<u64> = numbers.iter().map(|number| bit_of(*number)).collect(alloc)?;
-    Ok(union_of(&sets))
+    sets.iter().all(|set| is_some_set(*set))
 }
 
 fn is_confluent(note: Option<Note>) -> bool
@@ -167,36 +146,43 @@ fn mode_key(mode: Mode) -> Option<Attrs>
 fn path_of_output(
     alloc: Global,
     kept: &Kept,
+    rows: &[Items<u64>],
     usable: &[u64],
     declared: Option<Attrs>,
     end: (u32, u32),
 ) -> Result<Path, AllocError>
-    ensures { IfOk result (λ path. path ≡ spec.path_from (view_kept kept.now) usable.now declared (Some (end.0, end.1))) }
+    ensures { IfOk result (λ path. path ≡ spec.path_from (view_kept kept.now) rows.now usable.now declared (Some (end.0, end.1))) }
 {
     let component = end.0 as usize;
     let output = end.1 as usize;
     let ports = ports_towards(alloc, kept, component, output)?;
     let fds = usable_fds(alloc, kept.fds.as_slice(), usable, component)?;
-    let behind = streams_to_all(alloc, kept, component, &ports)?;
+    let sets = sets_into(alloc, rows, component, &ports)?;
     Ok(Path {
         declared,
         key: mode_key(mode_of(kept, component)),
         body: has_body(kept, component),
         some: ports.len() > 0,
-        fed: have_streams(kept, component, &ports),
+        fed: are_some_sets(&sets),
         reach: closed(gate_at(kept, component, output), &fds),
         own: own_attrs(alloc, kept, component, output)?,
         notes: allows_notes(kept, component, output, &ports),
-        behind: set_of(alloc, &behind)?,
+        behind: union_of(&sets),
     })
 }
 
-fn path_of(alloc: Global, kept: &Kept, usable: &[u64], stream: usize) -> Result<Path, AllocError>
-    ensures { IfOk result (λ path. path ≡ spec.path_by (view_kept kept.now) usable.now stream) }
+fn path_of(
+    alloc: Global,
+    kept: &Kept,
+    rows: &[Items<u64>],
+    usable: &[u64],
+    stream: usize,
+) -> Result<Path, AllocError>
+    ensures { IfOk result (λ path. path ≡ spec.path_by (view_kept kept.now) rows.now usable.now stream) }
 {
     let declared = key_of(kept, stream);
     match origin_of(kept, stream) {
-        Some(output) => path_of_output(alloc, kept, usable, declared, output),
+        Some(output) => path_of_output(alloc, kept, rows, usable, declared, output),
         None => Ok(Path {
             declared,
             key: declared,
@@ -213,12 +199,17 @@ fn path_of(alloc: Global, kept: &Kept, usable: &[u64], stream: usize) -> Result<
 
 /// Each stream, as carried seals look at it.
 #[tactic(auto, using(topo_types::proofs::Lists::Tables::below_more))]
-pub(crate) fn paths_of(alloc: Global, kept: &Kept, usable: &[u64]) -> Result<Vec<Path>, AllocError>
-    ensures { IfOk result (λ paths. paths.items ≡ spec.paths_by (view_kept kept.now) usable.now) }
+pub(crate) fn paths_of(
+    alloc: Global,
+    kept: &Kept,
+    rows: &[Items<u64>],
+    usable: &[u64],
+) -> Result<Vec<Path>, AllocError>
+    ensures { IfOk result (λ paths. paths.items ≡ spec.paths_by (view_kept kept.now) rows.now usable.now) }
 {
     let mut paths = Vec::new(alloc);
     for stream in 0..stream_count(kept) {
-        paths.push(path_of(alloc, kept, usable, stream)?)?;
+        paths.push(path_of(alloc, kept, rows, usable, stream)?)?;
     }
     Ok(paths)
 }

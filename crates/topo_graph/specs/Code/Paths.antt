@@ -1,5 +1,5 @@
 -- Streams as carried seals look at them, and what is found of them.
-use Rattle.std.specs.Prelude.{ℕ, ◌&&◌, nat_lt, Bool, false, if◌then◌else◌, Option, None, Some, List, map, filter, length}
+use Rattle.std.specs.Prelude.{ℕ, ◌==◌, ◌&&◌, nat_lt, not, Bool, false, if◌then◌else◌, Option, None, Some, List, map, filter, length}
 use Rattle.std.specs.List.{enumerate_from, list_all, zip}
 use Rattle.std.specs.Option.{option_and_then}
 use Rattle.fd_closure.specs.declared.attrs.Attrs.{Attrs}
@@ -7,17 +7,22 @@ use Rattle.fd_closure.specs.declared.attrs.Fd.{Fd}
 use Rattle.fd_closure.specs.Closure.{within, closure}
 use Rattle.bloom_ast.specs.Reads.{arrow_from, with_all, bit_if}
 use Rattle.topo_graph.specs.declared.paths.Path.{Path}
-use Rattle.topo_types.specs.Carried.{is_key, allows_notes, streams_towards}
+use Rattle.topo_graph.specs.Code.Ports.{at_port}
+use Rattle.topo_types.specs.Carried.{is_key, allows_notes}
 use Rattle.topo_types.specs.Graph.{is_in}
-use Rattle.topo_types.specs.Sets.{set_of_numbers}
-use Rattle.topo_types.specs.View.{View, End, stream_at, origin_of, mode_of, mode_key, has_body, output_at, own_attrs, ports_towards, has_stream, stream_numbers}
+use Rattle.topo_types.specs.View.{View, End, stream_at, origin_of, mode_of, mode_key, has_body, output_at, own_attrs, ports_towards, stream_numbers}
 
 -- told the components at which each dependency is usable: those usable at one
 abbrev pub fds_by : List Fd → (usable : List ℕ) → (component : ℕ) → List Fd
 fds_by fds usable c = map (λ pair. pair.0) (filter (λ pair. is_in c pair.1) (zip fds usable))
 
-abbrev pub path_from : View → (usable : List ℕ) → (declared : Option Attrs) → Option End → Path
-path_from v usable declared None = record {
+-- a set holds a number
+abbrev pub is_some_set : (set : ℕ) → Bool
+is_some_set set = not (set == 0)
+
+-- told the streams into each port too
+abbrev pub path_from : View → (rows : List (List ℕ)) → (usable : List ℕ) → (declared : Option Attrs) → Option End → Path
+path_from v rows usable declared None = record {
   declared = declared;
   key = declared;
   body = false;
@@ -28,23 +33,23 @@ path_from v usable declared None = record {
   notes = false;
   behind = 0;
 }
-path_from v usable declared (Some output) = record {
+path_from v rows usable declared (Some output) = record {
   declared = declared;
   key = mode_key (mode_of v output.0);
   body = has_body v output.0;
   some = nat_lt 0 (length (ports_towards v output.0 output.1));
-  fed = list_all (has_stream v output.0) (ports_towards v output.0 output.1);
+  fed = list_all is_some_set (map (at_port rows output.0) (ports_towards v output.0 output.1));
   reach = closure (output_at v output.0 output.1).gate.bits (fds_by v.fds usable output.0);
   own = own_attrs (output_at v output.0 output.1);
   notes = allows_notes v (mode_of v output.0) output.0 output.1;
-  behind = set_of_numbers (streams_towards v output.0 output.1);
+  behind = with_all 0 (map (at_port rows output.0) (ports_towards v output.0 output.1));
 }
 
-abbrev pub path_by : View → (usable : List ℕ) → (stream : ℕ) → Path
-path_by v usable s = path_from v usable (stream_at v s).key (origin_of v s)
+abbrev pub path_by : View → (rows : List (List ℕ)) → (usable : List ℕ) → (stream : ℕ) → Path
+path_by v rows usable s = path_from v rows usable (stream_at v s).key (origin_of v s)
 
-abbrev pub paths_by : View → (usable : List ℕ) → List Path
-paths_by v usable = map (path_by v usable) (stream_numbers v)
+abbrev pub paths_by : View → (rows : List (List ℕ)) → (usable : List ℕ) → List Path
+paths_by v rows usable = map (path_by v rows usable) (stream_numbers v)
 
 -- its output may carry the key
 abbrev pub passes_by : (key : ℕ) → Path → Bool

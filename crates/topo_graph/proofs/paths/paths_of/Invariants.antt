@@ -5,4 +5,4 @@ use Rattle.topo_types.specs.Kept.{view_kept}
 use Rattle.topo_graph.proofs.paths.paths_of.Given as goal
 
 abbrev pub invariant-loop-stream : goal.invariant-loop-stream
-invariant-loop-stream l = l.paths.items ≡ map (path_by (view_kept l.kept) l.usable) (range_with_len 0 l.stream)
+invariant-loop-stream l = l.paths.items ≡ map (path_by (view_kept l.kept) l.rows l.usable) (range_with_len 0 l.stream)

@@ -3,11 +3,12 @@ use Rattle.std.proofs.Common.{◌≡◌, ℕ, Bool, Option, List, map, ap, ◌�
 use Rattle.std.specs.List.{enumerate_from}
 use Rattle.fd_closure.specs.declared.attrs.Attrs.{Attrs}
 use Rattle.topo_graph.specs.declared.lines.Line.{Line}
-use Rattle.topo_graph.specs.declared.paths.Path.{Path}
+use Rattle.topo_reach.specs.declared.carried.Path.{Path}
 use Rattle.topo_types.specs.Carried.{carries}
 use Rattle.topo_types.specs.Found.{HasEnds, usable_at}
 use Rattle.topo_graph.specs.Code.Lines.{all_into, lines_by, upholders_by, good_set, usable_by}
-use Rattle.topo_graph.specs.Code.Paths.{paths_by, carried_by}
+use Rattle.topo_graph.specs.Code.Paths.{paths_by}
+use Rattle.topo_reach.specs.Carried.{carried_by}
 use Rattle.topo_graph.specs.Code.Ports.{all_rows}
 use Rattle.topo_types.specs.Dependencies.{upholders}
 use Rattle.topo_types.specs.Regions.{is_in_cycle}

@@ -8,10 +8,11 @@ use Rattle.fd_closure.specs.declared.attrs.Fd.{Fd}
 use Rattle.fd_closure.specs.Bits.{bit_of, meets}
 use Rattle.fd_closure.specs.Closure.{within, closure}
 use Rattle.bloom_ast.specs.Reads.{arrow_from, with_all, bit_if}
-use Rattle.topo_graph.specs.declared.paths.Path.{Path}
+use Rattle.topo_reach.specs.declared.carried.Path.{Path}
 use Rattle.topo_types.specs.Carried.{is_key, allows_notes, may_carry, streams_behind, streams_towards, carriers, carries_key, key_before, carries}
 use Rattle.topo_types.specs.Found.{HasEnds, usable_at}
-use Rattle.topo_graph.specs.Code.Paths.{fds_by, is_some_set, path_from, path_by, paths_by, start_by, arrow_by, carriers_by, carried_if, carried_by}
+use Rattle.topo_graph.specs.Code.Paths.{fds_by, is_some_set, path_from, path_by, paths_by}
+use Rattle.topo_reach.specs.Carried.{start_by, arrow_by, carriers_by, carried_if, carried_by}
 use Rattle.topo_graph.specs.Code.Ports.{all_rows, at_port}
 use Rattle.topo_types.specs.Dependencies.{is_usable, usable_fds}
 use Rattle.topo_types.specs.Graph.{is_in}

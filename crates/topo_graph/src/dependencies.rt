@@ -7,9 +7,9 @@ ghost use Rattle.topo_graph.specs.Code.Lines as spec;
 ghost use Rattle.topo_types.specs.Data.{has_both};
 
 use crate::lines::Line;
-use crate::sets::{arrow, bit_if, closed, is_within, union_of};
 use fd_closure::Fd;
 use std::alloc::{AllocError, Global};
+use topo_reach::{arrow, bit_if, closed, is_within, union_of};
 use topo_types::is_in;
 
 // Whether a set has all columns of the dependency.

@@ -1,7 +1,7 @@
 //! Finds the streams into ports, regions, dependencies and carried seals of a view, each once.
 ghost use Rattle.std.specs.Prelude.{◌≡◌, ◌<◌, ◌≤◌, map, length, position, IfOk, IfSome};
 ghost use Rattle.std.specs.List.{position_or_len};
-ghost use Rattle.topo_graph.specs.Code.Feeders as feeders;
+ghost use Rattle.topo_reach.specs.Regions as reach;
 ghost use Rattle.topo_types.specs.Found as spec;
 ghost use Rattle.topo_types.specs.Dependencies.{upholders};
 ghost use Rattle.topo_types.specs.Graph as graph;
@@ -10,14 +10,14 @@ ghost use Rattle.topo_types.specs.Regions as regions_spec;
 ghost use Rattle.topo_types.specs.Sets.{below};
 ghost use Rattle.topo_types.specs.View.{component_numbers, stream_numbers};
 
-use crate::carried::all_carried;
 use crate::dependencies::{all_upholders, all_usable};
+use crate::feeders::all_feeders;
 use crate::lines::{all_into, lines_of};
 use crate::paths::paths_of;
 use crate::ports::all_rows;
-use crate::regions::{all_feeders, is_cyclic, regions_in, sets_of};
 use blz_value::Items;
 use std::alloc::{AllocError, Global};
+use topo_reach::{all_carried, is_cyclic, regions_in, sets_of};
 use topo_types::{GraphFacts, Kept, is_in};
 
 /// Regions, and which components are in a cyclic one.
@@ -40,7 +40,7 @@ fn are_cyclic(
     count: usize,
     sets: &[u64],
 ) -> Result<Vec<bool>, AllocError>
-    ensures { IfOk result (λ cyclic. cyclic.items ≡ map (feeders.is_cyclic_by feeding.now count) sets.now) }
+    ensures { IfOk result (λ cyclic. cyclic.items ≡ map (reach.is_cyclic_by feeding.now count) sets.now) }
 {
     sets.iter()
         .map(|set| is_cyclic(feeding, count, *set))

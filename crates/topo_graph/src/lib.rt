@@ -2,15 +2,13 @@
 //! uphold, and carried seals.
 #![tactic(auto)]
 
-mod carried;
 mod dependencies;
+mod feeders;
 mod finding;
 mod lines;
 mod lookups;
 mod paths;
 mod ports;
-mod regions;
-mod sets;
 
 pub use finding::{FoundRegions, found_with, regions_of};
 pub use lookups::{is_order, mode_of, origin_of};

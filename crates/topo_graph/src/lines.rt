@@ -9,8 +9,8 @@ use crate::lookups::{
     component_count, goes_into, has_body, is_order, origin_of, own_attrs, stream_attrs,
     stream_count,
 };
-use crate::sets::{bit_of, set_at, union_of};
 use std::alloc::{AllocError, Global};
+use topo_reach::{bit_of, set_at, union_of};
 use topo_types::Kept;
 
 /// A stream, as dependencies look at it.

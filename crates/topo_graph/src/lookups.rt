@@ -6,11 +6,11 @@ ghost use Rattle.std.specs.Option.{option_map_or};
 ghost use Rattle.topo_types.specs.Kept.{view_kept, output_kept};
 ghost use Rattle.topo_types.specs.View as view;
 
-use crate::sets::{bit_of, union_of};
 use blz_value::Items;
 use fd_closure::Attrs;
 use path_annotate::Note;
 use std::alloc::{AllocError, Global};
+use topo_reach::{bit_of, union_of};
 use topo_types::{Kept, KeptOutput, Mode};
 
 // The set of a root.

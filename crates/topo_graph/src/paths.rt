@@ -12,35 +12,12 @@ use crate::lookups::{
     gate_at, has_body, key_of, mode_of, note_at, origin_of, own_attrs, port_count, stream_count,
 };
 use crate::ports::set_of;
-use crate::sets::{closed, union_of};
 use blz_value::Items;
 use fd_closure::{Attrs, Fd};
 use path_annotate::Note;
 use std::alloc::{AllocError, Global};
+use topo_reach::{Path, closed, union_of};
 use topo_types::{Kept, Mode, is_in};
-
-/// A stream, as carried seals look at it.
-#[derive(Drop)]
-pub(crate) struct Path {
-    /// The key that a source declares.
-    pub(crate) declared: Option<Attrs>,
-    /// The key that the stream can carry at all.
-    pub(crate) key: Option<Attrs>,
-    /// Whether its component has a body.
-    pub(crate) body: bool,
-    /// Whether a port has a note towards its output.
-    pub(crate) some: bool,
-    /// Whether each such port has a stream.
-    pub(crate) fed: bool,
-    /// The closure of its output's gate.
-    pub(crate) reach: u64,
-    /// The attributes that its output has with themselves as their roots.
-    pub(crate) own: u64,
-    /// Whether the notes allow the mode to pass seals on.
-    pub(crate) notes: bool,
-    /// The streams into the ports with a note towards its output.
-    pub(crate) behind: u64,
-}
 
 // The ports with a note towards an output.
 fn ports_towards(

@@ -6,9 +6,9 @@ ghost use Rattle.topo_types.specs.Kept.{view_kept};
 ghost use Rattle.topo_types.specs.Sets.{below};
 
 use crate::lookups::{component_count, port_count, stream_count};
-use crate::sets::{bit_of, set_at};
 use blz_value::Items;
 use std::alloc::{AllocError, Global};
+use topo_reach::{bit_of, set_at};
 use topo_types::Kept;
 
 /// A port of a component to which a stream goes, with the set of that stream.

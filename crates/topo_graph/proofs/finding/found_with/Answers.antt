@@ -3,7 +3,8 @@ use Rattle.std.specs.List.{enumerate_from}
 use Rattle.topo_types.specs.Carried.{carries}
 use Rattle.topo_types.specs.Found.{into_ports, usable_at}
 use Rattle.topo_graph.specs.Code.Lines.{all_into, lines_by, upholders_by, good_set, usable_by}
-use Rattle.topo_graph.specs.Code.Paths.{paths_by, carried_by}
+use Rattle.topo_graph.specs.Code.Paths.{paths_by}
+use Rattle.topo_reach.specs.Carried.{carried_by}
 use Rattle.topo_graph.specs.Code.Ports.{all_rows}
 use Rattle.topo_types.specs.Dependencies.{upholders}
 use Rattle.topo_types.specs.Kept.{view_kept}

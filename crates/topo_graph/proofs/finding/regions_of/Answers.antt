@@ -1,6 +1,7 @@
 use Rattle.std.proofs.Common.{◌≡◌, ◌≤◌, map, length, ℕ, List, refl, arith, ap, sym, ◌∙◌}
 use Rattle.std.specs.List.{position_or_len}
-use Rattle.topo_graph.specs.Code.Feeders.{all_feeders, sets_by, regions_by, is_cyclic_by}
+use Rattle.topo_graph.specs.Code.Feeders.{all_feeders}
+use Rattle.topo_reach.specs.Regions.{sets_by, regions_by, is_cyclic_by}
 use Rattle.topo_types.specs.Graph.{is_in}
 use Rattle.topo_types.specs.Kept.{view_kept}
 use Rattle.topo_types.specs.Regions.{regions}

@@ -2,7 +2,7 @@ use Rattle.std.proofs.Common.{◌≡◌, map}
 use Rattle.std.specs.List.{range_with_len}
 use Rattle.topo_graph.specs.Code.Feeders.{feeders}
 use Rattle.topo_types.specs.Kept.{view_kept}
-use Rattle.topo_graph.proofs.regions.all_feeders.Given as goal
+use Rattle.topo_graph.proofs.feeders.all_feeders.Given as goal
 
 abbrev pub invariant-loop-component : goal.invariant-loop-component
 invariant-loop-component l = l.sets.items ≡ map (feeders (view_kept l.kept)) (range_with_len 0 l.component)

@@ -2,13 +2,35 @@
 ghost use Rattle.std.specs.Prelude.{◌≡◌, map, IfOk};
 ghost use Rattle.std.specs.List.{enumerate_from};
 ghost use Rattle.topo_types.specs.Carried as carried;
-ghost use Rattle.topo_graph.specs.Code.Paths as spec;
+ghost use Rattle.topo_reach.specs.Carried as spec;
 
-use crate::paths::Path;
 use crate::sets::{arrow, bit_if, closed, is_within, union_of};
 use fd_closure::{Attrs, Fd};
 use std::alloc::{AllocError, Global};
 use topo_types::is_in;
+
+/// A stream, as carried seals look at it.
+#[derive(Drop)]
+pub struct Path {
+    /// The key that a source declares.
+    pub declared: Option<Attrs>,
+    /// The key that the stream can carry at all.
+    pub key: Option<Attrs>,
+    /// Whether its component has a body.
+    pub body: bool,
+    /// Whether a port has a note towards its output.
+    pub some: bool,
+    /// Whether each such port has a stream.
+    pub fed: bool,
+    /// The closure of its output's gate.
+    pub reach: u64,
+    /// The attributes that its output has with themselves as their roots.
+    pub own: u64,
+    /// Whether the notes allow the mode to pass seals on.
+    pub notes: bool,
+    /// The streams into the ports with a note towards its output.
+    pub behind: u64,
+}
 
 fn is_key(key: u64, other: Option<Attrs>) -> bool
     ensures { result ≡ carried.is_key key other }
@@ -91,7 +113,7 @@ fn carried_at(
 }
 
 /// The key that each stream carries.
-pub(crate) fn all_carried(alloc: Global, paths: &[Path]) -> Result<Vec<Option<Attrs>>, AllocError>
+pub fn all_carried(alloc: Global, paths: &[Path]) -> Result<Vec<Option<Attrs>>, AllocError>
     ensures { IfOk result (λ keys. keys.items ≡ map (spec.carried_by paths.now) (enumerate_from 0 paths.now)) }
 {
     let mut keys = Vec::new(alloc);

@@ -7,28 +7,28 @@ ghost use Rattle.fd_closure.specs.Closure as closures;
 use fd_closure::{Attrs, Fd, closure};
 
 /// The set of one number, which is empty for a number from 64 on.
-pub(crate) fn bit_of(number: usize) -> u64
+pub fn bit_of(number: usize) -> u64
     ensures { result ≡ bits.bit_of number }
 {
     Attrs::of(number).bits
 }
 
 /// The set of one number where the test holds, else the empty one.
-pub(crate) fn bit_if(here: bool, number: usize) -> u64
+pub fn bit_if(here: bool, number: usize) -> u64
     ensures { result ≡ reads.bit_if here number }
 {
     if here { bit_of(number) } else { 0 }
 }
 
 /// Whether each number of a set is one of the other.
-pub(crate) fn is_within(set: u64, other: u64) -> bool
+pub fn is_within(set: u64, other: u64) -> bool
     ensures { result ≡ closures.within set other }
 {
     Attrs::from_bits(set).is_within(Attrs::from_bits(other))
 }
 
 /// The numbers of all of these sets.
-pub(crate) fn union_of(sets: &[u64]) -> u64
+pub fn union_of(sets: &[u64]) -> u64
     ensures { result ≡ reads.with_all 0 sets.now }
 {
     let mut all = 0;
@@ -39,7 +39,7 @@ pub(crate) fn union_of(sets: &[u64]) -> u64
 }
 
 /// The set with a number, and the empty one past the end.
-pub(crate) fn set_at(sets: &[u64], number: usize) -> u64
+pub fn set_at(sets: &[u64], number: usize) -> u64
     ensures { result ≡ slice_index_or sets.now number 0 }
 {
     match sets.get(number) {
@@ -49,14 +49,14 @@ pub(crate) fn set_at(sets: &[u64], number: usize) -> u64
 }
 
 /// What a set leads to.
-pub(crate) fn closed(start: u64, arrows: &[Fd]) -> u64
+pub fn closed(start: u64, arrows: &[Fd]) -> u64
     ensures { result ≡ closures.closure start arrows.now }
 {
     closure(Attrs::from_bits(start), arrows).bits
 }
 
 /// An arrow from a set to a set.
-pub(crate) fn arrow(from: u64, to: u64) -> Fd
+pub fn arrow(from: u64, to: u64) -> Fd
     ensures { result ≡ reads.arrow_from from to }
 {
     Fd {

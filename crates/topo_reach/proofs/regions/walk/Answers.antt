@@ -1,6 +1,6 @@
 use Rattle.std.proofs.Common.{◌≡◌, ◌+◌, ◌-◌, ◌∙◌, sym, suc, arith, None, Some, append_assoc, append-nil}
-use Rattle.topo_graph.specs.Code.Feeders.{next_by}
-use Rattle.topo_graph.proofs.regions.walk.Goals as goal
+use Rattle.topo_reach.specs.Regions.{next_by}
+use Rattle.topo_reach.proofs.regions.walk.Goals as goal
 
 pub returns-in_default : goal.returns-in_default
 returns-in_default c =

@@ -3,72 +3,15 @@
 ghost use Rattle.std.specs.Prelude.{◌≡◌, ◌&&◌, map, length, slice_index_or, IfOk};
 ghost use Rattle.std.specs.List.{enumerate_from, list_any};
 ghost use Rattle.topo_types.specs.Graph.{up, is_in};
-ghost use Rattle.topo_graph.specs.Code.Feeders as spec;
-ghost use Rattle.topo_types.specs.Kept.{view_kept};
 ghost use Rattle.topo_types.specs.Sets.{below};
-ghost use Rattle.topo_types.specs.View.{stream_numbers};
+ghost use Rattle.topo_reach.specs.Regions as spec;
 ghost use Rattle.bloom_ast.specs.Reads.{bit_if};
 ghost use Rattle.fd_closure.specs.Bits.{members};
 
-use crate::lookups::{component_count, goes_into, is_order, origin_of, stream_count};
 use crate::sets::{arrow, bit_if, bit_of, closed, is_within, set_at, union_of};
 use fd_closure::Fd;
 use std::alloc::{AllocError, Global};
-use topo_types::{Kept, is_in};
-
-// ---- who feeds whom
-
-// A stream of an output that goes into a component which isn't Order.
-fn counts_into(kept: &Kept, component: usize, stream: usize) -> bool
-    ensures { result ≡ spec.counts_into (view_kept kept.now) component stream }
-{
-    let sent = origin_of(kept, stream).is_some();
-    let ordered = is_order(kept, component);
-    sent && !ordered && goes_into(kept, component, stream)
-}
-
-fn sender_of(kept: &Kept, stream: usize) -> usize
-    ensures { result ≡ spec.sender_of (view_kept kept.now) stream }
-{
-    match origin_of(kept, stream) {
-        Some((component, _)) => component as usize,
-        None => 0,
-    }
-}
-
-// For each stream the set of its sender, which is empty where the stream doesn't count.
-fn sender_sets(alloc: Global, kept: &Kept, component: usize) -> Result<Vec<u64>, AllocError>
-    ensures { IfOk result (λ sets. sets.items ≡ map (λ s. bit_if (spec.counts_into (view_kept kept.now) component s) (spec.sender_of (view_kept kept.now) s)) (stream_numbers (view_kept kept.now))) }
-{
-    (0..stream_count(kept))
-        .map(|stream| bit_if(
-            counts_into(kept, component, stream),
-            sender_of(kept, stream),
-        ))
-        .collect(alloc)
-}
-
-// The components that feed a component.
-fn feeders(alloc: Global, kept: &Kept, component: usize) -> Result<u64, AllocError>
-    ensures { IfOk result (λ set. set ≡ spec.feeders (view_kept kept.now) component) }
-{
-    let sets = sender_sets(alloc, kept, component)?;
-    Ok(union_of(&sets))
-}
-
-/// The components that feed each component.
-#[tactic(auto, using(topo_types::proofs::Lists::Tables::below_more))]
-pub(crate) fn all_feeders(alloc: Global, kept: &Kept) -> Result<Vec<u64>, AllocError>
-    ensures { IfOk result (λ sets. sets.items ≡ spec.all_feeders (view_kept kept.now)) }
-{
-    let mut sets = Vec::new(alloc);
-    for component in 0..component_count(kept) {
-        sets.push(feeders(alloc, kept, component)?)?;
-    }
-    Ok(sets)
-}
-
-// ---- regions
+use topo_types::is_in;
 
 // The arrows from each component to those that feed it.
 fn arrows(alloc: Global, feeding: &[u64]) -> Result<Vec<Fd>, AllocError>
@@ -169,7 +112,7 @@ fn walk(alloc: Global, feeding: &[u64], sets: &[u64], count: usize) -> Result<Ve
 }
 
 /// The region of each component, told those that feed each.
-pub(crate) fn sets_of(alloc: Global, feeding: &[u64]) -> Result<Vec<u64>, AllocError>
+pub fn sets_of(alloc: Global, feeding: &[u64]) -> Result<Vec<u64>, AllocError>
     ensures { IfOk result (λ sets. sets.items ≡ spec.sets_by feeding.now) }
 {
     let arrows = arrows(alloc, feeding)?;
@@ -179,11 +122,7 @@ pub(crate) fn sets_of(alloc: Global, feeding: &[u64]) -> Result<Vec<u64>, AllocE
 
 /// The regions in the order of their numbers, told the region of each component and those that feed
 /// each.
-pub(crate) fn regions_in(
-    alloc: Global,
-    feeding: &[u64],
-    sets: &[u64],
-) -> Result<Vec<u64>, AllocError>
+pub fn regions_in(alloc: Global, feeding: &[u64], sets: &[u64]) -> Result<Vec<u64>, AllocError>
     ensures { IfOk result (λ regions. regions.items ≡ spec.regions_by feeding.now sets.now (length feeding.now) (length feeding.now) 0) }
 {
     walk(alloc, feeding, sets, feeding.len())
@@ -204,7 +143,7 @@ fn feeds_itself(feeding: &[u64], count: usize, set: u64) -> bool
 }
 
 /// Whether a region has two or more members, or a member that feeds itself.
-pub(crate) fn is_cyclic(feeding: &[u64], count: usize, set: u64) -> bool
+pub fn is_cyclic(feeding: &[u64], count: usize, set: u64) -> bool
     ensures { result ≡ spec.is_cyclic_by feeding.now count set }
 {
     member_count(set) > 1 || feeds_itself(feeding, count, set)

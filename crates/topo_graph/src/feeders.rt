@@ -1,0 +1,61 @@
+//! The components that feed each component.
+ghost use Rattle.std.specs.Prelude.{◌≡◌, map, IfOk};
+ghost use Rattle.topo_graph.specs.Code.Feeders as spec;
+ghost use Rattle.topo_types.specs.Kept.{view_kept};
+ghost use Rattle.topo_types.specs.View.{stream_numbers};
+ghost use Rattle.bloom_ast.specs.Reads.{bit_if};
+
+use crate::lookups::{component_count, goes_into, is_order, origin_of, stream_count};
+use std::alloc::{AllocError, Global};
+use topo_reach::{bit_if, union_of};
+use topo_types::Kept;
+
+// A stream of an output that goes into a component which isn't Order.
+fn counts_into(kept: &Kept, component: usize, stream: usize) -> bool
+    ensures { result ≡ spec.counts_into (view_kept kept.now) component stream }
+{
+    let sent = origin_of(kept, stream).is_some();
+    let ordered = is_order(kept, component);
+    sent && !ordered && goes_into(kept, component, stream)
+}
+
+fn sender_of(kept: &Kept, stream: usize) -> usize
+    ensures { result ≡ spec.sender_of (view_kept kept.now) stream }
+{
+    match origin_of(kept, stream) {
+        Some((component, _)) => component as usize,
+        None => 0,
+    }
+}
+
+// For each stream the set of its sender, which is empty where the stream doesn't count.
+fn sender_sets(alloc: Global, kept: &Kept, component: usize) -> Result<Vec<u64>, AllocError>
+    ensures { IfOk result (λ sets. sets.items ≡ map (λ s. bit_if (spec.counts_into (view_kept kept.now) component s) (spec.sender_of (view_kept kept.now) s)) (stream_numbers (view_kept kept.now))) }
+{
+    (0..stream_count(kept))
+        .map(|stream| bit_if(
+            counts_into(kept, component, stream),
+            sender_of(kept, stream),
+        ))
+        .collect(alloc)
+}
+
+// The components that feed a component.
+fn feeders(alloc: Global, kept: &Kept, component: usize) -> Result<u64, AllocError>
+    ensures { IfOk result (λ set. set ≡ spec.feeders (view_kept kept.now) component) }
+{
+    let sets = sender_sets(alloc, kept, component)?;
+    Ok(union_of(&sets))
+}
+
+/// The components that feed each component.
+#[tactic(auto, using(topo_types::proofs::Lists::Tables::below_more))]
+pub(crate) fn all_feeders(alloc: Global, kept: &Kept) -> Result<Vec<u64>, AllocError>
+    ensures { IfOk result (λ sets. sets.items ≡ spec.all_feeders (view_kept kept.now)) }
+{
+    let mut sets = Vec::new(alloc);
+    for component in 0..component_count(kept) {
+        sets.push(feeders(alloc, kept, component)?)?;
+    }
+    Ok(sets)
+}

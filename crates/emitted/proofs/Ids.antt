@@ -1,14 +1,14 @@
 -- The ids of an emitted list, one message more, and what a push keeps of the lists.
-use Rattle.std.proofs.Common.{◌≡◌, ◌<◌, ◌≤◌, ◌+◌, ◌*◌, ◌||◌, append-nil, ℕ, Bool, true, false, Option, None, Some, List, [], ◌∷◌, ◌++◌, length, set, get_or, replicate, refl, ap, ◌∙◌, sym, subst, inl, inr, arith, length-append, eqb}
+use Rattle.std.proofs.Common.{◌≡◌, ◌<◌, ◌≤◌, ◌+◌, ◌*◌, ◌||◌, append-nil, ℕ, Bool, true, false, Option, None, Some, List, [], ◌∷◌, ◌++◌, length, set, get_or, replicate, refl, ap, ◌∙◌, sym, subst, inl, inr, arith, length-append}
 use Rattle.std.specs.Prelude.{if◌then◌else◌, ◌==◌, is_some, Result, Ok, Err, OnOk, OnErr}
 use Rattle.std.specs.BTreeSet.{insert_key as insert_ordered}
 use Rattle.std.specs.List.{All, list_any}
+use Rattle.std.proofs.Math.Bool.{or-false}
 use Rattle.std.proofs.lemmas.Bool.{cases_eq, cases_lt}
 use Rattle.std.proofs.lemmas.List.{get_or-set_same, get_or-set_other, get_or_append_left, get_or_push, length-set, get_or_default, get_or-replicate, length-replicate}
 use Rattle.std.proofs.lemmas.List.Elements.{filter_map-append}
 use Rattle.std.proofs.lemmas.List.Sums.{sum_by-set}
-use Rattle.std.proofs.lemmas.List.Folds.{sum_by-replicate}
-use Rattle.indexmap.specs.IndexSet.{insert_key}
+use Rattle.std.proofs.lemmas.List.Folds.{list_any-append, sum_by-replicate}
 use Rattle.blz_pool.specs.Pool.{number_of, with_record}
 use Rattle.blz_pool.proofs.Records.{number_of-none, number_of-lacks}
 use Rattle.blz_value.specs.Members.{Has}
@@ -20,35 +20,41 @@ use Rattle.blz_value.proofs.SetLaws.{Has-set_of, Has-from_set_of}
 use Rattle.messages.specs.Message.{is_same_row}
 use Rattle.messages.specs.Emitted.{Continues}
 use Rattle.messages.specs.Ids.{IsGiven}
+use Rattle.messages.specs.Numbers.{has_number, HasAlso}
 use Rattle.messages.specs.declared.message.Message.{Message as IdMessage}
 use Rattle.messages.specs.declared.message.Message.TheVariants.{Row, Seal}
 use Rattle.messages.proofs.EmittedLemmas.{continues_itself}
+use Rattle.messages.proofs.NumbersLemmas.{none_set}
 use Rattle.emitted.specs.Lists.{message_limit, total}
-use Rattle.emitted.specs.Ids.{id_in, ids_in, sealed_by, all_sealed, is_row_with, is_seal_of}
+use Rattle.emitted.specs.Ids.{AreIdsOf, sealed_by, all_sealed, is_row_with, is_seal_of}
 use Rattle.emitted.proofs.ListsLemmas.{IsPlaced, placed-on}
 
 -- ---- the index of ids
 
-ids_any : (id : ℕ) (list : List IdMessage) → list_any (eqb id) (ids_in list) ≡ list_any (is_row_with id) list
-ids_any id [] = refl
-ids_any id (Row other ∷ list) = ap (λ b. (id == other) || b) (ids_any id list)
-ids_any id (Seal key count ∷ list) = ids_any id list
+pub ids_none : (words : List ℕ) (list : List IdMessage) → words ≡ [] → list ≡ [] → AreIdsOf words list
+ids_none words list no_words empty id = ap (λ w. has_number w id) no_words ∙ none_set id ∙ sym (ap (list_any (is_row_with id)) empty)
 
-pub ids_test : (id n : ℕ) (list now : List IdMessage) (keys : List ℕ) → n ≡ id → keys ≡ ids_in list → list ≡ now → list_any (eqb n) keys ≡ list_any (is_row_with id) now
-ids_test id n list now keys same are is = ap (λ k. list_any (eqb k) keys) same ∙ ap (list_any (eqb id)) are ∙ ids_any id list ∙ ap (list_any (is_row_with id)) is
+pub ids_test : (id n : ℕ) (list now : List IdMessage) (words : List ℕ) → n ≡ id → AreIdsOf words list → list ≡ now → has_number words n ≡ list_any (is_row_with id) now
+ids_test id n list now words same are is = ap (has_number words) same ∙ are id ∙ ap (list_any (is_row_with id)) is
 
-pub ids_push : (list now new : List IdMessage) (keys next : List ℕ) (id n : ℕ) → n ≡ id → keys ≡ ids_in list → list ≡ now → list_any (is_row_with id) now ≡ false → next ≡ insert_key eqb keys n → new ≡ list ++ Row id ∷ [] → next ≡ ids_in new
-ids_push list now new keys next id n same are is none inserted pushed =
-    let fresh : list_any (eqb n) keys ≡ false = ids_test id n list now keys same are is ∙ none in
-    inserted
-    ∙ ap (λ b. if b then keys else keys ++ n ∷ []) fresh
-    ∙ ap (λ k. keys ++ k ∷ []) same
-    ∙ ap (λ l. l ++ id ∷ []) are
-    ∙ sym (ap ids_in pushed ∙ filter_map-append id_in list (Row id ∷ []))
+either : (a b : Bool) → a || b ≡ (b || (a || false))
+either true true = refl
+either true false = refl
+either false true = refl
+either false false = refl
 
-pub ids_seal : (list new : List IdMessage) (keys : List ℕ) (key : Record) (count : ℕ) → keys ≡ ids_in list → new ≡ list ++ Seal key count ∷ [] → keys ≡ ids_in new
-ids_seal list new keys key count are pushed =
-    are ∙ sym (ap ids_in pushed ∙ filter_map-append id_in list (Seal key count ∷ []) ∙ append-nil (ids_in list))
+pub ids_push : (list new : List IdMessage) (words next : List ℕ) (id n : ℕ) → n ≡ id → AreIdsOf words list → HasAlso n words next → new ≡ list ++ Row id ∷ [] → AreIdsOf next new
+ids_push list new words next id n same are also pushed other =
+    also other
+    ∙ ap (λ k. other == k || has_number words other) same
+    ∙ ap (λ b. other == id || b) (are other)
+    ∙ either (other == id) (list_any (is_row_with other) list)
+    ∙ sym (ap (list_any (is_row_with other)) pushed ∙ list_any-append (is_row_with other) list (Row id ∷ []))
+
+pub ids_seal : (list new : List IdMessage) (words : List ℕ) (key : Record) (count : ℕ) → AreIdsOf words list → new ≡ list ++ Seal key count ∷ [] → AreIdsOf words new
+ids_seal list new words key count are pushed other =
+    are other
+    ∙ sym (ap (list_any (is_row_with other)) pushed ∙ list_any-append (is_row_with other) list (Seal key count ∷ []) ∙ or-false (list_any (is_row_with other) list))
 
 -- ---- the index of seals
 

@@ -1,19 +1,17 @@
 -- The ids of the records of an emitted list.
-use Rattle.std.specs.Prelude.{ℕ, ◌==◌, ◌++◌, Bool, false, Option, Some, None, List, [], ◌∷◌, if◌then◌else◌}
+use Rattle.std.specs.Prelude.{◌≡◌, ℕ, ◌==◌, ◌++◌, Bool, false, Option, Some, None, List, [], ◌∷◌, if◌then◌else◌}
 use Rattle.std.specs.List.{list_any, filter_map}
 use Rattle.blz_value.specs.Record.{Row as Record}
 use Rattle.blz_value.specs.Operators.{cells}
 use Rattle.messages.specs.Message.{is_same_row}
 use Rattle.messages.specs.Log.{row_with_id}
+use Rattle.messages.specs.Numbers.{has_number}
 use Rattle.messages.specs.declared.message.Message.{Message as IdMessage}
 use Rattle.messages.specs.declared.message.Message.TheVariants.{Row, Seal}
 
 abbrev pub id_in : IdMessage → Option ℕ
 id_in (Row id) = Some id
 id_in (Seal key count) = None
-
-abbrev pub ids_in : List IdMessage → List ℕ
-ids_in list = filter_map id_in list
 
 -- the partition of a message, where it is a seal
 abbrev pub sealed_by : IdMessage → Option Record
@@ -28,6 +26,10 @@ all_sealed list = filter_map sealed_by list
 abbrev pub is_row_with : (id : ℕ) → IdMessage → Bool
 is_row_with id (Row other) = id == other
 is_row_with id (Seal key count) = false
+
+-- exactly the ids of a list's records have their bits in these words
+abbrev pub AreIdsOf : (words : List ℕ) → List IdMessage → Type 0
+AreIdsOf words list = (id : ℕ) → has_number words id ≡ list_any (is_row_with id) list
 
 -- the message is a seal of this partition
 abbrev pub is_seal_of : (key : Record) → IdMessage → Bool

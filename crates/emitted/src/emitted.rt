@@ -6,18 +6,17 @@ ghost use Rattle.messages.specs.declared.message.Message.TheVariants.{Row, Seal}
 
 use blz_pool::Id;
 use blz_value::Record;
-use indexmap::IndexSet;
-use messages::Message;
+use messages::{Message, NumberSet};
 use std::alloc::{AllocError, Global};
 use std::collections::BTreeSet;
 use std::marker::Model;
 
 /// The messages that a sender of a stream emitted, in order. Indexes tell whether a record stands
-/// among them, and whether a seal of a partition does.
+/// among them, by a bit for each id up to the greatest, and whether a seal of a partition does.
 #[derive(Drop)]
 pub struct Emitted {
     messages: Vec<Message>,
-    ids: IndexSet<u32>,
+    ids: NumberSet,
     seals: BTreeSet<Record>,
 }
 
@@ -25,13 +24,13 @@ impl Model for Emitted {
     ghost use Rattle.std.specs.Prelude.{◌≡◌, List};
     ghost use Rattle.blz_value.specs.Sets.{set_of};
     ghost use Rattle.messages.specs.declared.message.Message.{Message};
-    ghost use Rattle.emitted.specs.Ids.{ids_in, all_sealed};
+    ghost use Rattle.emitted.specs.Ids.{AreIdsOf, all_sealed};
 
     ghost Value = { List Message };
 
     ghost view = { λ list. list.messages.items };
 
-    ghost invariant = { λ list. (list.ids.keys ≡ ids_in list.messages.items) × (list.seals.keys ≡ set_of (all_sealed list.messages.items)) };
+    ghost invariant = { λ list. AreIdsOf list.ids list.messages.items × (list.seals.keys ≡ set_of (all_sealed list.messages.items)) };
 }
 
 impl Emitted {
@@ -41,7 +40,7 @@ impl Emitted {
     {
         Emitted {
             messages: Vec::new(alloc),
-            ids: IndexSet::new(alloc),
+            ids: NumberSet::new(alloc),
             seals: BTreeSet::new(alloc),
         }
     }
@@ -71,7 +70,7 @@ impl Emitted {
     pub fn has_row(&self, id: Id) -> bool
         ensures { result ≡ list_any (is_row_with id) self.now }
     {
-        self.ids.contains(&id.number())
+        self.ids.contains(id.number())
     }
 
     /// Whether a seal of a partition stands in the list, by the index.
@@ -89,11 +88,11 @@ impl Emitted {
         ensures err { OnErr result (self.new ≡ self.old) }
     {
         self.messages.push(Message::Row(id))?;
-        match self.ids.insert(id.number()) {
+        match self.ids.add(id.number()) {
             Ok(_) => Ok(()),
             Err(error) => {
                 let _ = self.messages.pop();
-                Err(AllocError::from(error))
+                Err(error)
             }
         }
     }

@@ -58,6 +58,7 @@ impl Feed {
         ensures few { (most : ℕ) → number < most → length self.old.counts.items ≤ most → length self.new.counts.items ≤ most }
         ensures err { OnErr result ((n : ℕ) → have_at self.new.counts.items n ≡ have_at self.old.counts.items n) }
     {
+        // Tells the prover that the counter has room for one more.
         let _heard = self.known.count();
         if self.known.add(id)? {
             count_row(&mut self.counts, number)?;

@@ -113,6 +113,7 @@ fn hear_row_at(
     let was = feeds[feed as usize].lacks(number);
     feeds[feed as usize].hear_row(number, id)?;
     let now = feeds[feed as usize].lacks(number);
+    // Tells the prover that the count has room for one more.
     let _most = feeds.len();
     lacking[number] = moved(lacking[number], was, now);
     Ok(())
@@ -135,6 +136,7 @@ fn hear_seal_at(
     let was = feeds[feed as usize].lacks(number);
     feeds[feed as usize].hear_seal(number, count)?;
     let now = feeds[feed as usize].lacks(number);
+    // Tells the prover that the count has room for one more.
     let _most = feeds.len();
     lacking[number] = moved(lacking[number], was, now);
     Ok(())

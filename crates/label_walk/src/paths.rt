@@ -6,7 +6,7 @@ ghost use Rattle.label_walk.specs.Paths as spec;
 
 use label_rules::{Label, PathLabel, pass_path};
 use std::alloc::{AllocError, Global};
-use topo_types::{Attrs, Fd, Mode, Note, Valid, usable};
+use topo_types::{Attrs, Fd, Mode, Note, Valid, goes_to, usable};
 
 /// The label of a stream. Each stream has one.
 pub(crate) fn label_at(labels: &[Label], stream: u32) -> Label
@@ -55,20 +55,6 @@ pub fn usable_fds(alloc: Global, valid: &Valid, component: u32) -> Result<Vec<Fd
         }
     }
     Ok(fds)
-}
-
-/// Whether a stream goes to a port.
-pub fn goes_to(valid: &Valid, component: u32, port: u32, stream: u32) -> bool
-    requires { stream < length valid.now.view.streams }
-    ensures { result ≡ view.goes_to valid.now.view component port stream }
-{
-    for n in 0..valid.to_count(stream) {
-        let (other, there) = valid.to(stream, n);
-        if component == other && port == there {
-            return true;
-        }
-    }
-    false
 }
 
 #[tactic(auto, using(crate::proofs::Loops::below_steps))]

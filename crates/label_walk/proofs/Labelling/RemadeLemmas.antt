@@ -1,11 +1,10 @@
 -- The labels that the walk makes anew are those of the region by its definition.
-use Rattle.std.proofs.Common.{◌≡◌, ◌<◌, ℕ, Bool, true, false, if◌then◌else◌, Option, None, Some, List, [], length, get_or, take, take_all, fold, refl, arith, ap, sym, subst, ◌∙◌}
+use Rattle.std.proofs.Common.{◌≡◌, ◌<◌, ℕ, Bool, true, false, if◌then◌else◌, Option, None, Some, List, length, take, take_all, fold, refl, arith, ap, sym, subst, ◌∙◌}
 use Rattle.std.specs.Option.{option_map_or}
 use Rattle.std.proofs.lemmas.Bool.{true≢false}
 use Rattle.blz_value.proofs.Membership.{Has-get_or}
 use Rattle.fd_closure.specs.declared.attrs.Fd.{Fd}
 use Rattle.topo_types.specs.declared.mode.Mode.{Mode}
-use Rattle.topo_types.specs.declared.mode.Mode.TheVariants.{Free}
 use Rattle.topo_types.specs.Dependencies.{usable_fds}
 use Rattle.topo_types.specs.Graph.{is_in, is_cyclic_set}
 use Rattle.topo_types.specs.Regions.{edges, region_set, regions, is_in_cycle, is_cyclic}

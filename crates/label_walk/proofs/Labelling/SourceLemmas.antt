@@ -1,5 +1,5 @@
 -- A source carries the key that it declares.
-use Rattle.std.proofs.Common.{◌≡◌, ◌<◌, ℕ, Bool, true, nat_eq, if◌then◌else◌, Option, None, Some, length, refl, arith, rules, ap, sym, subst, ◌∙◌}
+use Rattle.std.proofs.Common.{◌≡◌, ◌<◌, ℕ, Bool, true, nat_eq, if◌then◌else◌, Option, None, Some, length, refl, arith, rules, ap, ◌∙◌}
 use Rattle.std.specs.Option.{option_and_then}
 use Rattle.fd_closure.specs.declared.attrs.Attrs.{Attrs}
 use Rattle.topo_types.specs.Carried.{is_key, key_before, carries, carries_key}

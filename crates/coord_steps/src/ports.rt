@@ -4,8 +4,7 @@ ghost use Rattle.std.specs.List.{find, list_all};
 ghost use Rattle.topo_types.specs.Carried as carried;
 ghost use Rattle.topo_types.specs.View as view;
 
-use label_walk::goes_to;
-use topo_types::{Attrs, Valid, carries};
+use topo_types::{Attrs, Valid, carries, goes_to};
 
 // The first stream into a port.
 fn first_into(valid: &Valid, component: u32, port: u32) -> Option<u32>

@@ -10,9 +10,9 @@ ghost use Rattle.topo_types.specs.View as view;
 
 use crate::goodness::{is_bad, label_of};
 use label_rules::{PathLabel, pass_path, reconcile};
-use label_walk::{Labels, goes_to, port_attrs, usable_fds};
+use label_walk::{Labels, port_attrs, usable_fds};
 use std::alloc::{AllocError, Global};
-use topo_types::{Fd, Mode, Note, Valid};
+use topo_types::{Fd, Mode, Note, Valid, goes_to};
 
 // Adds the labels of the paths of all streams into a port of a component.
 #[tactic(auto, using(label_walk::proofs::Loops::below_steps))]

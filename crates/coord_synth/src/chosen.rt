@@ -7,8 +7,7 @@ use std::alloc::{AllocError, Global};
 use topo_modes::with_mode;
 use topo_types::{Mode, Valid};
 
-/// The topology with this mode at the component, or as it is where none was chosen. A mode costs a
-/// copy of the topology.
+/// The topology with this mode at the component, or as it is where none was chosen.
 pub(crate) fn with_chosen(
     alloc: Global,
     now: Valid,
@@ -19,7 +18,7 @@ pub(crate) fn with_chosen(
     ensures { IfOk result (λ next. next ≡ code.with_chosen now component chosen) }
 {
     match chosen {
-        Some(mode) => with_mode(alloc, &now, component, mode),
+        Some(mode) => with_mode(alloc, now, component, mode),
         None => Ok(now),
     }
 }

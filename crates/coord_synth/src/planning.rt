@@ -83,8 +83,9 @@ fn planned_by(alloc: Global, steps: Steps, valid: &Valid) -> Result<Valid, Alloc
 /// replicas would differ they take what arrives in one order. After planning no stream is worse
 /// than Run, and each stream of a component in mode Pass or Seal is Seal or Async.
 ///
-/// Modes alone change, and what is written Order stays so. Each component costs the labels of a
-/// topology, each key that is tried those of one component, and each mode that is set a copy.
+/// Modes alone change, and what is written Order stays so. The topology is copied once. Each
+/// component costs the labels of a topology, each key that is tried those of one component, and
+/// each mode that is set what is found of a topology.
 pub fn plan(alloc: Global, valid: &Valid) -> Result<Valid, AllocError>
     ensures view { IfOk result (λ planned. planned.view ≡ spec.planned valid.now.view) }
     ensures topology { IfOk result (λ planned. planned.topology ≡ spec.topology_with_modes valid.now.topology (spec.planned valid.now.view)) }

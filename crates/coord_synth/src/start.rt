@@ -21,8 +21,7 @@ fn freed_mode(valid: &Valid, component: u32) -> Option<Mode>
     }
 }
 
-// The topology in which the component is Free where it isn't Order. One that is Free already isn't
-// copied.
+// The topology in which the component is Free where it isn't Order.
 fn free_component(alloc: Global, now: Valid, component: u32) -> Result<Valid, AllocError>
     requires { component < length now.view.components }
     ensures { IfOk result (λ next. next ≡ code.free_component now component) }

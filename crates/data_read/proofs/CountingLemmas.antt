@@ -1,5 +1,5 @@
 -- Rows and parts that nowhere pass the limit are few, and each once they are no more.
-use Rattle.std.proofs.Common.{◌≡◌, ◌≤◌, ◌+◌, ℕ, suc, Bool, true, false, not, nat_lt, cond, List, [], ◌∷◌, map, filter, length, Option, Some, None, Result, Ok, Err, OnOk, refl, ap, subst, sym, arith}
+use Rattle.std.proofs.Common.{◌≡◌, ◌≤◌, ◌+◌, ℕ, suc, Bool, true, false, not, nat_lt, cond, List, [], ◌∷◌, map, filter, length, Option, Some, None, Ok, refl, subst, sym, arith}
 use Rattle.std.specs.List.{sum_by}
 use Rattle.std.proofs.lemmas.Bool.{ltb-false}
 use Rattle.std.proofs.lemmas.List.Sums.{sum_by-cons}
@@ -8,9 +8,7 @@ use Rattle.topo_types.specs.Data.{Data, SourceData}
 use Rattle.topo_types.specs.Messages.{distinct_rows, is_same_row}
 use Rattle.topo_types.specs.View.{View}
 use Rattle.data_read.specs.Counting.{source_limit, count_of, passed_at, few, counted, AreFew}
-use Rattle.data_read.specs.Gives.{Gives}
 use Rattle.data_read.specs.Making.{distinct_lists}
-use Rattle.data_read.specs.declared.fault.DataFault.{DataFault}
 
 few_from : (so_far s : ℕ) (lists : List SourceData) → so_far ≤ source_limit → passed_at so_far s lists ≡ None → so_far + sum_by count_of lists ≤ source_limit
 few_from so_far s [] le none = omega arith

@@ -1,15 +1,15 @@
--- The distinct records of a list with one more, and the set that knows them.
-use Rattle.std.proofs.Common.{◌≡◌, Bool, true, false, cond, not, ◌||◌, List, [], ◌∷◌, ◌++◌, filter, if◌then◌else◌, refl, ap, sym, ◌∙◌, inl, inr}
-use Rattle.std.specs.BTreeSet.{BTreeSet, contains}
+-- The distinct records of a list with one more.
+use Rattle.std.proofs.Common.{◌≡◌, Bool, true, false, not, ◌||◌, List, [], ◌∷◌, ◌++◌, filter, if◌then◌else◌, refl, ap, sym, ◌∙◌, inl, inr}
 use Rattle.std.specs.List.{list_any}
-use Rattle.std.specs.Ordering.{is_eq}
 use Rattle.std.proofs.lemmas.List.{append-nil}
 use Rattle.std.proofs.lemmas.List.Elements.{filter-append}
-use Rattle.std.proofs.lemmas.List.Folds.{list_any-append}
 use Rattle.blz_value.specs.Members.{Has}
-use Rattle.blz_value.specs.Record.{Row, record_cmp}
+use Rattle.blz_value.specs.Record.{Row}
 use Rattle.blz_value.proofs.Membership.{Has-from_filter}
+use Rattle.indexmap.specs.IndexSet.{insert_key}
 use Rattle.topo_types.specs.Messages.{is_same_row, distinct_rows}
+use Rattle.data_read.specs.Broken.{same}
+use Rattle.data_read.proofs.EarliestLemmas.{same-is, same-sym}
 
 -- a record stands in a list
 abbrev pub is_among : List Row → Row → Bool
@@ -30,52 +30,38 @@ distinct_rows-more (y ∷ ys) x =
     ∙ ap (λ rest. y ∷ rest) (filter-append (λ z. not (is_same_row y z)) (distinct_rows ys) (if_new ys x)
     ∙ ap (λ rest. filter (λ z. not (is_same_row y z)) (distinct_rows ys) ++ rest) (new_or_not y x (is_among ys x)))
 
--- a set knows the records of a list, and no others
-pub record Knows (known : BTreeSet Row) (rows : List Row) : Type 0 where
-  pub each : (row : Row) → contains record_cmp known row ≡ is_among rows row
-
-pub knows_none : (known : BTreeSet Row) → ((row : Row) → contains record_cmp known row ≡ false) → Knows known []
-knows_none known none = record { each = none }
-
-pub knows_more : (known new : BTreeSet Row) (rows : List Row) (row : Row) → Knows known rows
-    → ((other : Row) → contains record_cmp new other ≡ cond (is_eq (record_cmp row other)) true (contains record_cmp known other)) → Knows new (rows ++ row ∷ [])
-knows_more known new rows row knows updates = record {
-  each = λ other. updates other ∙ rw (knows.each other, list_any-append (λ y. is_same_row y other) rows (row ∷ [])) (both (is_eq (record_cmp row other)) (is_among rows other));
-}
-  where
-    both : (c b : Bool) → cond c true b ≡ (b || (c || false))
-    both true true = refl
-    both true false = refl
-    both false true = refl
-    both false false = refl
-
 -- each distinct record is one of the list
 pub Has-from_distinct : (q : Row) (xs : List Row) → Has q (distinct_rows xs) → Has q xs
 Has-from_distinct q [] h = h
 Has-from_distinct q (x ∷ xs) (inl e) = inl e
 Has-from_distinct q (x ∷ xs) (inr h) = inr (Has-from_distinct q xs (Has-from_filter (λ y. not (is_same_row x y)) q (distinct_rows xs) h).0)
 
--- a record that was new goes last
-pub kept_new : (rows : List Row) (row key : Row) (known : BTreeSet Row) (b : Bool) → key ≡ row → Knows known rows → b ≡ not (contains record_cmp known key) → b ≡ true
-    → distinct_rows (rows ++ row ∷ []) ≡ distinct_rows rows ++ row ∷ []
-kept_new rows row key known b same knows added new =
-    distinct_rows-more rows row ∙ ap (λ c. distinct_rows rows ++ (if c then [] else row ∷ [])) (off (is_among rows row) (sym new ∙ added ∙ ap not (knows.each key ∙ ap (is_among rows) same)))
-  where
-    off : (c : Bool) → true ≡ not c → c ≡ false
-    off true e = e
-    off false e = refl
+-- ---- with one more inserted
 
--- and a record that was known changes nothing
-pub kept_old : (rows : List Row) (row key : Row) (known : BTreeSet Row) (b : Bool) → key ≡ row → Knows known rows → b ≡ not (contains record_cmp known key) → b ≡ false
-    → distinct_rows (rows ++ row ∷ []) ≡ distinct_rows rows
-kept_old rows row key known b same knows added old =
-    distinct_rows-more rows row ∙ ap (λ c. distinct_rows rows ++ (if c then [] else row ∷ [])) (on (is_among rows row) (sym old ∙ added ∙ ap not (knows.each key ∙ ap (is_among rows) same))) ∙ append-nil (distinct_rows rows)
+any_kept : (row x : Row) (zs : List Row) → same row x ≡ false → list_any (same row) (filter (λ z. not (is_same_row x z)) zs) ≡ list_any (same row) zs
+any_kept row x [] off = refl
+any_kept row x (z ∷ zs) off = go (is_same_row x z) refl (any_kept row x zs off)
   where
-    on : (c : Bool) → false ≡ not c → c ≡ true
-    on true e = refl
-    on false e = e
+    go : (b : Bool) → is_same_row x z ≡ b → list_any (same row) (filter (λ z. not (is_same_row x z)) zs) ≡ list_any (same row) zs
+        → list_any (same row) (filter (λ z. not (is_same_row x z)) (z ∷ zs)) ≡ list_any (same row) (z ∷ zs)
+    go true e rest = let gone : same row z ≡ false = ap (same row) (sym (same-is x z e)) ∙ off in rw (e, gone) rest
+    go false e rest = rw e (ap (λ b. same row z || b) rest)
 
-pub knows_next : (known new : BTreeSet Row) (rows : List Row) (row key : Row) → key ≡ row → Knows known rows
-    → ((other : Row) → contains record_cmp new other ≡ cond (is_eq (record_cmp key other)) true (contains record_cmp known other)) → Knows new (rows ++ row ∷ [])
-knows_next known new rows row key same knows updates =
-    knows_more known new rows row knows (λ other. updates other ∙ ap (λ k. cond (is_eq (record_cmp k other)) true (contains record_cmp known other)) same)
+-- a record stands among the distinct ones where it stands in the list
+any_distinct : (row : Row) (rows : List Row) → list_any (same row) (distinct_rows rows) ≡ is_among rows row
+any_distinct row [] = refl
+any_distinct row (x ∷ xs) = go (same row x) refl (any_distinct row xs)
+  where
+    go : (b : Bool) → same row x ≡ b → list_any (same row) (distinct_rows xs) ≡ is_among xs row
+        → (same row x || list_any (same row) (filter (λ z. not (is_same_row x z)) (distinct_rows xs))) ≡ (is_same_row x row || is_among xs row)
+    go true e rest = let other : is_same_row x row ≡ true = same-sym x row ∙ e in rw (e, other) refl
+    go false e rest = let other : is_same_row x row ≡ false = same-sym x row ∙ e in rw (e, other) (any_kept row x (distinct_rows xs) e ∙ rest)
+
+pub kept_distinct : (rows : List Row) (row : Row) (old new : List Row) → old ≡ distinct_rows rows → new ≡ insert_key same old row → new ≡ distinct_rows (rows ++ row ∷ [])
+kept_distinct rows row old new was is =
+    is ∙ ap (λ ks. insert_key same ks row) was ∙ ap (λ b. if b then distinct_rows rows else distinct_rows rows ++ row ∷ []) (any_distinct row rows)
+    ∙ turned (is_among rows row) ∙ sym (distinct_rows-more rows row)
+  where
+    turned : (b : Bool) → (if b then distinct_rows rows else distinct_rows rows ++ row ∷ []) ≡ distinct_rows rows ++ (if b then [] else row ∷ [])
+    turned true = sym (append-nil (distinct_rows rows))
+    turned false = refl

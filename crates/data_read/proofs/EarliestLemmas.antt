@@ -3,22 +3,18 @@
 -- Where no two earlier records disagree, those that agree with one of them on one side are those that agree with it on the other. So the
 -- earliest that agree with the new one on the two sides are the same record, and then nothing disagrees with it, or all that agree on
 -- either side disagree with it.
-use Rattle.std.proofs.Common.{◌≡◌, ℕ, suc, ◌+◌, ◌-◌, ◌<◌, ◌≤◌, ◌==◌, min, Bool, true, false, cond, Option, None, Some, option_map, IfSome, List, [], ◌∷◌, ◌++◌, length, get_or, refl, ap, sym, subst, ◌∙◌, inl, inr, ◌⊎◌, arith, if◌then◌else◌}
-use Rattle.std.specs.BTreeMap.{BTreeMap, get}
+use Rattle.std.proofs.Common.{◌≡◌, ℕ, suc, ◌+◌, ◌-◌, ◌<◌, ◌≤◌, ◌==◌, min, Bool, true, false, Option, None, Some, option_map, IfSome, List, [], ◌∷◌, ◌++◌, length, get_or, refl, ap, sym, subst, ◌∙◌, inl, inr, ◌⊎◌, arith, if◌then◌else◌}
 use Rattle.std.specs.Cmp.{eq_by_cmp_equiv}
 use Rattle.std.specs.List.{position_from}
-use Rattle.std.specs.Borrow.{Bor}
-use Rattle.std.specs.Option.{is_some, option_copied}
-use Rattle.std.specs.Ordering.{is_eq}
-use Rattle.std.proofs.lemmas.Bool.{cases_Bool, true≢false}
+use Rattle.std.proofs.lemmas.Bool.{cases_Bool}
 use Rattle.std.proofs.lemmas.Bool.Decides.{nat_tests}
 use Rattle.std.proofs.lemmas.Map.Views.{tells_apart}
 use Rattle.blz_value.specs.Members.{Has}
-use Rattle.blz_value.specs.Record.{Row, record_cmp}
+use Rattle.blz_value.specs.Record.{Row}
 use Rattle.blz_value.specs.RecordOrder.{record_cmp_total, record_cmp_exact}
 use Rattle.blz_value.proofs.Membership.{Has-append_cases}
 use Rattle.data_read.specs.Broken.{Sides, same, differ, disagree, first_such}
-use Rattle.data_read.specs.Code.Earliest.{place_by_from, place_by_to, AreEarliest, one_place, kept_or}
+use Rattle.data_read.specs.Code.Earliest.{place_by_from, place_by_to, one_place}
 
 -- ---- records as values
 
@@ -160,88 +156,72 @@ such_at test i (x ∷ xs) d = elim (cases_Bool (test x)) [
     shift None h = refl
     shift (Some k) h = let next : k - i ≡ suc (k - (i + 1)) = omega arith in ap Some (sym (ap (λ n. get_or (x ∷ xs) n d) next))
 
--- ---- the two maps
+-- ---- the first records, by number
 
-module _ (earlier : List Sides) (agree : AllAgree earlier) (by_from by_to : BTreeMap Row ℕ) (maps : AreEarliest earlier by_from by_to) (x d : Sides) where
+module _ (firsts : List Sides) (agree : AllAgree firsts) (x d : Sides) where
   abbrev from_test : Sides → Bool
   from_test y = same x.from y.from
 
   abbrev to_test : Sides → Bool
   to_test y = same x.to y.to
 
-  alike : (a b : Sides) → Has a earlier → Has b earlier → from_test a ≡ true → to_test a ≡ true → from_test b ≡ to_test b
+  alike : (a b : Sides) → Has a firsts → Has b firsts → from_test a ≡ true → to_test a ≡ true → from_test b ≡ to_test b
   alike a b m n e f =
       ap (λ r. same r b.from) (same-is x.from a.from e) ∙ agree a b m n ∙ ap (λ r. same r b.to) (sym (same-is x.to a.to f))
 
-  pub found_place : position_from (disagree x) 0 earlier ≡ one_place (get record_cmp by_from x.from) (get record_cmp by_to x.to)
-  found_place = place_of_one from_test to_test 0 earlier alike ∙ rw (maps.from x.from, maps.to x.to) refl
+  pub found_place : position_from (disagree x) 0 firsts ≡ one_place (place_by_from firsts x.from) (place_by_to firsts x.to)
+  found_place = place_of_one from_test to_test 0 firsts alike
 
-  pub found_such : first_such (disagree x) earlier ≡ option_map (λ k. get_or earlier k d) (one_place (get record_cmp by_from x.from) (get record_cmp by_to x.to))
-  found_such = such_at (disagree x) 0 earlier d ∙ ap (option_map (λ k. get_or earlier (k - 0) d)) found_place ∙ same_places (one_place (get record_cmp by_from x.from) (get record_cmp by_to x.to))
+  pub found_such : first_such (disagree x) firsts ≡ option_map (λ k. get_or firsts k d) (one_place (place_by_from firsts x.from) (place_by_to firsts x.to))
+  found_such = such_at (disagree x) 0 firsts d ∙ ap (option_map (λ k. get_or firsts (k - 0) d)) found_place ∙ same_places (one_place (place_by_from firsts x.from) (place_by_to firsts x.to))
     where
-      same_places : (o : Option ℕ) → option_map (λ k. get_or earlier (k - 0) d) o ≡ option_map (λ k. get_or earlier k d) o
+      same_places : (o : Option ℕ) → option_map (λ k. get_or firsts (k - 0) d) o ≡ option_map (λ k. get_or firsts k d) o
       same_places None = refl
-      same_places (Some k) = let none : k - 0 ≡ k = omega arith in ap (λ n. Some (get_or earlier n d)) none
+      same_places (Some k) = let none : k - 0 ≡ k = omega arith in ap (λ n. Some (get_or firsts n d)) none
 
--- one more record
-place_last : (f : Sides → Row) (key : Row) (i : ℕ) (xs : List Sides) (x : Sides)
-    → position_from (λ y. same key (f y)) i (xs ++ x ∷ []) ≡ kept_or (position_from (λ y. same key (f y)) i xs) (if same key (f x) then Some (i + length xs) else None)
-place_last f key i [] x = elim (same key (f x)) as (λ b. cond b (Some i) None ≡ (if b then Some (i + 0) else None)) [ true ↦ ap Some (omega arith) | false ↦ refl ]
-place_last f key i (y ∷ ys) x = elim (cases_Bool (same key (f y))) [
+-- ---- one more record
+
+abbrev such_or : Option Sides → Option Sides → Option Sides
+such_or None other = other
+such_or (Some y) other = Some y
+
+such_more : (test : Sides → Bool) (xs : List Sides) (x : Sides) → first_such test (xs ++ x ∷ []) ≡ such_or (first_such test xs) (if test x then Some x else None)
+such_more test [] x = refl
+such_more test (y ∷ ys) x = elim (cases_Bool (test y)) [
   | inl t ↦ rw t refl
-  | inr e ↦ (let more : i + 1 + length ys ≡ i + suc (length ys) = omega arith in rw e (place_last f key (i + 1) ys x ∙ rw more refl))
+  | inr f ↦ rw f (such_more test ys x)
 ]
 
--- the map keeps the place of a new record where its key has none
-abbrev pub Keeps : BTreeMap Row ℕ → BTreeMap Row ℕ → Row → ℕ → Type 0
-Keeps old new key place = (other : Row) → get record_cmp new other ≡ kept_or (get record_cmp old other) (if same other key then Some place else None)
+-- where the first such among some records is that among others, it is so with one more
+pub such_next : (test : Sides → Bool) (xs firsts : List Sides) (x : Sides) → first_such test xs ≡ first_such test firsts
+    → first_such test (xs ++ x ∷ []) ≡ first_such test (firsts ++ x ∷ [])
+such_next test xs firsts x e = such_more test xs x ∙ ap (λ o. such_or o (if test x then Some x else None)) e ∙ sym (such_more test firsts x)
 
-pub earliest_more : (earlier : List Sides) (x : Sides) (by_from by_to new_from new_to : BTreeMap Row ℕ) → AreEarliest earlier by_from by_to
-    → Keeps by_from new_from x.from (length earlier) → Keeps by_to new_to x.to (length earlier) → AreEarliest (earlier ++ x ∷ []) new_from new_to
-earliest_more earlier x by_from by_to new_from new_to maps f t = record {
-  from = λ key. f key ∙ ap (λ o. kept_or o (if same key x.from then Some (length earlier) else None)) (maps.from key) ∙ sym (place_last (λ y. y.from) key 0 earlier x ∙ at (same key x.from) (place_by_from earlier key));
-  to = λ key. t key ∙ ap (λ o. kept_or o (if same key x.to then Some (length earlier) else None)) (maps.to key) ∙ sym (place_last (λ y. y.to) key 0 earlier x ∙ at (same key x.to) (place_by_to earlier key));
-}
+-- and where one like it is among the others, it is so without it there
+pub such_known : (test : Sides → Bool) (xs firsts : List Sides) (x y : Sides) → first_such test xs ≡ first_such test firsts → Has y firsts → test x ≡ test y
+    → first_such test (xs ++ x ∷ []) ≡ first_such test firsts
+such_known test xs firsts x y e h same_test = such_more test xs x ∙ ap (λ o. such_or o (if test x then Some x else None)) e ∙ go (first_such test firsts) refl
   where
-    at : (b : Bool) (o : Option ℕ) → kept_or o (if b then Some (0 + length earlier) else None) ≡ kept_or o (if b then Some (length earlier) else None)
-    at b o = let none : 0 + length earlier ≡ length earlier = omega arith in rw none refl
+    go : (o : Option Sides) → first_such test firsts ≡ o → such_or o (if test x then Some x else None) ≡ o
+    go (Some z) f = refl
+    go None f = let off : test x ≡ false = same_test ∙ none_such test firsts y f h in rw off refl
 
--- what an insert leaves at a key that had no place
-pub keeps_new : (old new : BTreeMap Row ℕ) (key : Row) (place : ℕ) → get record_cmp old key ≡ None
-    → ((other : Row) → get record_cmp new other ≡ cond (is_eq (record_cmp key other)) (Some place) (get record_cmp old other)) → Keeps old new key place
-keeps_new old new key place none updates other = updates other ∙ go (same key other) refl
+-- a record at which a test holds stands among those of which the first has a number
+some_has : (test : Sides → Bool) (i : ℕ) (xs : List Sides) (k : ℕ) → position_from test i xs ≡ Some k → (y : Sides) × Has y xs × (test y ≡ true)
+some_has test i [] k e = cc
+some_has test i (x ∷ xs) k e = elim (cases_Bool (test x)) [
+  | inl t ↦ (x, inl refl, t)
+  | inr f ↦ (let rest : position_from test (i + 1) xs ≡ Some k = rw f at e in later (some_has test (i + 1) xs k rest))
+]
   where
-    kept : (o : Option ℕ) → o ≡ kept_or o None
-    kept None = refl
-    kept (Some n) = refl
+    later : (y : Sides) × Has y xs × (test y ≡ true) → (y : Sides) × Has y (x ∷ xs) × (test y ≡ true)
+    later h = (h.0, inr h.1, h.2)
 
-    go : (b : Bool) → same key other ≡ b → cond b (Some place) (get record_cmp old other) ≡ kept_or (get record_cmp old other) (if same other key then Some place else None)
-    go true e =
-        let gone : get record_cmp old other ≡ None = ap (get record_cmp old) (sym (same-is key other e)) ∙ none in
-        let alike : same other key ≡ true = same-sym other key ∙ e in
-        rw (gone, alike) refl
-    go false e = let apart : same other key ≡ false = same-sym other key ∙ e in rw apart (kept (get record_cmp old other))
-
--- and a key that has one leaves all as it is
-pub keeps_old : (old : BTreeMap Row ℕ) (key : Row) (place : ℕ) → is_some (get record_cmp old key) ≡ true → Keeps old old key place
-keeps_old old key place held other = go (same other key) refl
-  where
-    some : (o : Option ℕ) → is_some o ≡ true → o ≡ kept_or o (Some place)
-    some None e = absurd (true≢false (sym e))
-    some (Some n) e = refl
-
-    none : (o : Option ℕ) → o ≡ kept_or o None
-    none None = refl
-    none (Some n) = refl
-
-    go : (b : Bool) → same other key ≡ b → get record_cmp old other ≡ kept_or (get record_cmp old other) (if b then Some place else None)
-    go false e = none (get record_cmp old other)
-    go true e = some (get record_cmp old other) (ap (λ k. is_some (get record_cmp old k)) (same-is other key e) ∙ held)
-
-pub no_copy : (o : Option (Bor ℕ)) → is_some o ≡ false → option_copied o ≡ None
-no_copy None e = refl
-no_copy (Some x) e = absurd (true≢false e)
-
-pub some_copy : (o : Option (Bor ℕ)) → is_some o ≡ true → is_some (option_copied o) ≡ true
-some_copy None e = e
-some_copy (Some x) e = refl
+-- a record whose values on one side are known, and which disagrees with none, adds nothing
+pub nothing_new : (xs firsts : List Sides) (x z : Sides) (k : ℕ) → first_such (disagree z) xs ≡ first_such (disagree z) firsts → first_such (disagree x) firsts ≡ None
+    → place_by_from firsts x.from ≡ Some k → first_such (disagree z) (xs ++ x ∷ []) ≡ first_such (disagree z) firsts
+nothing_new xs firsts x z k e none known =
+    let y = some_has (λ y. same x.from y.from) 0 firsts k known in
+    let from : x.from ≡ y.0.from = same-is x.from y.0.from y.2 in
+    let to : x.to ≡ y.0.to = same-is x.to y.0.to (sym (differ_none (same x.from y.0.from) (same x.to y.0.to) (none_such (disagree x) firsts y.0 none y.1)) ∙ y.2) in
+    such_known (disagree z) xs firsts x y.0 e y.1 (ap (λ r. differ (same z.from r) (same z.to x.to)) from ∙ ap (λ r. differ (same z.from y.0.from) (same z.to r)) to)

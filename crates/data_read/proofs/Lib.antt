@@ -9,6 +9,7 @@ pub mod KeyOfSource
 pub mod DistinctLemmas
 pub mod CountingLemmas
 pub mod EarliestLemmas
+pub mod SidesLemmas
 pub mod PairLemmas
 pub mod MakingLemmas
 pub mod FormLemmas

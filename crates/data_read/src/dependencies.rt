@@ -1,91 +1,51 @@
 //! Whether the records of all sources hold the dependencies.
-ghost use Rattle.std.specs.Prelude.{◌≡◌, ◌++◌, ◌<◌, ◌≤◌, [], None, Some, if◌then◌else◌, IfOk, OnOk, length, map, option_map};
-ghost use Rattle.blz_value.specs.Record.{Row, record_cmp};
+ghost use Rattle.std.specs.Prelude.{◌≡◌, ◌++◌, ◌<◌, ◌≤◌, [], IfOk, OnOk, length, map, option_map};
+ghost use Rattle.std.specs.List.{flat_map};
 ghost use Rattle.blz_value.specs.Test.{cell};
 ghost use Rattle.data_read.specs.Broken as spec;
-ghost use Rattle.data_read.specs.Code.Earliest.{one_place, kept_or, sides_at, sides_view};
+ghost use Rattle.data_read.specs.Code.Earliest.{IsRowAt, if_known, number_of, one_place, placed_sides, sides_view, values_of, with_side};
 ghost use Rattle.data_read.specs.Gives.{Gives};
-ghost use Rattle.std.specs.BTreeMap.{get};
 ghost use Rattle.topo_types.specs.Data as held;
 ghost use Rattle.topo_types.specs.View as view;
 
 use crate::columns::{attributes_of, columns_of, places_of};
 use crate::data::Lists;
 use crate::fault::DataFault;
-use blz_value::{Record, Value};
+use crate::sides::{Side, SideSet};
+use blz_value::Record;
+use indexmap::IndexSet;
 use std::alloc::{AllocError, Global};
-use std::collections::BTreeMap;
+use std::hash::BuildHasherDefault;
 use topo_types::{Attrs, Fd, Valid};
 
-/// A record with its values on the two sides of a dependency.
+/// The records of a source that has all columns of a dependency, and the places of the columns of its two
+/// sides.
+#[derive(Drop)]
+pub(crate) struct Placed<'a> {
+    pub(crate) from: Vec<usize>,
+    pub(crate) to: Vec<usize>,
+    pub(crate) rows: &'a [Record],
+}
+
+/// A record, and the places of its values on the two sides of a dependency.
 #[derive(Drop)]
 pub(crate) struct Sided<'a> {
-    pub(crate) from: Record,
-    pub(crate) to: Record,
     pub(crate) row: &'a Record,
+    pub(crate) from: &'a [usize],
+    pub(crate) to: &'a [usize],
 }
 
-fn cell_at(row: &Record, place: usize) -> Result<Value, AllocError>
-    ensures { IfOk result (λ value. value ≡ cell row.now place) }
-{
-    match row.values().get(place) {
-        Some(value) => value.copy(),
-        None => Ok(Value::Int(0)),
-    }
-}
-
-// The values of a record at some places.
-fn values_at(alloc: Global, places: &[usize], row: &Record) -> Result<Record, AllocError>
-    ensures { IfOk result (λ values. values ≡ map (cell row.now) places.now) }
-{
-    let mut values = Vec::with_capacity(alloc, places.len())?;
-    for place in places {
-        values.push(cell_at(row, *place)?)?;
-    }
-    Ok(Record::from_values(values))
-}
-
-fn with_sides<'a>(
-    alloc: Global,
-    from: &[usize],
-    to: &[usize],
-    row: &'a Record,
-) -> Result<Sided<'a>, AllocError>
-    ensures { IfOk result (λ sides. sides_view sides ≡ sides_at from.now to.now row.now) }
-{
-    Ok(Sided {
-        from: values_at(alloc, from, row)?,
-        to: values_at(alloc, to, row)?,
-        row,
-    })
-}
-
-fn push_sided<'a>(
-    alloc: Global,
-    from: &[usize],
-    to: &[usize],
-    rows: &'a [Record],
-    all: &mut Vec<Sided<'a>>,
-) -> Result<(), AllocError>
-    ensures { OnOk result (map sides_view all.new.items ≡ map sides_view all.old.items ++ map (sides_at from.now to.now) rows.now) }
-{
-    for row in rows {
-        all.push(with_sides(alloc, from, to, row)?)?;
-    }
-    Ok(())
-}
-
-// Appends the records of a source that has all columns of the dependency.
-fn push_source<'a>(
+// Appends a source that has all columns of the dependency.
+fn push_placed<'a>(
     alloc: Global,
     valid: &Valid,
     fd: Fd,
     source: u32,
     lists: &'a Lists,
-    all: &mut Vec<Sided<'a>>,
+    all: &mut Vec<Placed<'a>>,
 ) -> Result<(), AllocError>
     requires { source < length valid.now.view.streams }
-    ensures { OnOk result (map sides_view all.new.items ≡ map sides_view all.old.items ++ spec.sides_in valid.now.view fd (source, lists.now)) }
+    ensures { OnOk result (flat_map placed_sides all.new.items ≡ flat_map placed_sides all.old.items ++ spec.sides_in valid.now.view fd (source, lists.now)) }
 {
     let columns = columns_of(alloc, valid, source)?;
     if !has_both(fd, attributes_of(&columns)) {
@@ -93,7 +53,12 @@ fn push_source<'a>(
     }
     let from = places_of(alloc, &columns, fd.from)?;
     let to = places_of(alloc, &columns, fd.to)?;
-    push_sided(alloc, &from, &to, &lists.rows, all)
+    all.push(Placed {
+        from,
+        to,
+        rows: &lists.rows,
+    })?;
+    Ok(())
 }
 
 fn has_both(fd: Fd, columns: Attrs) -> bool
@@ -102,26 +67,50 @@ fn has_both(fd: Fd, columns: Attrs) -> bool
     fd.from.is_within(columns) && fd.to.is_within(columns)
 }
 
-// The records that a dependency speaks of, in source and file order.
-fn all_sides<'a>(
+// The sources with records that a dependency speaks of, in file order.
+fn all_placed<'a>(
     alloc: Global,
     valid: &Valid,
     fd: Fd,
     sources: &'a [Lists],
-) -> Result<Vec<Sided<'a>>, AllocError>
+) -> Result<Vec<Placed<'a>>, AllocError>
     requires { length sources.now ≤ length valid.now.view.streams }
-    ensures { IfOk result (λ all. map sides_view all.items ≡ spec.all_sides valid.now.view fd sources.now) }
+    ensures { IfOk result (λ all. flat_map placed_sides all.items ≡ spec.all_sides valid.now.view fd sources.now) }
 {
     valid.known();
     let mut all = Vec::new(alloc);
     for (source, lists) in sources.iter().enumerate() {
-        push_source(alloc, valid, fd, source as u32, lists, &mut all)?;
+        push_placed(alloc, valid, fd, source as u32, lists, &mut all)?;
     }
     Ok(all)
 }
 
-// The place of the earliest record that agrees on exactly one side, of the earliest that agrees on each:
-// where both are the same record, all that agree on one side agree on the other too.
+fn push_sides<'a>(source: &'a Placed<'a>, all: &mut Vec<Sided<'a>>) -> Result<(), AllocError>
+    ensures { OnOk result (map sides_view all.new.items ≡ map sides_view all.old.items ++ placed_sides source.now) }
+{
+    for row in source.rows {
+        all.push(Sided {
+            row,
+            from: &source.from,
+            to: &source.to,
+        })?;
+    }
+    Ok(())
+}
+
+// The records that a dependency speaks of, in source and file order.
+fn all_sides<'a>(alloc: Global, placed: &'a [Placed<'a>]) -> Result<Vec<Sided<'a>>, AllocError>
+    ensures { IfOk result (λ all. map sides_view all.items ≡ flat_map placed_sides placed.now) }
+{
+    let mut all = Vec::new(alloc);
+    for source in placed {
+        push_sides(source, &mut all)?;
+    }
+    Ok(all)
+}
+
+// The number of the first record that agrees on exactly one side, of the first that agrees on each: where
+// both are the same record, all that agree on one side agree on the other too.
 fn one_place(first: Option<usize>, second: Option<usize>) -> Option<usize>
     ensures { result ≡ one_place first second }
 {
@@ -132,47 +121,62 @@ fn one_place(first: Option<usize>, second: Option<usize>) -> Option<usize>
     }
 }
 
-// The place of the earliest record that disagrees with this one.
-fn disagreeing(
-    by_from: &BTreeMap<Record, usize>,
-    by_to: &BTreeMap<Record, usize>,
-    one: &Sided,
-) -> Option<usize>
-    ensures { result ≡ one_place (get record_cmp by_from.now one.now.from) (get record_cmp by_to.now one.now.to) }
+fn if_known(number: usize, is_new: bool) -> Option<usize>
+    ensures { result ≡ if_known number is_new }
 {
-    one_place(by_from.get(&one.from).copied(), by_to.get(&one.to).copied())
+    if is_new { None } else { Some(number) }
 }
 
-// Keeps the place of a key where it has none.
-fn keep_first(
-    places: &mut BTreeMap<Record, usize>,
-    key: &Record,
-    place: usize,
-) -> Result<(), AllocError>
-    ensures { OnOk result ((other : Row) → get record_cmp places.new other ≡ kept_or (get record_cmp places.old other) (if spec.same other key.now then Some place else None)) }
+// The number of the first side with the same values, where there is one; a side with values of its own
+// goes last.
+#[tactic(auto, using(crate::proofs::SidesLemmas::is_number, crate::proofs::SidesLemmas::is_kept))]
+fn number_of<'a>(sides: &mut SideSet<'a>, side: Side<'a>) -> Result<Option<usize>, AllocError>
+    ensures number { IfOk result (λ number. number ≡ number_of sides.old.keys (values_of side.entry)) }
+    ensures kept { IfOk result (λ number. sides.new.keys ≡ with_side number sides.old.keys side.entry) }
 {
-    if places.get(key).is_none() {
-        places.insert(key.copy()?, place)?;
-    }
-    Ok(())
+    let (number, is_new) = sides.insert_full(side)?;
+    Ok(if_known(number, is_new))
 }
 
-// The first record that disagrees with an earlier one, after the earliest such.
+fn side_at<'a>(row: &'a Record, places: &'a [usize]) -> Side<'a>
+    ensures values { values_of result ≡ map (cell row.now) places.now }
+    ensures row { result.row.now ≡ row.now }
+{
+    Side { row, places }
+}
+
+fn room_for<'a>(alloc: Global, count: usize) -> Result<SideSet<'a>, AllocError>
+    ensures { IfOk result (λ sides. sides.keys ≡ []) }
+{
+    IndexSet::with_capacity_and_hasher(alloc, count, BuildHasherDefault::new())
+}
+
+// The record of the side with this number.
+#[tactic(auto, using(crate::proofs::SidesLemmas::row_of_side))]
+fn row_at<'a>(sides: &SideSet<'a>, number: usize) -> &'a Record
+    requires { number < length sides.now.keys }
+    ensures { IsRowAt sides.now.keys number result.now }
+{
+    sides.as_slice()[number].row
+}
+
+// The first record that disagrees with an earlier one, after the earliest such. While none does, the first
+// records with their values on one side are those with their values on the other, so that a record stands
+// under the same number in both sets.
 fn broken_pair<'a>(
     alloc: Global,
     sided: &[Sided<'a>],
 ) -> Result<Option<(&'a Record, &'a Record)>, AllocError>
     ensures { IfOk result (λ pair. option_map (λ p. (p.0.now, p.1.now)) pair ≡ spec.broken_pair [] (map sides_view sided.now)) }
 {
-    let mut by_from: BTreeMap<Record, usize> = BTreeMap::new(alloc);
-    let mut by_to: BTreeMap<Record, usize> = BTreeMap::new(alloc);
-    for (place, one) in sided.iter().enumerate() {
-        match disagreeing(&by_from, &by_to, one) {
-            Some(earlier) => return Ok(Some((sided[earlier].row, one.row))),
-            None => {
-                keep_first(&mut by_from, &one.from, place)?;
-                keep_first(&mut by_to, &one.to, place)?;
-            }
+    let mut from: SideSet<'a> = room_for(alloc, sided.len())?;
+    let mut to: SideSet<'a> = room_for(alloc, sided.len())?;
+    for one in sided {
+        let first = number_of(&mut from, side_at(one.row, one.from))?;
+        let second = number_of(&mut to, side_at(one.row, one.to))?;
+        match one_place(first, second) {
+            Some(earlier) => return Ok(Some((row_at(&from, earlier), one.row))),
+            None => {}
         }
     }
     Ok(None)
@@ -183,7 +187,8 @@ fn upheld_by(alloc: Global, valid: &Valid, number: u32, sources: &[Lists]) -> Re
     requires fd { number < length valid.now.view.fds }
     ensures { Gives (λ _. tt) result (spec.broken_by number (spec.broken_pair [] (spec.all_sides valid.now.view (view.fd_at valid.now.view number) sources.now))) }
 {
-    let sided = all_sides(alloc, valid, valid.fd(number), sources)?;
+    let placed = all_placed(alloc, valid, valid.fd(number), sources)?;
+    let sided = all_sides(alloc, &placed)?;
     match broken_pair(alloc, &sided)? {
         Some((first, second)) => Err(DataFault::FdBroken {
             fd: number,
@@ -195,7 +200,7 @@ fn upheld_by(alloc: Global, valid: &Valid, number: u32, sources: &[Lists]) -> Re
 }
 
 /// FdBroken for the first dependency that is broken, with the first record that disagrees with an
-/// earlier one and the earliest such. Each record is looked up twice in ordered maps.
+/// earlier one and the earliest such. Each record is looked up twice by hash for each dependency.
 pub(crate) fn upheld(alloc: Global, valid: &Valid, sources: &[Lists]) -> Result<(), DataFault>
     requires { length sources.now ≤ length valid.now.view.streams }
     ensures { Gives (λ _. tt) result (spec.upheld valid.now.view sources.now) }

@@ -5,20 +5,35 @@ ghost use Rattle.data_read.specs.Making.{distinct_lists};
 
 use crate::data::Lists;
 use blz_value::Record;
+use indexmap::IndexSet;
 use std::alloc::{AllocError, Global};
-use std::collections::BTreeSet;
+use std::hash::{BuildHasherDefault, DefaultHasher};
 
-/// The distinct records of a list, in the order in which they first stand there. Takes a look-up in an
-/// ordered set for each.
+// The distinct records of a list, each where it first stands. As in a pool, SipHash is the hash: strangers
+// may have written the file.
+fn known_rows(
+    alloc: Global,
+    rows: Vec<Record>,
+) -> Result<IndexSet<Record, BuildHasherDefault<DefaultHasher>>, AllocError>
+    ensures { IfOk result (λ known. known.keys ≡ distinct_rows rows.items) }
+{
+    let hasher = BuildHasherDefault::new();
+    let mut known = IndexSet::with_capacity_and_hasher(alloc, rows.len(), hasher)?;
+    for row in rows {
+        known.insert(row)?;
+    }
+    Ok(known)
+}
+
+/// The distinct records of a list, in the order in which they first stand there. Takes a look-up by hash
+/// for each.
 fn distinct_rows(alloc: Global, rows: Vec<Record>) -> Result<Vec<Record>, AllocError>
     ensures { IfOk result (λ distinct. distinct.items ≡ distinct_rows rows.items) }
 {
-    let mut known = BTreeSet::new(alloc);
-    let mut distinct = Vec::new(alloc);
-    for row in rows {
-        if known.insert(row.copy()?)? {
-            distinct.push(row)?;
-        }
+    let known = known_rows(alloc, rows)?;
+    let mut distinct = Vec::with_capacity(alloc, known.len())?;
+    for row in known {
+        distinct.push(row)?;
     }
     Ok(distinct)
 }

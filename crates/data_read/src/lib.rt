@@ -12,6 +12,7 @@ mod keys;
 mod making;
 mod reading;
 mod shape;
+mod sides;
 mod values;
 
 pub use data::Data;

@@ -7,6 +7,7 @@ use Rattle.messages.specs.Messages.{Pair, Batch, Entry, all_pairs}
 use Rattle.inbox.specs.Instances.{Instance, entries_of}
 use Rattle.inbox.specs.Timesteps.{is_due}
 use Rattle.messages.specs.Log.{AreGiven}
+use Rattle.partitions.specs.Whole.{feeds_view}
 use Rattle.partitions.specs.Feeds.{feed_count}
 use Rattle.inbox.specs.Code.Heard.{FeedsHeard, WaitingHeard, IsIdle, is_sealing}
 use Rattle.inbox.specs.declared.inbox.Inbox.{Inbox}
@@ -16,7 +17,7 @@ pub record Keeps (i : Instance) (records : List Row) (waits : Entry → Bool) (h
   pub mode : x.sealing ≡ is_sealing i.mode
   pub hears : is_order_mode i.mode ≡ false
   pub come : (entry : Entry) → Has entry (entries_of i heard) → entry.0 < length i.ports
-  pub feeds : FeedsHeard i records heard x.feeds
+  pub feeds : FeedsHeard i records heard (feeds_view x.feeds)
   pub waiting : x.sealing ≡ true → WaitingHeard i records waits heard x.waiting
   pub idle : x.sealing ≡ false → IsIdle x.waiting
 
@@ -26,7 +27,7 @@ HasHeard i records batches x = Keeps i records (λ entry. not (is_due i (all_pai
 
 -- how many feeds the instance has
 abbrev pub feeds_in : Inbox → ℕ
-feeds_in x = feed_count x.feeds
+feeds_in x = feed_count (feeds_view x.feeds)
 
 -- the pool gave each id that the inbox keeps
 abbrev pub IsFrom : List Row → Inbox → Type 0

@@ -40,6 +40,7 @@ pub struct Timesteps {
 /// the ids of what it heard under Seal.
 #[derive(Drop)]
 pub struct Inbox {
+    alloc: Global,
     sealing: bool,
     feeds: Feeds,
     waiting: Waiting,
@@ -58,6 +59,7 @@ impl Inbox {
     ghost use Rattle.inbox.specs.Inbox.{HasHeard, IsFrom, Keeps, feeds_in};
     ghost use Rattle.inbox.specs.Code.Batches.{WaitsWith, AllWaitWith, key_by, if_open, open_key, with_key, entry_id_of, entry_ids_of, goes_in, is_open, HearsIf, HearsRecord, Releases, steps_released};
     ghost use Rattle.inbox.specs.Code.Waiting.{KeepsEntry};
+    ghost use Rattle.partitions.specs.Whole.{feeds_view};
 
     /// The inbox of an instance that heard nothing. An instance of an Order component hears through
     /// the component's log and has none. The error is want of memory.
@@ -81,6 +83,7 @@ impl Inbox {
         let own = feeds_of(alloc, valid, component, replica)?;
         let feed_ports = ports_of_feeds(alloc, &own)?;
         Ok(Inbox {
+            alloc,
             sealing: is_sealing(mode),
             feeds: Feeds::new(alloc, ports, &feed_ports)?,
             waiting: Waiting::new(alloc),
@@ -108,7 +111,7 @@ impl Inbox {
     ) -> Result<Option<Record>, AllocError>
         requires feed { feed < feeds_in self.now }
         requires given { IsGiven pool.now message.now }
-        ensures { IfOk result (λ key. let pair = pair_with_id pool.now (feed, message.now) in key ≡ key_by self.now.feeds pair.0 pair.1) }
+        ensures { IfOk result (λ key. let pair = pair_with_id pool.now (feed, message.now) in key ≡ key_by (feeds_view self.now.feeds) pair.0 pair.1) }
     {
         match message {
             Message::Row(id) => self.feeds.key_of(self.feeds.port_of(feed), pool.get(*id)),
@@ -118,7 +121,7 @@ impl Inbox {
 
     // A partition, where it isn't whole.
     fn if_open(&self, key: Option<Record>) -> Option<Record>
-        ensures { result ≡ if_open self.now.feeds key }
+        ensures { result ≡ if_open (feeds_view self.now.feeds) key }
     {
         match key {
             Some(key) if !self.feeds.is_whole(&key) => Some(key),
@@ -136,7 +139,7 @@ impl Inbox {
     ) -> Result<(), AllocError>
         requires feed { feed < feeds_in self.now }
         requires given { IsGiven pool.now message.now }
-        ensures { OnOk result (partial.new.keys ≡ with_key partial.old.keys (open_key self.now.feeds (pair_with_id pool.now (feed, message.now)))) }
+        ensures { OnOk result (partial.new.keys ≡ with_key partial.old.keys (open_key (feeds_view self.now.feeds) (pair_with_id pool.now (feed, message.now)))) }
     {
         let key = self.key_of(pool, feed, message)?;
         if let Some(key) = self.if_open(key) {
@@ -154,9 +157,9 @@ impl Inbox {
     ) -> Result<BTreeSet<Record>, AllocError>
         requires feeds { All (λ pair. pair.0 < feeds_in self.now) batch.now }
         requires given { All (λ pair. IsGiven pool.now pair.1) batch.now }
-        ensures { IfOk result (λ partial. partial.keys ≡ set_of (filter_map (open_key self.now.feeds) (batch_with_ids pool.now batch.now))) }
+        ensures { IfOk result (λ partial. partial.keys ≡ set_of (filter_map (open_key (feeds_view self.now.feeds)) (batch_with_ids pool.now batch.now))) }
     {
-        let mut partial = BTreeSet::new(self.feeds.alloc);
+        let mut partial = BTreeSet::new(self.alloc);
         for (feed, message) in batch {
             self.add_open(pool, *feed, message, &mut partial)?;
         }
@@ -188,7 +191,7 @@ impl Inbox {
     ) -> Result<(), AllocError>
         requires feed { feed < feeds_in self.now }
         requires given { IsGiven pool.now message.now }
-        ensures { OnOk result (going.new.items ≡ going.old.items ++ filter (goes_in pool.now self.now) (cons_option (entry_id_of self.now.feeds (feed, message.now)) [])) }
+        ensures { OnOk result (going.new.items ≡ going.old.items ++ filter (goes_in pool.now self.now) (cons_option (entry_id_of (feeds_view self.now.feeds) (feed, message.now)) [])) }
     {
         if let Message::Row(id) = message {
             let port = self.feeds.port_of(feed);
@@ -204,9 +207,9 @@ impl Inbox {
     fn going(&self, pool: &Pool, batch: &[(u32, Message)]) -> Result<Vec<(u32, Id)>, AllocError>
         requires feeds { All (λ pair. pair.0 < feeds_in self.now) batch.now }
         requires given { All (λ pair. IsGiven pool.now pair.1) batch.now }
-        ensures { IfOk result (λ going. going.items ≡ filter (goes_in pool.now self.now) (entry_ids_of self.now.feeds batch.now)) }
+        ensures { IfOk result (λ going. going.items ≡ filter (goes_in pool.now self.now) (entry_ids_of (feeds_view self.now.feeds) batch.now)) }
     {
-        let mut going = Vec::new(self.feeds.alloc);
+        let mut going = Vec::new(self.alloc);
         for (feed, message) in batch {
             self.add_going(pool, *feed, message, &mut going)?;
         }
@@ -222,7 +225,7 @@ impl Inbox {
         key: Option<&Record>,
     ) -> Result<(), AllocError>
         ensures mode { self.new.sealing ≡ self.old.sealing }
-        ensures feeds { self.new.feeds ≡ self.old.feeds }
+        ensures feeds { feeds_view self.new.feeds ≡ feeds_view self.old.feeds }
         ensures kept { OnOk result (self.old.sealing ≡ true → KeepsEntry self.old.waiting self.new.waiting (port, id) (option_map (λ k. k.now) key.entry) (is_open partial.now (option_map (λ k. k.now) key.entry))) }
         ensures idle { OnOk result (self.old.sealing ≡ false → self.new.waiting ≡ self.old.waiting) }
     {
@@ -241,7 +244,7 @@ impl Inbox {
     fn count(&mut self, feed: u32, key: Option<Record>, id: Id) -> Result<(), AllocError>
         requires { feed < feeds_in self.old }
         ensures mode { self.new.sealing ≡ self.old.sealing }
-        ensures feeds { OnOk result (HearsIf self.old.feeds self.new.feeds feed key id) }
+        ensures feeds { OnOk result (HearsIf (feeds_view self.old.feeds) (feeds_view self.new.feeds) feed key id) }
         ensures waiting { self.new.waiting ≡ self.old.waiting }
     {
         match key {
@@ -260,7 +263,7 @@ impl Inbox {
     ) -> Result<(), AllocError>
         requires feed { feed < feeds_in self.old }
         requires given { id < length pool.now }
-        ensures { OnOk result (HearsRecord partial.now self.old self.new feed (key_in self.old.feeds (port_in self.old.feeds feed, row_with_id pool.now id)) id) }
+        ensures { OnOk result (HearsRecord partial.now self.old self.new feed (key_in (feeds_view self.old.feeds) (port_in (feeds_view self.old.feeds) feed, row_with_id pool.now id)) id) }
     {
         let port = self.feeds.port_of(feed);
         let key = self.feeds.key_of(port, pool.get(id))?;
@@ -357,9 +360,9 @@ impl Inbox {
 
     // Those of some partitions that are whole.
     fn whole_among(&self, partial: &BTreeSet<Record>) -> Result<Vec<Record>, AllocError>
-        ensures { IfOk result (λ whole. whole.items ≡ filter (is_whole_in self.now.feeds) partial.now.keys) }
+        ensures { IfOk result (λ whole. whole.items ≡ filter (is_whole_in (feeds_view self.now.feeds)) partial.now.keys) }
     {
-        let mut whole = Vec::new(self.feeds.alloc);
+        let mut whole = Vec::new(self.alloc);
         for key in partial {
             if self.feeds.is_whole(key) {
                 whole.push(key.copy()?)?;
@@ -370,11 +373,11 @@ impl Inbox {
 
     // The entries at ports that carry the key, and the others.
     fn parted(&self, entries: &[(u32, Id)]) -> Result<(Vec<(u32, Id)>, Vec<(u32, Id)>), AllocError>
-        ensures own { IfOk result (λ parts. parts.0.items ≡ filter (λ entry. carries_in self.now.feeds entry.0) entries.now) }
-        ensures others { IfOk result (λ parts. parts.1.items ≡ filter (λ entry. not (carries_in self.now.feeds entry.0)) entries.now) }
+        ensures own { IfOk result (λ parts. parts.0.items ≡ filter (λ entry. carries_in (feeds_view self.now.feeds) entry.0) entries.now) }
+        ensures others { IfOk result (λ parts. parts.1.items ≡ filter (λ entry. not (carries_in (feeds_view self.now.feeds) entry.0)) entries.now) }
     {
-        let mut own = Vec::new(self.feeds.alloc);
-        let mut others = Vec::new(self.feeds.alloc);
+        let mut own = Vec::new(self.alloc);
+        let mut others = Vec::new(self.alloc);
         for entry in entries {
             if self.feeds.carries(entry.0) {
                 own.push(*entry)?;
@@ -393,10 +396,10 @@ impl Inbox {
         steps: &mut Vec<Arrivals>,
     ) -> Result<(), AllocError>
         requires { All (λ entry. entry.1 < length pool.now) entries.now }
-        ensures { OnOk result ((key : Row) (keys : List Row) → steps.new.items ≡ steps.old.items ++ steps_released pool.now self.now.feeds (key ∷ keys) entries.now) }
+        ensures { OnOk result ((key : Row) (keys : List Row) → steps.new.items ≡ steps.old.items ++ steps_released pool.now (feeds_view self.now.feeds) (key ∷ keys) entries.now) }
     {
-        let alloc = self.feeds.alloc;
-        let ports = self.feeds.ports.len();
+        let alloc = self.alloc;
+        let ports = self.feeds.port_count();
         let (own, others) = self.parted(entries)?;
         steps.push(timestep(alloc, pool, ports, &own)?)?;
         push_one_by_one(alloc, pool, ports, &others, steps)
@@ -445,17 +448,17 @@ impl Inbox {
         steps: &mut Vec<Arrivals>,
     ) -> Result<(), AllocError>
         requires { All (λ entry. entry.1 < length pool.now) going.now }
-        ensures { OnOk result (steps.new.items ≡ steps.old.items ++ one_timestep (port_count self.now.feeds) (entries_with_ids pool.now going.now)) }
+        ensures { OnOk result (steps.new.items ≡ steps.old.items ++ one_timestep (port_count (feeds_view self.now.feeds)) (entries_with_ids pool.now going.now)) }
     {
-        let ports = self.feeds.ports.len();
-        push_together(self.feeds.alloc, pool, ports, going, steps)
+        let ports = self.feeds.port_count();
+        push_together(self.alloc, pool, ports, going, steps)
     }
 
     /// Hears a batch, whose ids the pool gave, as it gave those of all batches since the inbox was
-    /// empty; between two calls the pool may get records (`pool_law`). A message costs a look-up in
-    /// what was heard from each feed that is asked whether its partition is whole, and a partition
-    /// that becomes whole the sort of its records. The error is want of memory; afterwards the inbox
-    /// can only be dropped.
+    /// empty; between two calls the pool may get records (`pool_law`). A message costs look-ups of
+    /// its key value by its hash, whatever the number of feeds, and a partition that becomes whole
+    /// the sort of its records. The error is want of memory; afterwards the inbox can only be
+    /// dropped.
     pub fn hear(&mut self, pool: &Pool, batch: Vec<(u32, Message)>) -> Result<Timesteps, AllocError>
         requires feeds { All (λ pair. pair.0 < feeds_in self.old) batch.items }
         requires given { All (λ pair. IsGiven pool.now pair.1) batch.items }
@@ -475,7 +478,7 @@ impl Inbox {
         let going = self.going(pool, &batch)?;
         self.hear_all(pool, &partial, &batch)?;
         let whole = self.whole_among(&partial)?;
-        let mut steps = Vec::new(self.feeds.alloc);
+        let mut steps = Vec::new(self.alloc);
         self.release(pool, &whole, &mut steps)?;
         self.push_going(pool, &going, &mut steps)?;
         Ok(Timesteps {
@@ -488,7 +491,7 @@ impl Inbox {
     pub fn feed_count(&self) -> usize
         ensures { result ≡ feeds_in self.now }
     {
-        self.feeds.feeds.len()
+        self.feeds.feed_count()
     }
 
     /// How many records wait, with their ports, each counted once. It is kept, not counted.

@@ -14,7 +14,7 @@ use crate::feed::Feed;
 use blz_value::Items;
 use partitions::Port;
 use std::alloc::{AllocError, Global};
-use topo_types::{Attrs, Mode, Valid, carries};
+use topo_types::{Attrs, Mode, Valid, carries, goes_to};
 
 /// The key of a mode, where it has one.
 pub(crate) fn key_of(mode: Mode) -> Option<Attrs>
@@ -24,20 +24,6 @@ pub(crate) fn key_of(mode: Mode) -> Option<Attrs>
         Mode::Pass(key) | Mode::Seal(key) => Some(key),
         Mode::Free | Mode::Order => None,
     }
-}
-
-// Whether a stream goes to a port.
-fn goes_to(valid: &Valid, component: u32, port: u32, stream: u32) -> bool
-    requires { stream < length valid.now.view.streams }
-    ensures { result ≡ view.goes_to valid.now.view component port stream }
-{
-    for n in 0..valid.to_count(stream) {
-        let (other, there) = valid.to(stream, n);
-        if component == other && port == there {
-            return true;
-        }
-    }
-    false
 }
 
 // ---- ports

@@ -1,7 +1,5 @@
--- A counter of a partition answers whether a seal of it counts at most so many records.
-use Rattle.std.specs.Prelude.{ℕ, Bool, false, Option, Some, None, nat_le}
-use Rattle.std.specs.BTreeMap.{BTreeMap, get}
-use Rattle.blz_value.specs.Record.{Row, record_cmp}
+-- A counter of a partition answers whether a seal of it counts at most so many records. Counters stand by the numbers of partitions.
+use Rattle.std.specs.Prelude.{ℕ, Bool, false, Option, Some, None, List, nat_le, slice_get}
 use Rattle.partitions.specs.declared.counter.Counter.{Counter}
 
 abbrev pub have_in : Option Counter → ℕ
@@ -13,12 +11,12 @@ need_in None = None
 need_in (Some c) = c.need
 
 -- how many records of a partition were counted
-abbrev pub have_of : BTreeMap Row Counter → (key : Row) → ℕ
-have_of counts key = have_in (get record_cmp counts key)
+abbrev pub have_at : List Counter → (number : ℕ) → ℕ
+have_at counts number = have_in (slice_get counts number)
 
 -- the least count of its seals
-abbrev pub need_of : BTreeMap Row Counter → (key : Row) → Option ℕ
-need_of counts key = need_in (get record_cmp counts key)
+abbrev pub need_at : List Counter → (number : ℕ) → Option ℕ
+need_at counts number = need_in (slice_get counts number)
 
 -- whether a seal came that counts at most this many
 abbrev pub is_met : Option ℕ → ℕ → Bool

@@ -1,26 +1,22 @@
-//! What came on one feed of each partition: how many distinct records, and the least count of its
-//! seals.
-ghost use Rattle.std.specs.Prelude.{◌≡◌, ◌+◌, ◌<◌, ◌^◌, ◌||◌, ◌&&◌, ℕ, OnOk, OnErr, if◌then◌else◌, nat_le};
-ghost use Rattle.blz_value.specs.Record.{Row};
-ghost use Rattle.messages.specs.Message.{is_same_row};
-ghost use Rattle.partitions.specs.Counts.{have_of, need_of, is_met};
+//! What came on one feed of each partition, by the numbers of partitions: how many distinct records,
+//! and the least count of its seals.
+ghost use Rattle.std.specs.Prelude.{◌≡◌, ◌+◌, ◌<◌, ◌≤◌, ◌^◌, ◌==◌, ◌||◌, ◌&&◌, ℕ, length, OnOk, OnErr, if◌then◌else◌, nat_le};
+ghost use Rattle.partitions.specs.Counts.{have_at, need_at, is_met};
 
-use blz_value::Record;
 use std::alloc::AllocError;
-use std::collections::BTreeMap;
 
 /// How many distinct records came, and the least count of a seal, where one came.
 #[derive(Clone, Copy)]
-pub struct Counter {
-    pub have: u64,
-    pub need: Option<u32>,
+pub(crate) struct Counter {
+    pub(crate) have: u64,
+    pub(crate) need: Option<u32>,
 }
 
-fn counter_at(counts: &BTreeMap<Record, Counter>, key: &Record) -> Counter
-    ensures have { result.have ≡ have_of counts.now key.now }
-    ensures need { result.need ≡ need_of counts.now key.now }
+fn counter_at(counts: &[Counter], number: usize) -> Counter
+    ensures have { result.have ≡ have_at counts.now number }
+    ensures need { result.need ≡ need_at counts.now number }
 {
-    match counts.get(key) {
+    match counts.get(number) {
         Some(counter) => *counter,
         None => Counter {
             have: 0,
@@ -29,19 +25,36 @@ fn counter_at(counts: &BTreeMap<Record, Counter>, key: &Record) -> Counter
     }
 }
 
-/// Counts a record.
-pub fn count_row(counts: &mut BTreeMap<Record, Counter>, key: Record) -> Result<(), AllocError>
-    requires { have_of counts.old key + 1 < 2 ^ 64 }
-    ensures have { OnOk result ((k : Row) → have_of counts.new k ≡ (if is_same_row key k then have_of counts.old k + 1 else have_of counts.old k)) }
-    ensures need { (k : Row) → need_of counts.new k ≡ need_of counts.old k }
-    ensures err { OnErr result ((k : Row) → have_of counts.new k ≡ have_of counts.old k) }
+// Adds counters of nothing up to that of a partition.
+fn make_room(counts: &mut Vec<Counter>, number: usize) -> Result<(), AllocError>
+    ensures room { OnOk result (number < length counts.new.items) }
+    ensures have { (n : ℕ) → have_at counts.new.items n ≡ have_at counts.old.items n }
+    ensures need { (n : ℕ) → need_at counts.new.items n ≡ need_at counts.old.items n }
+    ensures few { (most : ℕ) → number < most → length counts.old.items ≤ most → length counts.new.items ≤ most }
 {
-    let was = counter_at(counts, &key);
-    let now = Counter {
+    while counts.len() <= number {
+        counts.push(Counter {
+            have: 0,
+            need: None,
+        })?;
+    }
+    Ok(())
+}
+
+/// Counts a record.
+pub(crate) fn count_row(counts: &mut Vec<Counter>, number: usize) -> Result<(), AllocError>
+    requires { have_at counts.old.items number + 1 < 2 ^ 64 }
+    ensures have { OnOk result ((n : ℕ) → have_at counts.new.items n ≡ (if n == number then have_at counts.old.items n + 1 else have_at counts.old.items n)) }
+    ensures need { (n : ℕ) → need_at counts.new.items n ≡ need_at counts.old.items n }
+    ensures few { (most : ℕ) → number < most → length counts.old.items ≤ most → length counts.new.items ≤ most }
+    ensures err { OnErr result ((n : ℕ) → have_at counts.new.items n ≡ have_at counts.old.items n) }
+{
+    let was = counter_at(counts, number);
+    make_room(counts, number)?;
+    counts[number] = Counter {
         have: was.have + 1,
         need: was.need,
     };
-    let _ = counts.insert(key, now)?;
     Ok(())
 }
 
@@ -56,28 +69,30 @@ fn least_with(need: Option<u32>, count: u32) -> u32
 }
 
 /// Notes a seal.
-pub fn note_seal(
-    counts: &mut BTreeMap<Record, Counter>,
-    key: Record,
+pub(crate) fn note_seal(
+    counts: &mut Vec<Counter>,
+    number: usize,
     count: u32,
 ) -> Result<(), AllocError>
-    ensures have { (k : Row) → have_of counts.new k ≡ have_of counts.old k }
-    ensures need { OnOk result ((k : Row) (n : ℕ) → is_met (need_of counts.new k) n ≡ (is_met (need_of counts.old k) n || (is_same_row key k && nat_le count n))) }
+    ensures have { (n : ℕ) → have_at counts.new.items n ≡ have_at counts.old.items n }
+    ensures need { OnOk result ((n m : ℕ) → is_met (need_at counts.new.items n) m ≡ (is_met (need_at counts.old.items n) m || (n == number && nat_le count m))) }
+    ensures few { (most : ℕ) → number < most → length counts.old.items ≤ most → length counts.new.items ≤ most }
+    ensures err { OnErr result ((n : ℕ) → need_at counts.new.items n ≡ need_at counts.old.items n) }
 {
-    let was = counter_at(counts, &key);
-    let now = Counter {
+    let was = counter_at(counts, number);
+    make_room(counts, number)?;
+    counts[number] = Counter {
         have: was.have,
         need: Some(least_with(was.need, count)),
     };
-    let _ = counts.insert(key, now)?;
     Ok(())
 }
 
 /// Whether a seal of the partition came, and as many records as it counts.
-pub fn is_enough(counts: &BTreeMap<Record, Counter>, key: &Record) -> bool
-    ensures { result ≡ is_met (need_of counts.now key.now) (have_of counts.now key.now) }
+pub(crate) fn is_enough(counts: &[Counter], number: usize) -> bool
+    ensures { result ≡ is_met (need_at counts.now number) (have_at counts.now number) }
 {
-    let was = counter_at(counts, key);
+    let was = counter_at(counts, number);
     match was.need {
         Some(need) => need as u64 <= was.have,
         None => false,

@@ -7,7 +7,5 @@ mod feed;
 mod feeds;
 mod port;
 
-pub use counter::Counter;
-pub use feed::Feed;
 pub use feeds::Feeds;
 pub use port::Port;

@@ -31,7 +31,7 @@ fn cells_of(alloc: Global, row: &Record, columns: &[usize]) -> Result<Record, Al
 }
 
 /// The key value of a record at a port, where the port has all columns of the key.
-pub fn key_at(
+pub(crate) fn key_at(
     alloc: Global,
     ports: &[Port],
     port: u32,
@@ -49,7 +49,7 @@ pub fn key_at(
 }
 
 /// Whether a port carries the key.
-pub fn is_carrying(ports: &[Port], port: u32) -> bool
+pub(crate) fn is_carrying(ports: &[Port], port: u32) -> bool
     ensures { result ≡ option_map_or (λ p. p.carries) (slice_get (port_keys ports.now) port) false }
 {
     match ports.get(port as usize) {

@@ -10,10 +10,10 @@ ghost use Rattle.report_derivation.specs.Code.Uses as code;
 ghost use Rattle.report_derivation.specs.DeriveText as spec;
 
 use label_rules::{Label, PathLabel, gate_read, label_read, pass_path};
-use label_walk::{goes_to, is_order, port_attrs, region_inputs, region_note, usable_fds};
+use label_walk::{is_order, port_attrs, region_inputs, region_note, usable_fds};
 use report_print::{Report, Word, label_word, note_word, push_inner_line};
 use std::alloc::AllocError;
-use topo_types::{Attrs, Fd, Mode, Note};
+use topo_types::{Attrs, Fd, Mode, Note, goes_to};
 
 /// How a component reads what comes into a port: the note of the path, the columns of the port, its
 /// mode, and the dependencies that it can use.

@@ -9,6 +9,7 @@ pub mod LeftSeen
 pub mod TablesLemmas
 pub mod MadeEnds
 pub mod PrintableNames
+pub mod WrittenSoFar
 pub mod WrittenLemmas
 pub mod MakingRuns
 pub mod MakingApplies

@@ -22,7 +22,8 @@ use Rattle.sched_run.specs.Made.{event_limit}
 use Rattle.sched_run.specs.Making.{CountFromOne, IsTextOf, events_of}
 use Rattle.sched_run.specs.Naming.{CanBeWritten, HasEventNames}
 use Rattle.sched_run.specs.Code.Works.{HasNames, work_event}
-use Rattle.sched_run.specs.Code.Written.{AreLines, AreLinesOf, IsTextSoFar}
+use Rattle.sched_run.specs.Code.Written.{AreLines}
+use Rattle.sched_run.proofs.WrittenSoFar.{AreLinesOf, IsTextSoFar}
 use Rattle.sched_run.specs.declared.lanes.Lane.TheVariants.{Deliver, Order}
 use Rattle.sched_run.specs.declared.works.Work.{Work}
 use Rattle.sched_run.specs.declared.works.Work.TheVariants.{Message, Take}

@@ -51,11 +51,7 @@ fn lines_of(
 }
 
 // The text of events, one a line; each has its names only until its line is written.
-fn text_of(
-    alloc: Global,
-    valid: &Valid,
-    events: &[NumberedEvent],
-) -> Result<Vec<u8>, AllocError>
+fn text_of(alloc: Global, valid: &Valid, events: &[NumberedEvent]) -> Result<Vec<u8>, AllocError>
     requires few { length events.now ≤ event_limit }
     requires named { All (λ event. HasEventNames valid.now.view (event_by_numbers event)) events.now }
     ensures { IfOk result (λ text. IsTextOf valid.now.view (map event_by_numbers events.now) text.items) }

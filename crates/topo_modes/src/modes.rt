@@ -8,7 +8,6 @@ ghost use Rattle.topo_types.specs.View.{component_with_mode, with_mode, no_compo
 
 use blz_value::{Items, Str};
 use std::alloc::{AllocError, Global};
-use topo_copy::{copies_of, copy_all, copy_names, copy_values};
 use topo_types::{ComponentEntry, Kept, KeptComponent, Mode, ModeName, Topology, is_in};
 
 // ---- as it is written
@@ -60,17 +59,17 @@ fn key_names(alloc: Global, names: &[Str], mode: Mode) -> Result<Vec<Str>, Alloc
 fn entries_with_mode(
     alloc: Global,
     names: &[Str],
-    components: &[ComponentEntry],
+    components: Vec<ComponentEntry>,
     number: usize,
     mode: Mode,
 ) -> Result<Vec<ComponentEntry>, AllocError>
     requires few { length names.now ≤ 64 }
     requires key { IsKeyAmong names.now mode }
-    requires within { number < length components.now }
-    ensures { IfOk result (λ others. others.items ≡ slice_set components.now number (spec.entry_with_mode names.now mode (slice_index_or components.now number no_entry))) }
+    requires within { number < length components.items }
+    ensures { IfOk result (λ others. others.items ≡ slice_set components.items number (spec.entry_with_mode names.now mode (slice_index_or components.items number no_entry))) }
 {
     let key = Items::from_vec(key_names(alloc, names, mode)?);
-    let mut others = copies_of(alloc, components)?;
+    let mut others = components;
     let entry = &mut others[number];
     entry.mode = mode_name(mode);
     entry.key = key;
@@ -81,58 +80,63 @@ fn entries_with_mode(
 pub(crate) fn topology_with_mode(
     alloc: Global,
     names: &[Str],
-    topology: &Topology,
+    topology: Topology,
     number: usize,
     mode: Mode,
 ) -> Result<Topology, AllocError>
     requires few { length names.now ≤ 64 }
     requires key { IsKeyAmong names.now mode }
-    requires within { number < length topology.now.components }
-    ensures { IfOk result (λ other. other ≡ spec.topology_with_mode names.now topology.now number mode) }
+    requires within { number < length topology.components }
+    ensures { IfOk result (λ other. other ≡ spec.topology_with_mode names.now topology number mode) }
 {
-    let components = topology.components.as_slice();
-    let others = entries_with_mode(alloc, names, components, number, mode)?;
+    let Topology {
+        format,
+        sources,
+        components,
+        streams,
+        fds,
+    } = topology;
+    let others = entries_with_mode(alloc, names, components.into_vec(), number, mode)?;
     Ok(Topology {
-        format: topology.format,
-        sources: copy_all(alloc, topology.sources.as_slice())?,
+        format,
+        sources,
         components: Items::from_vec(others),
-        streams: copy_all(alloc, topology.streams.as_slice())?,
-        fds: copy_all(alloc, topology.fds.as_slice())?,
+        streams,
+        fds,
     })
 }
 
 // ---- by numbers
 
 fn components_with_mode(
-    alloc: Global,
-    components: &[KeptComponent],
+    components: Vec<KeptComponent>,
     number: usize,
     mode: Mode,
-) -> Result<Vec<KeptComponent>, AllocError>
-    requires { number < length components.now }
-    ensures { IfOk result (λ others. map component_kept others.items ≡ slice_set (map component_kept components.now) number (component_with_mode mode (slice_index_or (map component_kept components.now) number no_component))) }
+) -> Vec<KeptComponent>
+    requires { number < length components.items }
+    ensures { map component_kept result.items ≡ slice_set (map component_kept components.items) number (component_with_mode mode (slice_index_or (map component_kept components.items) number no_component)) }
 {
-    let mut others = copies_of(alloc, components)?;
+    let mut others = components;
     others[number].mode = mode;
-    Ok(others)
+    others
 }
 
 /// The parts of a topology with another mode of one component.
-pub(crate) fn kept_with_mode(
-    alloc: Global,
-    kept: &Kept,
-    number: usize,
-    mode: Mode,
-) -> Result<Kept, AllocError>
-    requires { number < length kept.now.components }
-    ensures { IfOk result (λ other. view_kept other ≡ with_mode (view_kept kept.now) number mode) }
+pub(crate) fn kept_with_mode(kept: Kept, number: usize, mode: Mode) -> Kept
+    requires { number < length kept.components }
+    ensures { view_kept result ≡ with_mode (view_kept kept) number mode }
 {
-    let components = kept.components.as_slice();
-    let others = components_with_mode(alloc, components, number, mode)?;
-    Ok(Kept {
-        attributes: copy_names(alloc, &kept.attributes)?,
-        streams: copy_all(alloc, kept.streams.as_slice())?,
+    let Kept {
+        attributes,
+        streams,
+        components,
+        fds,
+    } = kept;
+    let others = components_with_mode(components.into_vec(), number, mode);
+    Kept {
+        attributes,
+        streams,
         components: Items::from_vec(others),
-        fds: copy_values(alloc, kept.fds.as_slice())?,
-    })
+        fds,
+    }
 }

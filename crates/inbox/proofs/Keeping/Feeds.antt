@@ -1,9 +1,7 @@
 -- A feed that hears one message more stands for what was heard from it, and so do all feeds.
 use Rattle.std.proofs.Common.{◌≡◌, refl, ap, sym, subst, ◌∙◌, ℕ, ◌+◌, ◌<◌, ◌≤◌, ◌==◌, ◌&&◌, ◌||◌, nat_le, Bool, true, false, not, cond, Option, Some, None, List, [], ◌∷◌, ◌++◌, length, map, filter, append-nil, arith, inl, inr, get_or, set}
-use Rattle.std.specs.BTreeSet.{contains}
 use Rattle.std.specs.List.{list_any, slice_get}
 use Rattle.std.specs.Option.{option_map, option_map_or, option_and_then, is_some}
-use Rattle.std.specs.Ordering.{nat_cmp}
 use Rattle.std.proofs.lemmas.Bool.{cases_Bool, eq-eqb, eqb-true}
 use Rattle.std.proofs.lemmas.Bool.Decides.{eqb_tells}
 use Rattle.std.proofs.lemmas.List.{map-append, get_or-set_same, get_or-set_other}
@@ -26,12 +24,8 @@ use Rattle.inbox.specs.Instances.{PortKey, Instance, port_of_feed, is_carrying, 
 use Rattle.inbox.specs.Timesteps.{is_seal_within, from_feed}
 use Rattle.messages.specs.Log.{row_with_id}
 use Rattle.partitions.specs.Counts.{is_met}
-use Rattle.partitions.specs.Ports.{port_keys}
-use Rattle.partitions.specs.Feeds.{feed_count, port_in, key_in, carries_in, FeedHearsRow, FeedHearsSeal, HearsRow, HearsSeal, IsOneChanged}
+use Rattle.partitions.specs.Feeds.{FeedView, FeedsView, feed_count, port_in, key_in, carries_in, FeedHearsRow, FeedHearsSeal, HearsRow, HearsSeal, IsOneChanged}
 use Rattle.inbox.specs.Code.Heard.{keyed_rows, count_sent, FeedHeard, FeedsHeard}
-use Rattle.partitions.specs.declared.feed.Feed.{Feed}
-use Rattle.partitions.specs.declared.feeds.Feeds.{Feeds}
-use Rattle.partitions.specs.declared.port.Port.{Port}
 use Rattle.messages.proofs.LogLemmas.{IsOneId, same_row-same_id}
 use Rattle.messages.proofs.MessagesLemmas.{is_same_row-is, is_same_row-itself, any-from_same, same-from_any}
 use Rattle.inbox.proofs.TimestepLemmas.Entries.{heard_entry}
@@ -143,7 +137,7 @@ module _ (i : Instance) (feed : ℕ) (sent : List Pair) where
 
 -- ---- one feed
 
-module _ (i : Instance) (records : List Row) (feed : ℕ) (sent : List Pair) (was now : Feed) where
+module _ (i : Instance) (records : List Row) (feed : ℕ) (sent : List Pair) (was now : FeedView) where
   pub feed-row : FeedHeard i records feed sent was → (key : Row) (id : ℕ) → FeedHearsRow was now key id → id < length records → IsOneId records id → ((pair : Pair) → Has pair sent → pair.0 ≡ feed)
       → key_of_entry i (port_of_feed i feed, row_with_id records id) ≡ Some key → FeedHeard i records feed (sent ++ (feed, row (row_with_id records id)) ∷ []) now
   feed-row s key id hears within one from of = record {
@@ -151,7 +145,7 @@ module _ (i : Instance) (records : List Row) (feed : ℕ) (sent : List Pair) (wa
     carries = hears.carries ∙ s.carries;
     given = λ other found. elim (cases_Bool (id == other)) [
       | inl same ↦ subst (λ (n : ℕ). n < length records) (eqb-true id other same) within
-      | inr apart ↦ s.given other (sym (hears.known other ∙ ap (λ b. b || contains nat_cmp was.known other) apart) ∙ found)
+      | inr apart ↦ s.given other (sym (hears.known other ∙ ap (λ b. b || was.known other) apart) ∙ found)
     ];
     rows = λ r h. elim (Has-append_cases r (keyed_rows i sent) (row_with_id records id ∷ []) (subst (λ l. Has r l) (keyed-row i feed sent (row_with_id records id) key of) h)) [
       | inl before ↦ s.rows r before
@@ -166,8 +160,8 @@ module _ (i : Instance) (records : List Row) (feed : ℕ) (sent : List Pair) (wa
         ∙ ap (list_any (is_same_row (row_with_id records other))) (sym (keyed-row i feed sent (row_with_id records id) key of));
     have = λ k.
         hears.have k
-        ∙ ap (λ (n : ℕ). cond (is_same_row key k && not (contains nat_cmp was.known id)) (n + 1) n) (s.have k)
-        ∙ sym (count-row i feed sent (row_with_id records id) key of k (is_same_row key k) (contains nat_cmp was.known id) refl (sym (s.known id within)) from);
+        ∙ ap (λ (n : ℕ). cond (is_same_row key k && not (was.known id)) (n + 1) n) (s.have k)
+        ∙ sym (count-row i feed sent (row_with_id records id) key of k (is_same_row key k) (was.known id) refl (sym (s.known id within)) from);
     need = λ k n. ap (λ o. is_met o n) (hears.need k) ∙ s.need k n ∙ sym (seals-row i feed sent k (row_with_id records id) n);
   }
 
@@ -175,16 +169,16 @@ module _ (i : Instance) (records : List Row) (feed : ℕ) (sent : List Pair) (wa
   feed-seal s key count hears = record {
     port = hears.port ∙ s.port;
     carries = hears.carries ∙ s.carries;
-    given = λ other found. s.given other (ap (λ known. contains nat_cmp known other) (sym hears.known) ∙ found);
+    given = λ other found. s.given other (sym (hears.known other) ∙ found);
     rows = λ r h. s.rows r (subst (λ es. Has r (map (λ (entry : Entry). entry.1) (filter (λ entry. is_some (key_of_entry i entry)) es))) (entries-seal i feed sent key count) h);
     known = λ other below.
-        ap (λ known. contains nat_cmp known other) hears.known ∙ s.known other below
+        hears.known other ∙ s.known other below
         ∙ ap (λ es. list_any (is_same_row (row_with_id records other)) (map (λ (entry : Entry). entry.1) (filter (λ entry. is_some (key_of_entry i entry)) es))) (sym (entries-seal i feed sent key count));
     have = λ k. hears.have k ∙ s.have k ∙ ap (λ es. length (set_of (map (λ (entry : Entry). entry.1) (filter (is_of_key i k) es)))) (sym (entries-seal i feed sent key count));
     need = λ k n. hears.need k n ∙ ap (λ b. b || (is_same_row key k && nat_le count n)) (s.need k n) ∙ sym (seals-seal i feed sent k key n count);
   }
 
-pub feed-no_row : (i : Instance) (records : List Row) (feed : ℕ) (sent : List Pair) (f : Feed) (r : Row) → FeedHeard i records feed sent f → key_of_entry i (port_of_feed i feed, r) ≡ None → FeedHeard i records feed (sent ++ (feed, row r) ∷ []) f
+pub feed-no_row : (i : Instance) (records : List Row) (feed : ℕ) (sent : List Pair) (f : FeedView) (r : Row) → FeedHeard i records feed sent f → key_of_entry i (port_of_feed i feed, r) ≡ None → FeedHeard i records feed (sent ++ (feed, row r) ∷ []) f
 feed-no_row i records feed sent f r s of = record {
   port = s.port;
   carries = s.carries;
@@ -216,40 +210,40 @@ all_from feed heard pair h = eqb_is pair.0 feed (Has-from_filter (λ (p : Pair).
 
 module _ (i : Instance) (records : List Row) (heard : List Pair) where
   -- one feed hears a message, by what it then stands for
-  one_hears : (old new : Feeds) (feed : ℕ) (was now : Feed) (m : Message) → FeedsHeard i records heard old → feed < feed_count old → IsOneChanged old new feed was now
+  one_hears : (old new : FeedsView) (feed : ℕ) (was now : FeedView) (m : Message) → FeedsHeard i records heard old → feed < feed_count old → IsOneChanged old new feed was now
       → FeedHeard i records feed (from_feed feed heard ++ (feed, m) ∷ []) now → FeedsHeard i records (heard ++ (feed, m) ∷ []) new
   one_hears old new feed was now m s within changed hears =
-      let count : feed_count new ≡ feed_count old = ap (length {A = Feed}) changed.feeds ∙ length-set old.feeds.items feed now in
+      let count : feed_count new ≡ feed_count old = ap (length {A = FeedView}) changed.feeds ∙ length-set old.feeds feed now in
       record {
-        ports = ap (λ (ports : List Port). port_keys ports) changed.ports ∙ s.ports;
+        ports = changed.ports ∙ s.ports;
         count = count ∙ s.count;
         some = changed.some ∙ s.some;
         within = s.within;
         each = λ other d below. elim (eqb_tells feed other) [
           | inl one ↦
               subst (λ f. FeedHeard i records other (from_feed other (heard ++ (feed, m) ∷ [])) f)
-              (sym (ap (λ fs. get_or fs other d) changed.feeds ∙ ap (λ n. get_or (set old.feeds.items feed now) n d) (sym one.1) ∙ get_or-set_same old.feeds.items feed now d within))
+              (sym (ap (λ fs. get_or fs other d) changed.feeds ∙ ap (λ n. get_or (set old.feeds feed now) n d) (sym one.1) ∙ get_or-set_same old.feeds feed now d within))
               (subst (λ n. FeedHeard i records n (from_feed n (heard ++ (feed, m) ∷ [])) now) one.1
               (subst (λ sent. FeedHeard i records feed sent now) (sym (from_feed-own feed heard m)) hears))
           | inr apart ↦
               subst (λ f. FeedHeard i records other (from_feed other (heard ++ (feed, m) ∷ [])) f)
-              (sym (ap (λ fs. get_or fs other d) changed.feeds ∙ get_or-set_other old.feeds.items feed other now d (λ e. apart.1 (sym e))))
-              (subst (λ sent. FeedHeard i records other sent (get_or old.feeds.items other d)) (sym (from_feed-other feed other heard m apart.0)) (s.each other d (subst (λ n. other < n) count below)))
+              (sym (ap (λ fs. get_or fs other d) changed.feeds ∙ get_or-set_other old.feeds feed other now d (λ e. apart.1 (sym e))))
+              (subst (λ sent. FeedHeard i records other sent (get_or old.feeds other d)) (sym (from_feed-other feed other heard m apart.0)) (s.each other d (subst (λ n. other < n) count below)))
         ];
       }
 
-  pub feeds-row : (old new : Feeds) (feed : ℕ) (key : Row) (id : ℕ) → FeedsHeard i records heard old → HearsRow old new feed key id → feed < feed_count old → id < length records → IsOneId records id
+  pub feeds-row : (old new : FeedsView) (feed : ℕ) (key : Row) (id : ℕ) → FeedsHeard i records heard old → HearsRow old new feed key id → feed < feed_count old → id < length records → IsOneId records id
       → key_of_entry i (port_of_feed i feed, row_with_id records id) ≡ Some key → FeedsHeard i records (heard ++ (feed, row (row_with_id records id)) ∷ []) new
   feeds-row old new feed key id s h within given one of =
       let was : FeedHeard i records feed (from_feed feed heard) h.was = subst (λ f. FeedHeard i records feed (from_feed feed heard) f) (sym h.changed.first) (s.each feed h.was within) in
       one_hears old new feed h.was h.now (row (row_with_id records id)) s within h.changed (feed-row i records feed (from_feed feed heard) h.was h.now was key id h.hears given one (all_from feed heard) of)
 
-  pub feeds-seal : (old new : Feeds) (feed : ℕ) (key : Row) (count : ℕ) → FeedsHeard i records heard old → HearsSeal old new feed key count → feed < feed_count old → FeedsHeard i records (heard ++ (feed, seal key count) ∷ []) new
+  pub feeds-seal : (old new : FeedsView) (feed : ℕ) (key : Row) (count : ℕ) → FeedsHeard i records heard old → HearsSeal old new feed key count → feed < feed_count old → FeedsHeard i records (heard ++ (feed, seal key count) ∷ []) new
   feeds-seal old new feed key count s h within =
       let was : FeedHeard i records feed (from_feed feed heard) h.was = subst (λ f. FeedHeard i records feed (from_feed feed heard) f) (sym h.changed.first) (s.each feed h.was within) in
       one_hears old new feed h.was h.now (seal key count) s within h.changed (feed-seal i records feed (from_feed feed heard) h.was h.now was key count h.hears)
 
-  pub feeds-no_row : (f : Feeds) (feed : ℕ) (r : Row) → FeedsHeard i records heard f → key_of_entry i (port_of_feed i feed, r) ≡ None → FeedsHeard i records (heard ++ (feed, row r) ∷ []) f
+  pub feeds-no_row : (f : FeedsView) (feed : ℕ) (r : Row) → FeedsHeard i records heard f → key_of_entry i (port_of_feed i feed, r) ≡ None → FeedsHeard i records (heard ++ (feed, row r) ∷ []) f
   feeds-no_row f feed r s of = record {
     ports = s.ports;
     count = s.count;
@@ -257,23 +251,23 @@ module _ (i : Instance) (records : List Row) (heard : List Pair) where
     within = s.within;
     each = λ other d below. elim (eqb_tells feed other) [
       | inl one ↦
-          subst (λ n. FeedHeard i records n (from_feed n (heard ++ (feed, row r) ∷ [])) (get_or f.feeds.items n d)) one.1
-          (subst (λ sent. FeedHeard i records feed sent (get_or f.feeds.items feed d)) (sym (from_feed-own feed heard (row r)))
-          (feed-no_row i records feed (from_feed feed heard) (get_or f.feeds.items feed d) r (s.each feed d (subst (λ n. n < feed_count f) (sym one.1) below)) of))
-      | inr apart ↦ subst (λ sent. FeedHeard i records other sent (get_or f.feeds.items other d)) (sym (from_feed-other feed other heard (row r) apart.0)) (s.each other d below)
+          subst (λ n. FeedHeard i records n (from_feed n (heard ++ (feed, row r) ∷ [])) (get_or f.feeds n d)) one.1
+          (subst (λ sent. FeedHeard i records feed sent (get_or f.feeds feed d)) (sym (from_feed-own feed heard (row r)))
+          (feed-no_row i records feed (from_feed feed heard) (get_or f.feeds feed d) r (s.each feed d (subst (λ n. n < feed_count f) (sym one.1) below)) of))
+      | inr apart ↦ subst (λ sent. FeedHeard i records other sent (get_or f.feeds other d)) (sym (from_feed-other feed other heard (row r) apart.0)) (s.each other d below)
     ];
   }
 
   -- ---- what the feeds answer of ports and keys
 
-  pub port_in-is : (f : Feeds) (feed : ℕ) → FeedsHeard i records heard f → feed < feed_count f → port_in f feed ≡ port_of_feed i feed
-  port_in-is f feed s within = elim (slice_get_cases f.feeds.items feed).1 [
-    | inl m ↦ ap (λ (o : Option Feed). option_map_or (λ (x : Feed). x.port) o (length f.ports.items)) m.2 ∙ ap (λ (x : Feed). x.port) (sym m.3) ∙ (s.each feed m.0 within).port
+  pub port_in-is : (f : FeedsView) (feed : ℕ) → FeedsHeard i records heard f → feed < feed_count f → port_in f feed ≡ port_of_feed i feed
+  port_in-is f feed s within = elim (slice_get_cases f.feeds feed).1 [
+    | inl m ↦ ap (λ (o : Option FeedView). option_map_or (λ (x : FeedView). x.port) o (length f.ports)) m.2 ∙ ap (λ (x : FeedView). x.port) (sym m.3) ∙ (s.each feed m.0 within).port
     | inr past ↦ absurd (let le : feed_count f ≤ feed = past.0 in omega arith)
   ]
 
-  pub key_in-is : (f : Feeds) (entry : Entry) → FeedsHeard i records heard f → key_in f entry ≡ key_of_entry i entry
+  pub key_in-is : (f : FeedsView) (entry : Entry) → FeedsHeard i records heard f → key_in f entry ≡ key_of_entry i entry
   key_in-is f entry s = ap (λ (ports : List PortKey). option_map (λ (places : List ℕ). cells places entry.1) (option_and_then (λ (p : PortKey). p.places) (slice_get ports entry.0))) s.ports
 
-  pub carries_in-is : (f : Feeds) (port : ℕ) → FeedsHeard i records heard f → carries_in f port ≡ is_carrying i port
+  pub carries_in-is : (f : FeedsView) (port : ℕ) → FeedsHeard i records heard f → carries_in f port ≡ is_carrying i port
   carries_in-is f port s = ap (λ (ports : List PortKey). option_map_or (λ (p : PortKey). p.carries) (slice_get ports port) false) s.ports

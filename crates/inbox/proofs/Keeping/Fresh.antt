@@ -12,13 +12,11 @@ use Rattle.inbox.specs.Instances.{Instance, PortKey, port_of_feed, is_carrying}
 use Rattle.inbox.specs.Timesteps.{is_some_feed, is_due}
 use Rattle.inbox.specs.Wiring.{instance_for, port_for}
 use Rattle.messages.specs.Log.{EntryId, entries_with_ids}
-use Rattle.partitions.specs.Ports.{port_keys}
 use Rattle.inbox.specs.Code.Places.{places_of}
-use Rattle.partitions.specs.Feeds.{feed_count, IsFreshFeed, carries_at, IsFresh, IsCleared}
+use Rattle.partitions.specs.Whole.{feeds_view}
+use Rattle.partitions.specs.Feeds.{FeedView, FeedsView, feed_count, IsFreshFeed, carries_at, IsFresh, IsCleared}
 use Rattle.inbox.specs.Code.Heard.{FeedHeard, FeedsHeard, WaitingHeard, is_sealing}
 use Rattle.inbox.specs.Inbox.{Keeps, HasHeard}
-use Rattle.partitions.specs.declared.feed.Feed.{Feed}
-use Rattle.partitions.specs.declared.feeds.Feeds.{Feeds}
 use Rattle.inbox.specs.declared.waiting.Waiting.{Waiting}
 use Rattle.inbox.specs.declared.inbox.Inbox.{Inbox}
 use Rattle.inbox.proofs.WiringLemmas.{instance-feeds, instance-ports, port_of-feed}
@@ -40,7 +38,7 @@ any_by_place (x ∷ xs) g f a same =
 
 -- ---- one feed
 
-fresh_feed : (i : Instance) (records : List Row) (k : ℕ) (f : Feed) (port : ℕ) (carries : Bool) → IsFreshFeed port carries f → port ≡ port_of_feed i k → carries ≡ is_carrying i (port_of_feed i k) → FeedHeard i records k [] f
+fresh_feed : (i : Instance) (records : List Row) (k : ℕ) (f : FeedView) (port : ℕ) (carries : Bool) → IsFreshFeed port carries f → port ≡ port_of_feed i k → carries ≡ is_carrying i (port_of_feed i k) → FeedHeard i records k [] f
 fresh_feed i records k f port carries fresh is own = record {
   port = fresh.port_is ∙ is;
   carries = fresh.carries_is ∙ own;
@@ -62,19 +60,19 @@ module _ (i : Instance) (records : List Row) where
       by (f ∷ fs) zero below = refl
       by (f ∷ fs) (suc n) below = by fs n (omega arith)
 
-  pub fresh_feeds : (f : Feeds) → IsFresh i.ports (map (λ (x : TopoFeed). x.port) i.feeds) f → ((feed : ℕ) → feed < length i.feeds → port_of_feed i feed < length i.ports) → FeedsHeard i records [] f
+  pub fresh_feeds : (f : FeedsView) → IsFresh i.ports (map (λ (x : TopoFeed). x.port) i.feeds) f → ((feed : ℕ) → feed < length i.feeds → port_of_feed i feed < length i.ports) → FeedsHeard i records [] f
   fresh_feeds f fresh inside =
       let count : feed_count f ≡ length i.feeds = fresh.feeds.count ∙ length-map i.feeds in
-      let each : (k : ℕ) (d : Feed) → k < feed_count f → FeedHeard i records k [] (get_or f.feeds.items k d) = λ k d within.
+      let each : (k : ℕ) (d : FeedView) → k < feed_count f → FeedHeard i records k [] (get_or f.feeds k d) = λ k d within.
       let at = port_at k (subst (λ n. k < n) count within) in
-      fresh_feed i records k (get_or f.feeds.items k d) (get_or (map (λ (x : TopoFeed). x.port) i.feeds) k 0) (carries_at i.ports (get_or (map (λ (x : TopoFeed). x.port) i.feeds) k 0))
+      fresh_feed i records k (get_or f.feeds k d) (get_or (map (λ (x : TopoFeed). x.port) i.feeds) k 0) (carries_at i.ports (get_or (map (λ (x : TopoFeed). x.port) i.feeds) k 0))
       (fresh.feeds.each k d within) at (ap (carries_at i.ports) at) in
       record {
         ports = fresh.ports_are;
         count = count;
         some =
             fresh.some
-            ∙ any_by_place f.feeds.items (λ (x : Feed). x.carries) (λ feed. is_carrying i (port_of_feed i feed)) 0
+            ∙ any_by_place f.feeds (λ (x : FeedView). x.carries) (λ feed. is_carrying i (port_of_feed i feed)) 0
             (λ k d within. let own : 0 + k ≡ k = omega arith in (each k d within).carries ∙ ap (λ feed. is_carrying i (port_of_feed i feed)) (sym own))
             ∙ ap (λ n. list_any (λ feed. is_carrying i (port_of_feed i feed)) (range_with_len 0 n)) count
             ∙ sym (some-filter (λ feed. is_carrying i (port_of_feed i feed)) (range_with_len 0 (length i.feeds)));
@@ -86,15 +84,15 @@ module _ (i : Instance) (records : List Row) where
       length-map [] = refl
       length-map (x ∷ fs) = ap suc (length-map fs)
 
-  cleared_feeds : (before : List Row) (heard : List Pair) (old new : Feeds) → FeedsHeard i before heard old → IsCleared old new → FeedsHeard i records [] new
+  cleared_feeds : (before : List Row) (heard : List Pair) (old new : FeedsView) → FeedsHeard i before heard old → IsCleared old new → FeedsHeard i records [] new
   cleared_feeds before heard old new s c = record {
-    ports = ap port_keys c.ports ∙ s.ports;
+    ports = c.ports ∙ s.ports;
     count = c.count ∙ s.count;
     some = c.some ∙ s.some;
     within = s.within;
     each = λ k d within.
         let own = s.each k d (subst (λ n. k < n) c.count within) in
-        fresh_feed i records k (get_or new.feeds.items k d) (get_or old.feeds.items k d).port (get_or old.feeds.items k d).carries (c.each k d (subst (λ n. k < n) c.count within)) own.port own.carries;
+        fresh_feed i records k (get_or new.feeds k d) (get_or old.feeds k d).port (get_or old.feeds k d).carries (c.each k d (subst (λ n. k < n) c.count within)) own.port own.carries;
   }
 
   empty_waiting : (waits : Entry → Bool) (w : Waiting) → w.log ≡ [] → ((key : Row) → places_of w.places key ≡ []) → w.held ≡ 0 → WaitingHeard i records waits [] w
@@ -112,7 +110,7 @@ module _ (i : Instance) (records : List Row) where
 
   -- ---- no batches
 
-  stands_for_none : (waits : Entry → Bool) (x : Inbox) → x.sealing ≡ is_sealing i.mode → is_order_mode i.mode ≡ false → FeedsHeard i records [] x.feeds → x.waiting.log ≡ [] → ((key : Row) → places_of x.waiting.places key ≡ []) → x.waiting.held ≡ 0
+  stands_for_none : (waits : Entry → Bool) (x : Inbox) → x.sealing ≡ is_sealing i.mode → is_order_mode i.mode ≡ false → FeedsHeard i records [] (feeds_view x.feeds) → x.waiting.log ≡ [] → ((key : Row) → places_of x.waiting.places key ≡ []) → x.waiting.held ≡ 0
       → Keeps i records waits [] x
   stands_for_none waits x mode hears heard log places held = record {
     mode = mode;
@@ -123,23 +121,23 @@ module _ (i : Instance) (records : List Row) where
     idle = λ off. record { log = log; held = held };
   }
 
-  pub has_cleared : (before : List Row) (batches : List Batch) (old new : Inbox) → HasHeard i before batches old → new.sealing ≡ old.sealing → IsCleared old.feeds new.feeds → new.waiting.log ≡ [] → ((key : Row) → places_of new.waiting.places key ≡ []) → new.waiting.held ≡ 0
+  pub has_cleared : (before : List Row) (batches : List Batch) (old new : Inbox) → HasHeard i before batches old → new.sealing ≡ old.sealing → IsCleared (feeds_view old.feeds) (feeds_view new.feeds) → new.waiting.log ≡ [] → ((key : Row) → places_of new.waiting.places key ≡ []) → new.waiting.held ≡ 0
       → HasHeard i records [] new
   has_cleared before batches old new s mode feeds log places held =
-      stands_for_none (λ entry. not (is_due i [] entry)) new (mode ∙ s.mode) s.hears (cleared_feeds before (all_pairs batches) old.feeds new.feeds s.feeds feeds) log places held
+      stands_for_none (λ entry. not (is_due i [] entry)) new (mode ∙ s.mode) s.hears (cleared_feeds before (all_pairs batches) (feeds_view old.feeds) (feeds_view new.feeds) s.feeds feeds) log places held
 
 -- of an instance of a topology
 pub has_none : (v : View) (c j : ℕ) (records : List Row) (x : Inbox) → is_order v c ≡ false → x.sealing ≡ is_sealing (mode_of v c)
     → (ports : List PortKey) (feed_ports : List ℕ) → ports ≡ map (λ p. port_for v c p (mode_key (mode_of v c))) (port_numbers v c) → feed_ports ≡ map (λ (f : TopoFeed). f.port) (feeds v c j)
-    → IsFresh ports feed_ports x.feeds → x.waiting.log ≡ [] → ((key : Row) → places_of x.waiting.places key ≡ []) → x.waiting.held ≡ 0
+    → IsFresh ports feed_ports (feeds_view x.feeds) → x.waiting.log ≡ [] → ((key : Row) → places_of x.waiting.places key ≡ []) → x.waiting.held ≡ 0
     → HasHeard (instance_for v c j) records [] x
 has_none v c j records x hears mode ports feed_ports ports_are feeds_are fresh log places held =
     let i : Instance = instance_for v c j in
     let own : (instance_for v c j).feeds ≡ feeds v c j = ap (λ b. cond b (log_feeds v c) (feeds v c j)) hears in
-    let fresh_now : IsFresh i.ports (map (λ (f : TopoFeed). f.port) i.feeds) x.feeds =
-    subst (λ l. IsFresh i.ports l x.feeds) (feeds_are ∙ ap (map (λ (f : TopoFeed). f.port)) (sym own)) (subst (λ l. IsFresh l feed_ports x.feeds) ports_are fresh) in
+    let fresh_now : IsFresh i.ports (map (λ (f : TopoFeed). f.port) i.feeds) (feeds_view x.feeds) =
+    subst (λ l. IsFresh i.ports l (feeds_view x.feeds)) (feeds_are ∙ ap (map (λ (f : TopoFeed). f.port)) (sym own)) (subst (λ l. IsFresh l feed_ports (feeds_view x.feeds)) ports_are fresh) in
     stands_for_none i records (λ entry. not (is_due i [] entry)) x mode hears
-    (fresh_feeds i records x.feeds fresh_now (λ feed within.
+    (fresh_feeds i records (feeds_view x.feeds) fresh_now (λ feed within.
     let into = instance-feeds v c j (get_or i.feeds feed no_feed) (Has-get_or i.feeds feed no_feed within) in
     subst (λ n. n < length i.ports) (sym (port_of-feed i feed within)) (subst (λ n. (get_or i.feeds feed no_feed).port < n) (sym (instance-ports v c j)) into.port)))
     log places held

@@ -22,17 +22,16 @@ use Rattle.inbox.specs.Instances.{Instance, port_of_feed, is_carrying, entry_of,
 use Rattle.inbox.specs.Timesteps.{is_due, is_of_some, timestep_of, one_timestep, one_by_one, first_part, second_part, newly_whole, steps_in, held_count}
 use Rattle.messages.specs.Ids.{message_with_id, pair_with_id, batch_with_ids, IsGiven}
 use Rattle.messages.specs.Log.{EntryId, AreGiven, is_same_entry_id, row_with_id, entry_with_id, entries_with_ids}
-use Rattle.partitions.specs.Feeds.{feed_count, port_count, port_in, key_in, carries_in, is_whole_in, is_due_in}
+use Rattle.partitions.specs.Whole.{feeds_view}
+use Rattle.partitions.specs.Feeds.{FeedsView, feed_count, port_count, port_in, key_in, carries_in, is_whole_in, is_due_in}
 use Rattle.inbox.specs.Code.Batches.{AllWaitWith, id_in, entry_ids_of, goes_in, open_key, steps_released, Releases}
 use Rattle.inbox.specs.Code.Heard.{FeedsHeard, WaitingHeard, IsIdle, is_sealing, is_place_of}
-use Rattle.partitions.specs.Ports.{port_keys}
+use Rattle.partitions.specs.Ports.{PortKey}
 use Rattle.inbox.specs.Code.Places.{places_of}
 use Rattle.inbox.specs.Code.Waiting.{released_of}
 use Rattle.inbox.specs.Inbox.{Keeps, HasHeard}
 use Rattle.messages.specs.declared.message.Message.{Message as IdMessage}
 use Rattle.messages.specs.declared.message.Message.TheVariants.{Row, Seal}
-use Rattle.partitions.specs.declared.feeds.Feeds.{Feeds}
-use Rattle.partitions.specs.declared.port.Port.{Port}
 use Rattle.inbox.specs.declared.waiting.Waiting.{Waiting}
 use Rattle.inbox.specs.declared.inbox.Inbox.{Inbox}
 use Rattle.messages.proofs.LogLemmas.{one_id, any-with_ids}
@@ -47,7 +46,7 @@ use Rattle.inbox.proofs.Keeping.Released.{filter-map, released-is, first_steps-a
 
 -- ---- the records of a batch
 
-module _ (i : Instance) (records : List Record) (heard : List Pair) (f : Feeds) (s : FeedsHeard i records heard f) where
+module _ (i : Instance) (records : List Record) (heard : List Pair) (f : FeedsView) (s : FeedsHeard i records heard f) where
   entry_more : (feed : ℕ) (m : IdMessage) (rest : List EntryId) → feed < feed_count f
       → entries_with_ids records (cons_option (option_map (λ id. (port_in f feed, id)) (id_in m)) rest) ≡ cons_option (option_map (λ r. (port_of_feed i feed, r)) (row_in (message_with_id records m))) (entries_with_ids records rest)
   entry_more feed (Row id) rest inside = ap (λ (port : ℕ). let e : Entry = (port, row_with_id records id) in e ∷ entries_with_ids records rest) (port_in-is i records heard f feed s inside)
@@ -60,7 +59,7 @@ module _ (i : Instance) (records : List Record) (heard : List Pair) (f : Feeds) 
       ∙ ap (cons_option (entry_of i (pair_with_id records pair))) (entry_ids-are batch (λ p h. inside p (inr h)))
 
 -- an id of a batch is given
-id_given : (records : List Record) (f : Feeds) (batch : List (ℕ × IdMessage)) → ((pair : ℕ × IdMessage) → Has pair batch → IsGiven records pair.1) → AreGiven records (entry_ids_of f batch)
+id_given : (records : List Record) (f : FeedsView) (batch : List (ℕ × IdMessage)) → ((pair : ℕ × IdMessage) → Has pair batch → IsGiven records pair.1) → AreGiven records (entry_ids_of f batch)
 id_given records f [] given e h = absurd h
 id_given records f (pair ∷ batch) given e h = by pair.1 (given pair (inl refl)) (λ rest. id_given records f batch (λ p there. given p (inr there)) e rest) h
   where
@@ -69,7 +68,7 @@ id_given records f (pair ∷ batch) given e h = by pair.1 (given pair (inl refl)
     by (Row id) g later (inr rest) = later rest
     by (Seal key count) g later rest = later rest
 
-pub ids_given : (records : List Record) (f : Feeds) (batch : List (ℕ × IdMessage)) → ((pair : ℕ × IdMessage) → Has pair batch → IsGiven records pair.1) → AreGiven records (entry_ids_of f batch)
+pub ids_given : (records : List Record) (f : FeedsView) (batch : List (ℕ × IdMessage)) → ((pair : ℕ × IdMessage) → Has pair batch → IsGiven records pair.1) → AreGiven records (entry_ids_of f batch)
 ids_given = id_given
 
 -- ---- modes
@@ -105,46 +104,42 @@ filter_all p (x ∷ xs) all = ap (λ b. cond b (x ∷ filter p xs) (filter p xs)
 -- ---- what goes with the batch
 
 module _ (i : Instance) (records : List Record) (waits : Entry → Bool) (heard : List Pair) (x : Inbox) (s : Keeps i records waits heard x) (pool : IsPool records) (batch : List (ℕ × IdMessage))
-    (inside : (pair : ℕ × IdMessage) → Has pair batch → pair.0 < feed_count x.feeds) (given : (pair : ℕ × IdMessage) → Has pair batch → IsGiven records pair.1) where
+    (inside : (pair : ℕ × IdMessage) → Has pair batch → pair.0 < feed_count (feeds_view x.feeds)) (given : (pair : ℕ × IdMessage) → Has pair batch → IsGiven records pair.1) where
   -- under Seal those that are new and wait for nothing
   abbrev goes_now : Entry → Bool
   goes_now entry = not (list_any (is_same_entry entry) (entries_of i heard)) && is_due i heard entry
 
-  one_goes : x.sealing ≡ true → (e : EntryId) → Has e (entry_ids_of x.feeds batch) → goes_in records x e ≡ goes_now (entry_with_id records e)
+  one_goes : x.sealing ≡ true → (e : EntryId) → Has e (entry_ids_of (feeds_view x.feeds) batch) → goes_in records x e ≡ goes_now (entry_with_id records e)
   one_goes on e h =
       let w : WaitingHeard i records waits heard x.waiting = s.waiting on in
       let r : Entry = entry_with_id records e in
       let known : list_any (is_same_entry_id e) x.waiting.log ≡ list_any (is_same_entry r) (entries_of i heard) =
-      sym (any-with_ids records e x.waiting.log (one_id records pool e.1 (id_given records x.feeds batch given e h)) w.given)
+      sym (any-with_ids records e x.waiting.log (one_id records pool e.1 (id_given records (feeds_view x.feeds) batch given e h)) w.given)
       ∙ ap (list_any (is_same_entry r)) w.log
       ∙ same_truth (list_any (is_same_entry r) (firsts is_same_entry (entries_of i heard))) (list_any (is_same_entry r) (entries_of i heard))
       (λ found. any-from_same is_same_entry is_same_entry-is is_same_entry-itself r (entries_of i heard) (Has-from_firsts is_same_entry is_same_entry-is is_same_entry-itself r (entries_of i heard) (same-from_any is_same_entry is_same_entry-is is_same_entry-itself r (firsts is_same_entry (entries_of i heard)) found)))
       (λ found. any-from_same is_same_entry is_same_entry-is is_same_entry-itself r (firsts is_same_entry (entries_of i heard)) (Has-firsts is_same_entry is_same_entry-is is_same_entry-itself r (entries_of i heard) (same-from_any is_same_entry is_same_entry-is is_same_entry-itself r (entries_of i heard) found))) in
-      ap (λ b. not b || (not (list_any (is_same_entry_id e) x.waiting.log) && is_due_in x.feeds (key_in x.feeds r))) on
-      ∙ ap (λ b. not b && is_due_in x.feeds (key_in x.feeds r)) known
-      ∙ ap (λ b. not (list_any (is_same_entry r) (entries_of i heard)) && b) (due_in-is i records heard x.feeds s.feeds r)
+      ap (λ b. not b || (not (list_any (is_same_entry_id e) x.waiting.log) && is_due_in (feeds_view x.feeds) (key_in (feeds_view x.feeds) r))) on
+      ∙ ap (λ b. not b && is_due_in (feeds_view x.feeds) (key_in (feeds_view x.feeds) r)) known
+      ∙ ap (λ b. not (list_any (is_same_entry r) (entries_of i heard)) && b) (due_in-is i records heard (feeds_view x.feeds) s.feeds r)
 
-  going-seal : x.sealing ≡ true → entries_with_ids records (filter (goes_in records x) (entry_ids_of x.feeds batch)) ≡ filter goes_now (entries_of i (batch_with_ids records batch))
+  going-seal : x.sealing ≡ true → entries_with_ids records (filter (goes_in records x) (entry_ids_of (feeds_view x.feeds) batch)) ≡ filter goes_now (entries_of i (batch_with_ids records batch))
   going-seal on =
-      ap (entries_with_ids records) (filter_same (goes_in records x) (λ e. goes_now (entry_with_id records e)) (entry_ids_of x.feeds batch) (one_goes on))
-      ∙ sym (filter-map (entry_with_id records) goes_now (entry_ids_of x.feeds batch))
-      ∙ ap (filter goes_now) (entry_ids-are i records heard x.feeds s.feeds batch inside)
+      ap (entries_with_ids records) (filter_same (goes_in records x) (λ e. goes_now (entry_with_id records e)) (entry_ids_of (feeds_view x.feeds) batch) (one_goes on))
+      ∙ sym (filter-map (entry_with_id records) goes_now (entry_ids_of (feeds_view x.feeds) batch))
+      ∙ ap (filter goes_now) (entry_ids-are i records heard (feeds_view x.feeds) s.feeds batch inside)
 
-  going-at_once : x.sealing ≡ false → entries_with_ids records (filter (goes_in records x) (entry_ids_of x.feeds batch)) ≡ entries_of i (batch_with_ids records batch)
+  going-at_once : x.sealing ≡ false → entries_with_ids records (filter (goes_in records x) (entry_ids_of (feeds_view x.feeds) batch)) ≡ entries_of i (batch_with_ids records batch)
   going-at_once off =
-      ap (entries_with_ids records) (filter_all (goes_in records x) (entry_ids_of x.feeds batch) (λ e. ap (λ b. not b || (not (list_any (is_same_entry_id e) x.waiting.log) && is_due_in x.feeds (key_in x.feeds (entry_with_id records e)))) off))
-      ∙ entry_ids-are i records heard x.feeds s.feeds batch inside
+      ap (entries_with_ids records) (filter_all (goes_in records x) (entry_ids_of (feeds_view x.feeds) batch) (λ e. ap (λ b. not b || (not (list_any (is_same_entry_id e) x.waiting.log) && is_due_in (feeds_view x.feeds) (key_in (feeds_view x.feeds) (entry_with_id records e)))) off))
+      ∙ entry_ids-are i records heard (feeds_view x.feeds) s.feeds batch inside
 
 -- ---- what is released
 
-count_ports : (i : Instance) (records : List Record) (heard : List Pair) (f : Feeds) → FeedsHeard i records heard f → port_count f ≡ length i.ports
-count_ports i records heard f s = sym (length_keys f.ports.items) ∙ ap length s.ports
-  where
-    length_keys : (ports : List Port) → length (port_keys ports) ≡ length ports
-    length_keys [] = refl
-    length_keys (p ∷ ports) = ap suc (length_keys ports)
+count_ports : (i : Instance) (records : List Record) (heard : List Pair) (f : FeedsView) → FeedsHeard i records heard f → port_count f ≡ length i.ports
+count_ports i records heard f s = ap (length {A = PortKey}) s.ports
 
-pub released_first : (i : Instance) (records : List Record) (waits : Entry → Bool) (heard : List Pair) (f : Feeds) (w : Waiting) (whole : List Record) → FeedsHeard i records heard f → WaitingHeard i records waits heard w
+pub released_first : (i : Instance) (records : List Record) (waits : Entry → Bool) (heard : List Pair) (f : FeedsView) (w : Waiting) (whole : List Record) → FeedsHeard i records heard f → WaitingHeard i records waits heard w
     → steps_released records f whole (released_of w whole) ≡ first_part i whole (entries_of i heard)
 released_first i records waits heard f w [] s t = refl
 released_first i records waits heard f w (key ∷ keys) s t =
@@ -170,13 +165,13 @@ released_first i records waits heard f w (key ∷ keys) s t =
 -- what the code says of the batch, from its beginning over its middle, when all is heard, to its end
 pub record HearsBatch (records : List Record) (old mid new : Inbox) (partial : BTreeSet Record) (batch : List (ℕ × IdMessage)) (going : List EntryId) (whole : List Record) (first steps : List Sets) : Type 0 where
   pub pool : IsPool records
-  pub inside : (pair : ℕ × IdMessage) → Has pair batch → pair.0 < feed_count old.feeds
+  pub inside : (pair : ℕ × IdMessage) → Has pair batch → pair.0 < feed_count (feeds_view old.feeds)
   pub given : (pair : ℕ × IdMessage) → Has pair batch → IsGiven records pair.1
-  pub open_keys : partial.keys ≡ set_of (filter_map (open_key old.feeds) (batch_with_ids records batch))
-  pub going_are : going ≡ filter (goes_in records old) (entry_ids_of old.feeds batch)
-  pub whole_are : whole ≡ filter (is_whole_in mid.feeds) partial.keys
+  pub open_keys : partial.keys ≡ set_of (filter_map (open_key (feeds_view old.feeds)) (batch_with_ids records batch))
+  pub going_are : going ≡ filter (goes_in records old) (entry_ids_of (feeds_view old.feeds) batch)
+  pub whole_are : whole ≡ filter (is_whole_in (feeds_view mid.feeds)) partial.keys
   pub releases : Releases records mid new (cond mid.sealing whole []) [] first
-  pub steps_are : steps ≡ first ++ one_timestep (port_count new.feeds) (entries_with_ids records going)
+  pub steps_are : steps ≡ first ++ one_timestep (port_count (feeds_view new.feeds)) (entries_with_ids records going)
 
 pairs_inside : (records : List Record) (count : ℕ) (batch : List (ℕ × IdMessage)) → ((pair : ℕ × IdMessage) → Has pair batch → pair.0 < count) → (pair : Pair) → Has pair (batch_with_ids records batch) → pair.0 < count
 pairs_inside records count batch inside pair h =
@@ -187,13 +182,13 @@ module _ (records : List Record) (old mid new : Inbox) (partial : BTreeSet Recor
     (h : HearsBatch records old mid new partial batch going whole first steps) (i : Instance) (batches : List Batch) (s : HasHeard i records batches old)
     (m : Keeps i records (λ entry. not (is_due i (all_pairs batches) entry)) (all_pairs batches ++ batch_with_ids records batch) mid) where
   pub whole-is : whole ≡ newly_whole i (all_pairs batches) (batch_with_ids records batch)
-  whole-is = newly-is i records (all_pairs batches) (batch_with_ids records batch) old.feeds mid.feeds partial.keys whole s.feeds m.feeds (pairs_inside records (feed_count old.feeds) batch h.inside) h.open_keys h.whole_are
+  whole-is = newly-is i records (all_pairs batches) (batch_with_ids records batch) (feeds_view old.feeds) (feeds_view mid.feeds) partial.keys whole s.feeds m.feeds (pairs_inside records (feed_count (feeds_view old.feeds)) batch h.inside) h.open_keys h.whole_are
 
   same_mode : old.sealing ≡ mid.sealing
   same_mode = s.mode ∙ sym m.mode
 
-  ports_new : port_count new.feeds ≡ length i.ports
-  ports_new = ap port_count h.releases.feeds ∙ count_ports i records (all_pairs batches ++ batch_with_ids records batch) mid.feeds m.feeds
+  ports_new : port_count (feeds_view new.feeds) ≡ length i.ports
+  ports_new = ap port_count h.releases.feeds ∙ count_ports i records (all_pairs batches ++ batch_with_ids records batch) (feeds_view mid.feeds) m.feeds
 
   pub steps-are : steps ≡ steps_in i.mode i (all_pairs batches) (batch_with_ids records batch)
   steps-are =
@@ -207,8 +202,8 @@ module _ (records : List Record) (old mid new : Inbox) (partial : BTreeSet Recor
             let on_old : old.sealing ≡ true = same_mode ∙ on in
             let released : first ≡ first_part i (newly_whole i heard more) (entries_of i (heard ++ more)) =
             h.releases.steps
-            ∙ ap (λ b. steps_released records mid.feeds (cond b whole []) (released_of mid.waiting (cond b whole []))) on
-            ∙ released_first i records (λ entry. not (is_due i heard entry)) (heard ++ more) mid.feeds mid.waiting whole m.feeds (m.waiting on)
+            ∙ ap (λ b. steps_released records (feeds_view mid.feeds) (cond b whole []) (released_of mid.waiting (cond b whole []))) on
+            ∙ released_first i records (λ entry. not (is_due i heard entry)) (heard ++ more) (feeds_view mid.feeds) mid.waiting whole m.feeds (m.waiting on)
             ∙ ap (λ keys. first_part i keys (entries_of i (heard ++ more))) whole-is in
             ap (λ l. l ++ one_timestep (length i.ports) (entries_with_ids records going)) released
             ∙ ap (λ l. first_part i (newly_whole i heard more) (entries_of i (heard ++ more)) ++ one_timestep (length i.ports) l)
@@ -217,7 +212,7 @@ module _ (records : List Record) (old mid new : Inbox) (partial : BTreeSet Recor
         | inr off ↦
             let off_old : old.sealing ≡ false = same_mode ∙ off in
             let none : first ≡ [] =
-            h.releases.steps ∙ ap (λ b. steps_released records mid.feeds (cond b whole []) (released_of mid.waiting (cond b whole []))) off in
+            h.releases.steps ∙ ap (λ b. steps_released records (feeds_view mid.feeds) (cond b whole []) (released_of mid.waiting (cond b whole []))) off in
             ap (λ l. l ++ one_timestep (length i.ports) (entries_with_ids records going)) none
             ∙ ap (one_timestep (length i.ports)) (going_ids ∙ going-at_once i records (λ entry. not (is_due i heard entry)) heard old s h.pool batch h.inside h.given off_old)
             ∙ sym (other_steps i.mode i heard more (sym m.mode ∙ off) m.hears)
@@ -286,7 +281,7 @@ pub hears_all : (records : List Record) (old mid new : Inbox) (partial : BTreeSe
     → ((i : Instance) (waits : Entry → Bool) (heard : List Pair) → AllWaitWith partial i waits (batch_with_ids records batch) → Keeps i records waits heard old → Keeps i records waits (heard ++ batch_with_ids records batch) mid)
     → (i : Instance) (batches : List Batch) → HasHeard i records batches old → Heard records old new batch whole steps i batches
 hears_all records old mid new partial batch going whole first steps h keeps i batches s =
-    let wait = all_wait i records (all_pairs batches) (batch_with_ids records batch) old.feeds partial s.feeds (pairs_inside records (feed_count old.feeds) batch h.inside) h.open_keys in
+    let wait = all_wait i records (all_pairs batches) (batch_with_ids records batch) (feeds_view old.feeds) partial s.feeds (pairs_inside records (feed_count (feeds_view old.feeds)) batch h.inside) h.open_keys in
     let m = keeps i (λ entry. not (is_due i (all_pairs batches) entry)) (all_pairs batches) wait s in
     record {
       steps_as = steps-are records old mid new partial batch going whole first steps h i batches s m;
@@ -306,7 +301,7 @@ held-is i records batches x s = elim (cases_Bool x.sealing) [
 ]
 
 -- the ids of what goes with a batch are given
-pub given_going : (records : List Record) (x : Inbox) (batch : List (ℕ × IdMessage)) → ((pair : ℕ × IdMessage) → Has pair batch → IsGiven records pair.1) → All (λ entry. entry.1 < length records) (filter (goes_in records x) (entry_ids_of x.feeds batch))
+pub given_going : (records : List Record) (x : Inbox) (batch : List (ℕ × IdMessage)) → ((pair : ℕ × IdMessage) → Has pair batch → IsGiven records pair.1) → All (λ entry. entry.1 < length records) (filter (goes_in records x) (entry_ids_of (feeds_view x.feeds) batch))
 given_going records x batch given k d below =
-    let chosen : List EntryId = filter (goes_in records x) (entry_ids_of x.feeds batch) in
-    id_given records x.feeds batch given (get_or chosen k d) (Has-from_filter (goes_in records x) (get_or chosen k d) (entry_ids_of x.feeds batch) (Has-get_or chosen k d below)).0
+    let chosen : List EntryId = filter (goes_in records x) (entry_ids_of (feeds_view x.feeds) batch) in
+    id_given records (feeds_view x.feeds) batch given (get_or chosen k d) (Has-from_filter (goes_in records x) (get_or chosen k d) (entry_ids_of (feeds_view x.feeds) batch) (Has-get_or chosen k d below)).0

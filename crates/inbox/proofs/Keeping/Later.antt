@@ -1,9 +1,7 @@
 -- What an inbox stands for by a pool it stands for by each later one.
 use Rattle.std.proofs.Common.{◌≡◌, refl, ap, sym, subst, ◌∙◌, ℕ, zero, suc, ◌<◌, ◌≤◌, Bool, true, false, cond, List, [], ◌∷◌, ◌++◌, length, length-append, filter, get_or, arith, inl, inr}
-use Rattle.std.specs.BTreeSet.{contains}
 use Rattle.std.specs.List.{list_any}
 use Rattle.std.specs.Option.{is_some}
-use Rattle.std.specs.Ordering.{nat_cmp}
 use Rattle.std.proofs.Math.ListN.{get_or-append}
 use Rattle.std.proofs.lemmas.Bool.{cases_lt}
 use Rattle.blz_pool.specs.Pool.{number_of}
@@ -13,14 +11,14 @@ use Rattle.blz_value.proofs.Membership.{Has-get_or}
 use Rattle.topo_types.specs.Messages.{is_same_row}
 use Rattle.topo_types.proofs.Regions.Spreading.{same_truth}
 use Rattle.messages.specs.Messages.{Pair, Entry, all_pairs}
+use Rattle.partitions.specs.Whole.{feeds_view}
+use Rattle.partitions.specs.Feeds.{FeedView, FeedsView}
 use Rattle.inbox.specs.Instances.{Instance, is_of_key}
 use Rattle.inbox.specs.Timesteps.{from_feed}
 use Rattle.messages.specs.Log.{EntryId, AreGiven, row_with_id, entry_with_id, entries_with_ids}
 use Rattle.inbox.specs.Code.Heard.{keyed_rows, FeedHeard, FeedsHeard, WaitingHeard, is_place_of}
 use Rattle.inbox.specs.Inbox.{Keeps}
 use Rattle.inbox.specs.Pools.{IsLater, PlacedIsLater, LaterInSteps, StandsLater, KeepsLater, GivenLater, ReadsLater}
-use Rattle.partitions.specs.declared.feed.Feed.{Feed}
-use Rattle.partitions.specs.declared.feeds.Feeds.{Feeds}
 use Rattle.inbox.specs.declared.waiting.Waiting.{Waiting}
 use Rattle.inbox.specs.declared.inbox.Inbox.{Inbox}
 use Rattle.messages.proofs.LogLemmas.{one_id}
@@ -51,7 +49,7 @@ module _ (records later : List Row) (g : IsLater records later) where
       ∙ ap (λ l. entry_with_id records e ∷ l) (entries-later entries (λ x h. given x (inr h)))
 
   -- an id that came later isn't that of a record that was heard
-  not_heard : (i : Instance) (feed : ℕ) (sent : List Pair) (f : Feed) → FeedHeard i records feed sent f → (id : ℕ) → id < length later → length records ≤ id → list_any (is_same_row (row_with_id later id)) (keyed_rows i sent) ≡ true → ⊥
+  not_heard : (i : Instance) (feed : ℕ) (sent : List Pair) (f : FeedView) → FeedHeard i records feed sent f → (id : ℕ) → id < length later → length records ≤ id → list_any (is_same_row (row_with_id later id)) (keyed_rows i sent) ≡ true → ⊥
   not_heard i feed sent f s id within past found =
       let r : Row = row_with_id later id in
       let own = id_in_pool records r (s.rows r (same-from_any is_same_row is_same_row-is is_same_row-itself r (keyed_rows i sent) found)) in
@@ -60,11 +58,11 @@ module _ (records later : List Row) (g : IsLater records later) where
       let one : own.0 ≡ id = one_id later g.pool id within own.0 (omega (arith, below, count)) (g.same own.0 below ∙ own.2) in
       absurd (omega (arith, below, past, one))
 
-  known-later : (i : Instance) (feed : ℕ) (sent : List Pair) (f : Feed) → FeedHeard i records feed sent f → (id : ℕ) → id < length later → contains nat_cmp f.known id ≡ list_any (is_same_row (row_with_id later id)) (keyed_rows i sent)
+  known-later : (i : Instance) (feed : ℕ) (sent : List Pair) (f : FeedView) → FeedHeard i records feed sent f → (id : ℕ) → id < length later → f.known id ≡ list_any (is_same_row (row_with_id later id)) (keyed_rows i sent)
   known-later i feed sent f s id within = elim (cases_lt id (length records)) [
     | inl below ↦ s.known id below ∙ ap (λ (r : Row). list_any (is_same_row r) (keyed_rows i sent)) (sym (g.same id below))
     | inr past ↦
-        same_truth (contains nat_cmp f.known id) (list_any (is_same_row (row_with_id later id)) (keyed_rows i sent))
+        same_truth (f.known id) (list_any (is_same_row (row_with_id later id)) (keyed_rows i sent))
         (λ known. absurd (let below : id < length records = s.given id known in omega (arith, below, past)))
         (λ found. absurd (not_heard i feed sent f s id within past found))
   ]
@@ -76,7 +74,7 @@ module _ (records later : List Row) (g : IsLater records later) where
       let count : length records ≤ length later = g.count in
       subst (λ x. Has x later) (g.same own.0 below ∙ own.2) (Has-get_or later own.0 [] (omega (arith, below, count)))
 
-  feed-later : (i : Instance) (feed : ℕ) (sent : List Pair) (f : Feed) → FeedHeard i records feed sent f → FeedHeard i later feed sent f
+  feed-later : (i : Instance) (feed : ℕ) (sent : List Pair) (f : FeedView) → FeedHeard i records feed sent f → FeedHeard i later feed sent f
   feed-later i feed sent f s = record {
     port = s.port;
     carries = s.carries;
@@ -87,13 +85,13 @@ module _ (records later : List Row) (g : IsLater records later) where
     need = s.need;
   }
 
-  feeds-later : (i : Instance) (heard : List Pair) (f : Feeds) → FeedsHeard i records heard f → FeedsHeard i later heard f
+  feeds-later : (i : Instance) (heard : List Pair) (f : FeedsView) → FeedsHeard i records heard f → FeedsHeard i later heard f
   feeds-later i heard f s = record {
     ports = s.ports;
     count = s.count;
     some = s.some;
     within = s.within;
-    each = λ feed d below. feed-later i feed (from_feed feed heard) (get_or f.feeds.items feed d) (s.each feed d below);
+    each = λ feed d below. feed-later i feed (from_feed feed heard) (get_or f.feeds feed d) (s.each feed d below);
   }
 
   waiting-later : (i : Instance) (waits : Entry → Bool) (heard : List Pair) (w : Waiting) → WaitingHeard i records waits heard w → WaitingHeard i later waits heard w
@@ -116,7 +114,7 @@ module _ (records later : List Row) (g : IsLater records later) where
     mode = s.mode;
     hears = s.hears;
     come = s.come;
-    feeds = feeds-later i heard x.feeds s.feeds;
+    feeds = feeds-later i heard (feeds_view x.feeds) s.feeds;
     waiting = λ on. waiting-later i waits heard x.waiting (s.waiting on);
     idle = s.idle;
   }

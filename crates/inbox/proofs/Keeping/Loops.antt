@@ -17,11 +17,12 @@ use Rattle.topo_types.specs.Data.{place_of_attribute}
 use Rattle.messages.specs.Ids.{pair_with_id, batch_with_ids}
 use Rattle.messages.specs.Messages.{Pair}
 use Rattle.messages.specs.Log.{EntryId, AreGiven}
+use Rattle.partitions.specs.Whole.{feeds_view}
+use Rattle.partitions.specs.Feeds.{FeedsView}
 use Rattle.inbox.specs.Code.Places.{places_of}
 use Rattle.inbox.specs.Code.Waiting.{released_of}
 use Rattle.inbox.specs.Code.Batches.{open_key, with_key, entry_id_of, entry_ids_of, steps_released, Releases}
 use Rattle.messages.specs.declared.message.Message.{Message}
-use Rattle.partitions.specs.declared.feeds.Feeds.{Feeds}
 use Rattle.inbox.specs.declared.waiting.Waiting.{Waiting}
 use Rattle.inbox.specs.declared.inbox.Inbox.{Inbox}
 use Rattle.inbox.proofs.TimestepLemmas.Whole.{Has-from_filter_map}
@@ -30,20 +31,20 @@ with_key-more : (keys : List Row) (o : Option Row) → set_of (keys ++ cons_opti
 with_key-more keys None = ap set_of (append-nil keys)
 with_key-more keys (Some key) = set_of-push key keys
 
-pub open_keys_more : (f : Feeds) (records : List Row) (batch : List (ℕ × Message)) (pair : ℕ × Message)
+pub open_keys_more : (f : FeedsView) (records : List Row) (batch : List (ℕ × Message)) (pair : ℕ × Message)
     → set_of (filter_map (open_key f) (batch_with_ids records (batch ++ pair ∷ []))) ≡ with_key (set_of (filter_map (open_key f) (batch_with_ids records batch))) (open_key f (pair_with_id records pair))
 open_keys_more f records batch pair =
     ap (λ l. set_of (filter_map (open_key f) l)) (map-append (pair_with_id records) batch (pair ∷ []))
     ∙ ap set_of (filter_map-append (open_key f) (batch_with_ids records batch) (pair_with_id records pair ∷ []))
     ∙ with_key-more (filter_map (open_key f) (batch_with_ids records batch)) (open_key f (pair_with_id records pair))
 
-pub entry_ids_more : (f : Feeds) (p : EntryId → Bool) (batch : List (ℕ × Message)) (pair : ℕ × Message)
+pub entry_ids_more : (f : FeedsView) (p : EntryId → Bool) (batch : List (ℕ × Message)) (pair : ℕ × Message)
     → filter p (entry_ids_of f (batch ++ pair ∷ [])) ≡ filter p (entry_ids_of f batch) ++ filter p (cons_option (entry_id_of f pair) [])
 entry_ids_more f p batch pair =
     ap (filter p) (filter_map-append (entry_id_of f) batch (pair ∷ []))
     ∙ filter-append p (entry_ids_of f batch) (cons_option (entry_id_of f pair) [])
 
-pub going_step : (f : Feeds) (p : EntryId → Bool) (batch : List (ℕ × Message)) (n : ℕ) (pair : ℕ × Message) (old new : List EntryId) → n < length batch → pair ≡ get_or batch n pair
+pub going_step : (f : FeedsView) (p : EntryId → Bool) (batch : List (ℕ × Message)) (n : ℕ) (pair : ℕ × Message) (old new : List EntryId) → n < length batch → pair ≡ get_or batch n pair
     → new ≡ old ++ filter p (cons_option (entry_id_of f pair) []) → old ≡ filter p (entry_ids_of f (take n batch)) → new ≡ filter p (entry_ids_of f (take (n + 1) batch))
 going_step f p batch n pair old new below is more so_far =
     more ∙ ap (λ l. l ++ filter p (cons_option (entry_id_of f pair) [])) so_far
@@ -77,9 +78,9 @@ given_released records w keys given k d below =
     given e (subst (λ (x : EntryId). Has x w.log) (get_or_from_slice_get w.log m.0 e e m.2) (Has-get_or w.log m.0 e (slice_get_within w.log m.0 e m.2)))
 
 -- where some partition becomes whole, its records are released
-pub releases_some : (records : List Row) (old new : Inbox) (whole : List Row) (before after : List Sets) → 1 ≤ length whole → new.sealing ≡ old.sealing → new.feeds ≡ old.feeds → new.waiting.log ≡ old.waiting.log → new.waiting.places ≡ old.waiting.places
+pub releases_some : (records : List Row) (old new : Inbox) (whole : List Row) (before after : List Sets) → 1 ≤ length whole → new.sealing ≡ old.sealing → feeds_view new.feeds ≡ feeds_view old.feeds → new.waiting.log ≡ old.waiting.log → new.waiting.places ≡ old.waiting.places
     → new.waiting.held ≡ old.waiting.held - length (released_of old.waiting whole)
-    → ((key : Row) (keys : List Row) → after ≡ before ++ steps_released records old.feeds (key ∷ keys) (released_of old.waiting whole)) → Releases records old new whole before after
+    → ((key : Row) (keys : List Row) → after ≡ before ++ steps_released records (feeds_view old.feeds) (key ∷ keys) (released_of old.waiting whole)) → Releases records old new whole before after
 releases_some records old new [] before after some mode feeds log places held steps = absurd (omega arith)
 releases_some records old new (key ∷ keys) before after some mode feeds log places held steps = record { mode = mode; feeds = feeds; log = log; places = places; held = held; steps = steps key keys }
 

@@ -1,5 +1,5 @@
 -- What the places of a partition are after one more.
-use Rattle.std.proofs.Common.{◌≡◌, refl, ap, sym, subst, ◌∙◌, ℕ, ◌+◌, ◌<◌, ◌≤◌, eqb, ◌==◌, Bool, true, false, cond, Some, List, [], ◌∷◌, ◌++◌, map, filter, length, arith, inl, inr}
+use Rattle.std.proofs.Common.{◌≡◌, refl, ap, sym, subst, ◌∙◌, ℕ, ◌<◌, ◌≤◌, eqb, ◌==◌, Bool, true, false, cond, Some, List, [], ◌∷◌, ◌++◌, map, filter, length, arith, inl, inr}
 use Rattle.std.specs.BTreeMap.{BTreeMap, get}
 use Rattle.std.specs.Cmp.{nat_eq_equiv}
 use Rattle.std.proofs.lemmas.Map.Keys.{sorted_from_strictly_increasing, IsStrictlyIncreasing-dedup}

@@ -13,12 +13,9 @@ use Rattle.topo_types.specs.Messages.{Message, row, seal}
 use Rattle.messages.specs.Messages.{Pair, Batch, Entry, sealed_in}
 use Rattle.inbox.specs.Instances.{Instance, port_of_feed, is_carrying, carrying_feeds, key_of_entry}
 use Rattle.inbox.specs.Timesteps.{is_seal_within, from_feed, is_whole_from, is_some_feed, is_whole, is_due, sealed_keys, newly_whole}
-use Rattle.partitions.specs.Counts.{have_of}
-use Rattle.partitions.specs.Feeds.{feed_count, key_in, is_enough, is_whole_in, is_due_in}
+use Rattle.partitions.specs.Feeds.{FeedView, FeedsView, feed_count, key_in, is_enough, is_whole_in, is_due_in}
 use Rattle.inbox.specs.Code.Batches.{key_by, if_open, open_key}
 use Rattle.inbox.specs.Code.Heard.{FeedsHeard}
-use Rattle.partitions.specs.declared.feed.Feed.{Feed}
-use Rattle.partitions.specs.declared.feeds.Feeds.{Feeds}
 use Rattle.messages.proofs.MessagesLemmas.{is_same_row-is}
 use Rattle.inbox.proofs.TimestepLemmas.Touching.{is_touching, is_message_of, becomes-is_touching}
 use Rattle.inbox.proofs.TimestepLemmas.UnderSeal.{of_key-is}
@@ -47,22 +44,22 @@ all_by_place (x ∷ xs) g f a same =
 
 -- ---- whole partitions
 
-module _ (i : Instance) (records : List Row) (heard : List Pair) (f : Feeds) (s : FeedsHeard i records heard f) where
-  enough-is : (key : Row) (feed : ℕ) (d : Feed) → feed < feed_count f → is_enough (get_or f.feeds.items feed d) key ≡ is_whole_from i heard key feed
+module _ (i : Instance) (records : List Row) (heard : List Pair) (f : FeedsView) (s : FeedsHeard i records heard f) where
+  enough-is : (key : Row) (feed : ℕ) (d : FeedView) → feed < feed_count f → is_enough (get_or f.feeds feed d) key ≡ is_whole_from i heard key feed
   enough-is key feed d within =
       let own = s.each feed d within in
-      own.need key (have_of (get_or f.feeds.items feed d).counts key)
+      own.need key ((get_or f.feeds feed d).have key)
       ∙ ap (λ (n : ℕ). list_any (λ (pair : Pair). is_seal_within key n pair.1) (from_feed feed heard)) (own.have key)
 
   pub whole_in-is : (key : Row) → is_whole_in f key ≡ is_whole i heard key
   whole_in-is key =
       let carrying : ℕ → Bool = λ feed. is_carrying i (port_of_feed i feed) in
       let passes : ℕ → Bool = λ feed. not (carrying feed) || is_whole_from i heard key feed in
-      ap (λ b. b && list_all (λ (x : Feed). not x.carries || is_enough x key) f.feeds.items) s.some
+      ap (λ b. b && list_all (λ (x : FeedView). not x.carries || is_enough x key) f.feeds) s.some
       ∙ ap (λ b. is_some_feed (carrying_feeds i) && b) (
-      all_by_place f.feeds.items (λ (x : Feed). not x.carries || is_enough x key) passes 0 (λ feed d within.
+      all_by_place f.feeds (λ (x : FeedView). not x.carries || is_enough x key) passes 0 (λ feed d within.
       let zero_more : 0 + feed ≡ feed = omega arith in
-      ap (λ b. not b || is_enough (get_or f.feeds.items feed d) key) (s.each feed d within).carries
+      ap (λ b. not b || is_enough (get_or f.feeds feed d) key) (s.each feed d within).carries
       ∙ ap (λ b. not (carrying feed) || b) (enough-is key feed d within)
       ∙ ap passes (sym zero_more))
       ∙ ap (λ n. list_all passes (range_with_len 0 n)) s.count
@@ -105,7 +102,7 @@ module _ (i : Instance) (records : List Row) (heard : List Pair) (f : Feeds) (s 
       sym (whole_in-is key) ∙ partial-from (key_by f m.0.0 m.0.1) key m.2
 
 -- the partitions that a batch touches and that weren't whole, of which those that are whole then become whole
-pub newly-is : (i : Instance) (records : List Row) (heard : List Pair) (batch : Batch) (old new : Feeds) (partial whole : List Row) → FeedsHeard i records heard old → FeedsHeard i records (heard ++ batch) new
+pub newly-is : (i : Instance) (records : List Row) (heard : List Pair) (batch : Batch) (old new : FeedsView) (partial whole : List Row) → FeedsHeard i records heard old → FeedsHeard i records (heard ++ batch) new
     → ((pair : Pair) → Has pair batch → pair.0 < feed_count old)
     → partial ≡ set_of (filter_map (open_key old) batch) → whole ≡ filter (is_whole_in new) partial → whole ≡ newly_whole i heard batch
 newly-is i records heard batch old new partial whole s t within open_is whole_is =

@@ -1,8 +1,6 @@
 -- When the parts of an inbox stand for what was heard.
 use Rattle.std.specs.Prelude.{◌≡◌, ◌<◌, ℕ, Bool, true, false, is_some, List, [], map, filter, length, slice_index_or}
-use Rattle.std.specs.BTreeSet.{contains}
 use Rattle.std.specs.List.{list_any}
-use Rattle.std.specs.Ordering.{nat_cmp}
 use Rattle.blz_value.specs.Members.{Has}
 use Rattle.blz_value.specs.Record.{Row}
 use Rattle.blz_value.specs.Sets.{set_of}
@@ -13,12 +11,9 @@ use Rattle.messages.specs.Messages.{Pair, Entry, is_same_entry, firsts}
 use Rattle.inbox.specs.Instances.{Instance, port_of_feed, is_carrying, carrying_feeds, entries_of, key_of_entry, is_of_key}
 use Rattle.inbox.specs.Timesteps.{is_seal_within, from_feed, is_some_feed}
 use Rattle.messages.specs.Log.{EntryId, AreGiven, entry_with_id, entries_with_ids, row_with_id}
-use Rattle.partitions.specs.Counts.{have_of, need_of, is_met}
-use Rattle.partitions.specs.Ports.{port_keys}
-use Rattle.partitions.specs.Feeds.{feed_count}
+use Rattle.partitions.specs.Counts.{is_met}
+use Rattle.partitions.specs.Feeds.{FeedView, FeedsView, feed_count}
 use Rattle.inbox.specs.Code.Places.{places_of}
-use Rattle.partitions.specs.declared.feed.Feed.{Feed}
-use Rattle.partitions.specs.declared.feeds.Feeds.{Feeds}
 use Rattle.inbox.specs.declared.waiting.Waiting.{Waiting}
 
 -- the records of partitions among what was heard from one feed
@@ -30,22 +25,22 @@ abbrev pub count_sent : Instance → (sent : List Pair) → (key : Row) → ℕ
 count_sent i sent key = length (set_of (map (λ entry. entry.1) (filter (is_of_key i key) (entries_of i sent))))
 
 -- a feed stands for what was heard from it; the pool gave the ids that are known, and has the records that were heard
-pub record FeedHeard (i : Instance) (records : List Row) (feed : ℕ) (sent : List Pair) (f : Feed) : Type 0 where
+pub record FeedHeard (i : Instance) (records : List Row) (feed : ℕ) (sent : List Pair) (f : FeedView) : Type 0 where
   pub port : f.port ≡ port_of_feed i feed
   pub carries : f.carries ≡ is_carrying i (port_of_feed i feed)
-  pub given : (id : ℕ) → contains nat_cmp f.known id ≡ true → id < length records
+  pub given : (id : ℕ) → f.known id ≡ true → id < length records
   pub rows : (r : Row) → Has r (keyed_rows i sent) → Has r records
-  pub known : (id : ℕ) → id < length records → contains nat_cmp f.known id ≡ list_any (is_same_row (row_with_id records id)) (keyed_rows i sent)
-  pub have : (key : Row) → have_of f.counts key ≡ count_sent i sent key
-  pub need : (key : Row) (n : ℕ) → is_met (need_of f.counts key) n ≡ list_any (λ pair. is_seal_within key n pair.1) sent
+  pub known : (id : ℕ) → id < length records → f.known id ≡ list_any (is_same_row (row_with_id records id)) (keyed_rows i sent)
+  pub have : (key : Row) → f.have key ≡ count_sent i sent key
+  pub need : (key : Row) (n : ℕ) → is_met (f.need key) n ≡ list_any (λ pair. is_seal_within key n pair.1) sent
 
 -- the feeds stand for what was heard
-pub record FeedsHeard (i : Instance) (records : List Row) (heard : List Pair) (f : Feeds) : Type 0 where
-  pub ports : port_keys f.ports.items ≡ i.ports
+pub record FeedsHeard (i : Instance) (records : List Row) (heard : List Pair) (f : FeedsView) : Type 0 where
+  pub ports : f.ports ≡ i.ports
   pub count : feed_count f ≡ length i.feeds
   pub some : f.some ≡ is_some_feed (carrying_feeds i)
   pub within : (feed : ℕ) → feed < length i.feeds → port_of_feed i feed < length i.ports
-  pub each : (feed : ℕ) (d : Feed) → feed < feed_count f → FeedHeard i records feed (from_feed feed heard) (slice_index_or f.feeds.items feed d)
+  pub each : (feed : ℕ) (d : FeedView) → feed < feed_count f → FeedHeard i records feed (from_feed feed heard) (slice_index_or f.feeds feed d)
 
 -- the place is that of a record of the partition
 abbrev pub is_place_of : Instance → List Row → List EntryId → (key : Row) → (place : ℕ) → Bool

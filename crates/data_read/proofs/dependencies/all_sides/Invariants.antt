@@ -1,10 +1,7 @@
-use Rattle.std.proofs.Common.{◌≡◌, ◌++◌, map, drop}
-use Rattle.std.specs.List.{flat_map, enumerate_from}
-use Rattle.data_read.specs.Broken.{sides_in}
-use Rattle.data_read.specs.Code.Earliest.{sides_view}
+use Rattle.std.proofs.Common.{◌≡◌, map, take}
+use Rattle.std.specs.List.{flat_map}
+use Rattle.data_read.specs.Code.Earliest.{placed_sides, sides_view}
 use Rattle.data_read.proofs.dependencies.all_sides.Given as goal
 
--- those so far, and those of the rest, are all
 abbrev pub invariant-loop-source : goal.invariant-loop-source
-invariant-loop-source l =
-    map sides_view l.all.items ++ flat_map (sides_in l.valid.view l.fd) (enumerate_from l.source (drop l.source l.sources)) ≡ flat_map (sides_in l.valid.view l.fd) (enumerate_from 0 l.sources)
+invariant-loop-source l = map sides_view l.all.items ≡ flat_map placed_sides (take l.source-index l.placed)

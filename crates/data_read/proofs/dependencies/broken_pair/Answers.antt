@@ -1,23 +1,25 @@
-use Rattle.std.proofs.Common.{rules, ◌<◌, arith, length}
-use Rattle.data_read.proofs.PairLemmas.{found_before, found_pair, stands_more}
+use Rattle.std.proofs.Common.{◌∙◌, ap, Some}
+use Rattle.data_read.proofs.PairLemmas.{stands_none, found_below, found_pair, stands_more}
 use Rattle.data_read.proofs.dependencies.broken_pair.Goals as goal
 
-before : (c : goal.In-Some) → c.in-Some.earlier < c.loop-place.place
-before c = found_before c.args.sided.now c.loop-place.place c.index-sided-place.result c.loop-place.by_from c.loop-place.by_to c.loop-place.invariant c.loop-place-test.true c.index-sided-place.is c.in-Some.earlier c.in-Some.ensures
+pub loop-one-init : goal.loop-one-init
+loop-one-init c = stands_none c.args.sided.now c.in_ok-from.from.keys c.in_ok-to.to.keys c.in_ok-from.ensures c.in_ok-to.ensures
 
-pub bounds-sided-earlier : goal.bounds-sided-earlier
-bounds-sided-earlier c = omega (arith, before c)
-
-pub bounds-sided-earlier-in-Some : goal.bounds-sided-earlier-in-Some
-bounds-sided-earlier-in-Some c = omega (arith, before c)
-
-pub offset_bounds-sided-earlier : goal.offset_bounds-sided-earlier
-offset_bounds-sided-earlier c = let lt : c.in-Some.earlier < length c.args.sided.now = omega (arith, before c) in search rules
+pub row_at-requires : goal.row_at-requires
+row_at-requires c =
+    found_below c.args.sided.now c.loop-one.one-index c.one-item.result c.loop-one.from.keys c.loop-one.to.keys c.loop-one.invariant c.loop-one-test.true c.one-item.is
+    c.side_at.result c.side_at-in-loop-one.result c.side_at.ensures.values c.side_at-in-loop-one.ensures.values c.side_at.ensures.row c.in_ok-first.first c.in_ok-second.second c.in_ok-first.ensures.number c.in_ok-second.ensures.number
+    c.number_of.new.sides.keys c.in-Some.earlier c.in_ok-first.ensures.kept c.in-Some.ensures
 
 pub returns-in-Some : goal.returns-in-Some
-returns-in-Some c = found_pair c.args.sided.now c.loop-place.place c.index-sided-place.result c.loop-place.by_from c.loop-place.by_to c.loop-place.invariant c.loop-place-test.true c.index-sided-place.is c.in-Some.earlier c.index-sided-earlier.result c.in-Some.ensures
+returns-in-Some c =
+    ap (λ r. Some (r, c.one-item.result.row.now)) (c.row_at.ensures c.side_at.result)
+    ∙ found_pair c.args.sided.now c.loop-one.one-index c.one-item.result c.loop-one.from.keys c.loop-one.to.keys c.loop-one.invariant c.loop-one-test.true c.one-item.is
+    c.side_at.result c.side_at-in-loop-one.result c.side_at.ensures.values c.side_at-in-loop-one.ensures.values c.side_at.ensures.row c.in_ok-first.first c.in_ok-second.second c.in_ok-first.ensures.number c.in_ok-second.ensures.number
+    c.number_of.new.sides.keys c.in-Some.earlier c.side_at.result c.in_ok-first.ensures.kept c.in-Some.ensures
 
-pub loop-place-preserved : goal.loop-place-preserved
-loop-place-preserved c =
-    stands_more c.args.sided.now c.loop-place.place c.index-sided-place.result c.loop-place.by_from c.loop-place.by_to c.loop-place.invariant c.loop-place-test.true c.index-sided-place.is
-    c.keep_first.new.places c.keep_first-in-None.new.places c.in-None.ensures c.in_ok-keep_first-in-None.ensures c.in_ok-keep_first-in-None-2.ensures
+pub loop-one-preserved : goal.loop-one-preserved
+loop-one-preserved c =
+    stands_more c.args.sided.now c.loop-one.one-index c.one-item.result c.loop-one.from.keys c.loop-one.to.keys c.loop-one.invariant c.loop-one-test.true c.one-item.is
+    c.side_at.result c.side_at-in-loop-one.result c.side_at.ensures.values c.side_at-in-loop-one.ensures.values c.side_at.ensures.row c.in_ok-first.first c.in_ok-second.second c.in_ok-first.ensures.number c.in_ok-second.ensures.number
+    c.number_of.new.sides.keys c.number_of-in-loop-one.new.sides.keys c.in_ok-first.ensures.kept c.in_ok-second.ensures.kept c.in-None.ensures

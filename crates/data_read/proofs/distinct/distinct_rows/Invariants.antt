@@ -1,10 +1,7 @@
-use Rattle.std.proofs.Common.{◌≡◌}
+use Rattle.std.proofs.Common.{◌≡◌, ◌++◌}
 use Rattle.topo_types.specs.Messages.{distinct_rows}
-use Rattle.data_read.proofs.DistinctLemmas.{Knows}
 use Rattle.data_read.proofs.distinct.distinct_rows.Given as goal
 
+-- those so far and those left are all
 abbrev pub invariant-loop-row : goal.invariant-loop-row
-invariant-loop-row l = record {
-  kept : l.distinct.items ≡ distinct_rows l.yielded;
-  knows : Knows l.known l.yielded;
-}
+invariant-loop-row l = l.distinct.items ++ l.row-iterator ≡ distinct_rows l.fn.rows.items

@@ -1,5 +1,5 @@
 -- the text so far is that of the events so far
-use Rattle.sched_run.specs.Code.Written.{IsTextSoFar}
+use Rattle.sched_run.proofs.WrittenSoFar.{IsTextSoFar}
 use Rattle.sched_run.proofs.made.text_of.Given as goal
 
 abbrev pub invariant-loop-event : goal.invariant-loop-event

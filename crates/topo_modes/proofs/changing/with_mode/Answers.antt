@@ -8,35 +8,35 @@ use Rattle.topo_modes.proofs.changing.with_mode.Goals as goal
 
 pub topology_with_mode-requires-clause-within : goal.topology_with_mode-requires-clause-within
 topology_with_mode-requires-clause-within c =
-    subst (λ (t : Topology). c.args.component < length t.components) (sym c.topology.ensures)
-    (lemmas.written_within c.args.valid.now c.args.component c.args.mode c.whole.ensures c.requires)
+    subst (λ (t : Topology). c.args.component < length t.components) (sym c.into_parts-topology.ensures.topology)
+    (lemmas.written_within c.args.valid c.args.component c.args.mode c.whole.ensures c.requires)
 
 pub regions_of-requires : goal.regions_of-requires
 regions_of-requires c =
-    lemmas.next_ends c.args.valid.now c.args.component c.args.mode c.whole.ensures c.requires (view_kept c.in_ok-kept.kept)
-    (c.in_ok-kept.ensures ∙ ap (λ (v : View). with_mode v c.args.component c.args.mode) c.kept-2.ensures)
+    lemmas.next_ends c.args.valid c.args.component c.args.mode c.whole.ensures c.requires (view_kept c.kept_with_mode-kept.result)
+    (c.kept_with_mode-kept.ensures ∙ ap (λ (v : View). with_mode v c.args.component c.args.mode) c.into_parts-topology.ensures.kept)
 
 pub found_with-requires-clause-ends : goal.found_with-requires-clause-ends
 found_with-requires-clause-ends c =
-    lemmas.next_ends c.args.valid.now c.args.component c.args.mode c.whole.ensures c.requires (view_kept c.in_ok-kept.kept)
-    (c.in_ok-kept.ensures ∙ ap (λ (v : View). with_mode v c.args.component c.args.mode) c.kept-2.ensures)
+    lemmas.next_ends c.args.valid c.args.component c.args.mode c.whole.ensures c.requires (view_kept c.kept_with_mode-kept.result)
+    (c.kept_with_mode-kept.ensures ∙ ap (λ (v : View). with_mode v c.args.component c.args.mode) c.into_parts-topology.ensures.kept)
 
-view_is : (c : goal.In_ok-found) → view_kept c.in_ok-kept.kept ≡ with_mode c.args.valid.now.view c.args.component c.args.mode
-view_is c = c.in_ok-kept.ensures ∙ ap (λ (v : View). with_mode v c.args.component c.args.mode) c.kept-2.ensures
+view_is : (c : goal.In_ok-found) → view_kept c.kept_with_mode-kept.result ≡ with_mode c.args.valid.view c.args.component c.args.mode
+view_is c = c.kept_with_mode-kept.ensures ∙ ap (λ (v : View). with_mode v c.args.component c.args.mode) c.into_parts-topology.ensures.kept
 
-topology_is : (c : goal.In_ok-found) → c.in_ok-topology.topology ≡ topology_with_mode c.args.valid.now.view.attributes c.args.valid.now.topology c.args.component c.args.mode
+topology_is : (c : goal.In_ok-found) → c.in_ok-topology.topology ≡ topology_with_mode c.args.valid.view.attributes c.args.valid.topology c.args.component c.args.mode
 topology_is c =
     c.in_ok-topology.ensures
-    ∙ ap (λ names. topology_with_mode names c.topology.result.now c.args.component c.args.mode) (c.names-names.ensures.all ∙ ap (λ (v : View). v.attributes) c.kept.ensures)
-    ∙ ap (λ (t : Topology). topology_with_mode c.args.valid.now.view.attributes t c.args.component c.args.mode) c.topology.ensures
+    ∙ ap (λ names. topology_with_mode names c.into_parts-topology.result.0 c.args.component c.args.mode) (c.names-names.ensures.all ∙ ap (λ (v : View). v.attributes) c.into_parts-topology.ensures.kept)
+    ∙ ap (λ (t : Topology). topology_with_mode c.args.valid.view.attributes t c.args.component c.args.mode) c.into_parts-topology.ensures.topology
 
 pub new-requires-clause-whole : goal.new-requires-clause-whole
 new-requires-clause-whole c =
-    lemmas.next_whole c.args.valid.now c.args.component c.args.mode c.whole.ensures c.requires (record { topology = c.in_ok-topology.topology; view = view_kept c.in_ok-kept.kept })
+    lemmas.next_whole c.args.valid c.args.component c.args.mode c.whole.ensures c.requires (record { topology = c.in_ok-topology.topology; view = view_kept c.kept_with_mode-kept.result })
     (let topology = topology_is c in let view = view_is c in λ i. record { topology = topology i; view = view i })
 
 pub new-requires-clause-valid : goal.new-requires-clause-valid
-new-requires-clause-valid c = lemmas.next_valid c.args.valid.now c.args.component c.args.mode c.whole.ensures c.requires (view_kept c.in_ok-kept.kept) (view_is c)
+new-requires-clause-valid c = lemmas.next_valid c.args.valid c.args.component c.args.mode c.whole.ensures c.requires (view_kept c.kept_with_mode-kept.result) (view_is c)
 
 pub new-requires-clause-bounded : goal.new-requires-clause-bounded
-new-requires-clause-bounded c = lemmas.next_bounded c.args.valid.now c.args.component c.args.mode c.whole.ensures c.requires (view_kept c.in_ok-kept.kept) (view_is c)
+new-requires-clause-bounded c = lemmas.next_bounded c.args.valid c.args.component c.args.mode c.whole.ensures c.requires (view_kept c.kept_with_mode-kept.result) (view_is c)

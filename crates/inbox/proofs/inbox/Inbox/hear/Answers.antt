@@ -12,6 +12,7 @@ use Rattle.messages.specs.Log.{EntryId, entries_with_ids}
 use Rattle.messages.specs.Messages.{Batch}
 use Rattle.inbox.specs.Timesteps.{one_timestep}
 use Rattle.inbox.specs.Code.Batches.{AllWaitWith, open_key, goes_in, entry_ids_of, Releases}
+use Rattle.partitions.specs.Whole.{feeds_view}
 use Rattle.partitions.specs.Feeds.{feed_count, port_count}
 use Rattle.messages.specs.declared.message.Message.{Message}
 use Rattle.inbox.proofs.Keeping.Hears.{Heard, HearsBatch, hears_all, given_going}
@@ -23,7 +24,7 @@ release-requires c = c.in_ok-hear_all.ensures.from c.requires.kept
 
 pub push_going-requires : goal.push_going-requires
 push_going-requires c =
-    subst (λ (l : List EntryId). All (λ entry. entry.1 < length c.args.pool.now) l) (sym (c.deref-5.ensures.value ∙ c.in_ok-going.ensures ∙ ap (λ (l : List (ℕ × Message)). filter (goes_in c.args.pool.now c.args.self.now) (entry_ids_of c.args.self.now.feeds l)) c.deref-2.ensures.value))
+    subst (λ (l : List EntryId). All (λ entry. entry.1 < length c.args.pool.now) l) (sym (c.deref-5.ensures.value ∙ c.in_ok-going.ensures ∙ ap (λ (l : List (ℕ × Message)). filter (goes_in c.args.pool.now c.args.self.now) (entry_ids_of (feeds_view c.args.self.now.feeds) l)) c.deref-2.ensures.value))
     (given_going c.args.pool.now c.args.self.now c.args.batch.items (λ pair h. All-of_member (λ p. IsGiven c.args.pool.now p.1) c.args.batch.items pair c.requires.given h))
 
 -- ---- what is answered, by what the calls say
@@ -39,13 +40,13 @@ hears c =
     (subst (λ (l : List Sets). Releases records c.hear_all.new.self c.release.new.self (cond c.hear_all.new.self.sealing c.deref-4.result.now []) l c.release.new.steps.items) c.new-steps.ensures.items c.in_ok-release.ensures) in
     record {
       pool = c.known.ensures;
-      inside = λ pair there. All-of_member (λ p. p.0 < feed_count old.feeds) batch pair c.requires.feeds there;
+      inside = λ pair there. All-of_member (λ p. p.0 < feed_count (feeds_view old.feeds)) batch pair c.requires.feeds there;
       given = λ pair there. All-of_member (λ p. IsGiven records p.1) batch pair c.requires.given there;
-      open_keys = c.in_ok-partial.ensures ∙ ap (λ (l : List (ℕ × Message)). set_of (filter_map (open_key old.feeds) (batch_with_ids records l))) c.deref.ensures.value;
-      going_are = c.in_ok-going.ensures ∙ ap (λ (l : List (ℕ × Message)). filter (goes_in records old) (entry_ids_of old.feeds l)) c.deref-2.ensures.value;
+      open_keys = c.in_ok-partial.ensures ∙ ap (λ (l : List (ℕ × Message)). set_of (filter_map (open_key (feeds_view old.feeds)) (batch_with_ids records l))) c.deref.ensures.value;
+      going_are = c.in_ok-going.ensures ∙ ap (λ (l : List (ℕ × Message)). filter (goes_in records old) (entry_ids_of (feeds_view old.feeds) l)) c.deref-2.ensures.value;
       whole_are = c.in_ok-whole.ensures;
       releases = released;
-      steps_are = c.in_ok-push_going.ensures ∙ ap (λ (l : List EntryId). c.release.new.steps.items ++ one_timestep (port_count c.release.new.self.feeds) (entries_with_ids records l)) c.deref-5.ensures.value;
+      steps_are = c.in_ok-push_going.ensures ∙ ap (λ (l : List EntryId). c.release.new.steps.items ++ one_timestep (port_count (feeds_view c.release.new.self.feeds)) (entries_with_ids records l)) c.deref-5.ensures.value;
     }
 
 answered : (c : In_ok-push_going) → (i : Instance) (batches : List Batch) → HasHeard i c.args.pool.now batches c.args.self.now → Heard c.args.pool.now c.args.self.now c.release.new.self c.args.batch.items c.in_ok-whole.whole.items c.push_going.new.steps.items i batches

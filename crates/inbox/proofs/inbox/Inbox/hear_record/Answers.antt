@@ -1,8 +1,9 @@
+use Rattle.partitions.specs.Whole.{feeds_view}
 use Rattle.inbox.proofs.Keeping.Batches.{keeps-row, from-record, count-if}
 use Rattle.inbox.proofs.inbox.Inbox.hear_record.Goals as goal
 
 pub returns-clause-count : goal.returns-clause-count
-returns-clause-count c = count-if c.args.self.now.feeds c.hear_row.new.self.feeds c.args.feed c.args.id _ c.in_ok-hear_row.ensures.feeds
+returns-clause-count c = count-if (feeds_view c.args.self.now.feeds) (feeds_view c.hear_row.new.self.feeds) c.args.feed c.args.id _ c.in_ok-hear_row.ensures.feeds
 
 pub returns-clause-keeps : goal.returns-clause-keeps
 returns-clause-keeps c = λ i waits heard wait s.

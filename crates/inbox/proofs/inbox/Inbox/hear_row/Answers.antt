@@ -2,6 +2,7 @@ use Rattle.std.proofs.Common.{◌∙◌, ap, sym, subst, Option, ℕ, []}
 use Rattle.std.proofs.lemmas.Option.{get_or_from_slice_get}
 use Rattle.blz_value.specs.Record.{Row}
 use Rattle.inbox.specs.Code.Batches.{is_open}
+use Rattle.partitions.specs.Whole.{feeds_view}
 use Rattle.partitions.specs.Feeds.{key_in, port_in}
 use Rattle.messages.specs.Log.{row_with_id}
 use Rattle.inbox.specs.Code.Waiting.{KeepsEntry}
@@ -10,7 +11,7 @@ use Rattle.inbox.proofs.inbox.Inbox.hear_row.Goals as goal
 
 pub returns : goal.returns
 returns c =
-    let feeds = c.args.self.now.feeds in
+    let feeds = feeds_view c.args.self.now.feeds in
     let row = get_or_from_slice_get c.args.pool.now c.args.id c.get.result.now [] c.get.ensures.record in
     let kept = c.in_ok-keep.ensures in
     let counted = c.in_ok-count.ensures in

@@ -1,11 +1,12 @@
 use Rattle.std.proofs.Common.{refl}
+use Rattle.partitions.specs.Whole.{feeds_view}
 use Rattle.inbox.proofs.Keeping.Batches.{keeps-seal, count-one}
 use Rattle.inbox.proofs.inbox.Inbox.hear_seal.Goals as goal
 
 pub returns-clause-count : goal.returns-clause-count
 returns-clause-count c =
     let hears = c.in_ok-hear_seal.ensures in
-    count-one c.args.self.now.feeds c.hear_seal.new.self c.args.feed hears.was hears.now hears.changed
+    count-one (feeds_view c.args.self.now.feeds) (feeds_view c.hear_seal.new.self) c.args.feed hears.was hears.now hears.changed
 
 pub returns-clause-keeps : goal.returns-clause-keeps
 returns-clause-keeps c = λ i waits heard s.

@@ -1,19 +1,27 @@
-use Rattle.std.proofs.Common.{◌∙◌, ◌<◌, arith, length}
-use Rattle.std.proofs.Math.ListN.{length-set}
-use Rattle.partitions.proofs.FeedsLemmas.{cleared_more, others_more}
+use Rattle.std.proofs.Common.{ℕ, List, ap, length, subst, sym}
+use Rattle.blz_value.specs.Record.{Row}
+use Rattle.partitions.specs.Feeds.{IsCleared}
+use Rattle.partitions.specs.Views.{views_of}
+use Rattle.partitions.specs.Whole.{feeds_view}
+use Rattle.partitions.specs.Code.Tallies.{IsTallied}
+use Rattle.partitions.proofs.TalliesLemmas.{fresh_tallied}
+use Rattle.partitions.proofs.HearingLemmas.{cleared_carrying, cleared_few, cleared_seen}
 use Rattle.partitions.proofs.feeds.Feeds.clear.Goals as goal
 
-pub loop-feed-preserved : goal.loop-feed-preserved
-loop-feed-preserved c =
-    let i = c.loop-feed.invariant in
-    let first = c.args.self.now.feeds.items in
-    let now = c.loop-feed.self.feeds.items in
-    let within : c.loop-feed.feed < length now = omega (arith, i.count, c.loop-feed-test.true, c.len-feed-end.ensures) in
-    let cleared = c.clear.ensures in
+pub invariant_of-self : goal.invariant_of-self
+invariant_of-self c =
+    let f = c.args.self.now in
+    let new = c.clear_feeds.new.feeds.items in
     record {
-      ports = i.ports;
-      some = i.some;
-      count = length-set now c.loop-feed.feed c.clear.new.self ∙ i.count;
-      cleared = cleared_more first now c.loop-feed.feed c.index_mut.result.now c.clear.new.self within c.index_mut.ensures.value (record { port_is = cleared.port; carries_is = cleared.carries; known = cleared.known; have = cleared.have; need = cleared.need }) i.cleared i.others;
-      others = others_more first now c.loop-feed.feed c.clear.new.self i.others;
+      tallied =
+          subst (λ (n : ℕ). IsTallied n f.carrying new c.clear-2.new.self.items) (sym (ap length c.clear.ensures.empty))
+          (subst (λ (l : List ℕ). IsTallied 0 f.carrying new l) (sym c.clear-2.ensures.items)
+          (fresh_tallied f.carrying new (cleared_carrying f.feeds.items new f.carrying c.clear_feeds.ensures f.tallied.all) (cleared_few f.feeds.items new c.clear_feeds.ensures)));
     }
+
+pub returns : goal.returns
+returns c =
+    let f = c.args.self.now in
+    let new = c.clear_feeds.new.feeds.items in
+    subst (λ (keys : List Row). IsCleared (feeds_view f) (views_of f.ports.items new keys f.carrying)) (sym c.clear.ensures.empty)
+    (cleared_seen f.ports.items f.feeds.items new f.keys.keys f.carrying c.clear_feeds.ensures)

@@ -20,7 +20,7 @@ use Rattle.bloom_index.specs.declared.memo.Memo as memo
 use Rattle.bloom_index.specs.Code.Growth.{grows}
 use Rattle.bloom_index.specs.Code.Evaluation.{Stands, IsReady, Evaluates}
 use Rattle.bloom_index.specs.Code.Turns.{rows_in, HasTurned, Turns, TurnsTo}
-use Rattle.bloom_index.proofs.Extending.{fresh_is_in}
+use Rattle.bloom_growth.proofs.Extending.{fresh_is_in}
 
 -- readiness of equal expressions and memos
 abbrev pub moved : (e0 e : NumberedExpr) (m0 m : Memo) (held : List Change) → e0 ≡ e → m0 ≡ m → IsReady e0 m0 held → IsReady e m held

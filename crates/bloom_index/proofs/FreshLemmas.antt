@@ -1,16 +1,13 @@
 -- Where no collection holds a row, no expression has one, and what is kept before the first step stands.
 -- Over empty tables, with nothing arriving, no collection holds a row.
-use Rattle.std.proofs.Common.{◌≡◌, ◌∙◌, ◌++◌, ℕ, zero, suc, Bool, Option, None, Some, unwrap_or, List, [], ◌∷◌, refl, ap, sym, subst}
+use Rattle.std.proofs.Common.{◌≡◌, ◌∙◌, ◌++◌, ℕ, zero, suc, Bool, Option, None, Some, List, [], ◌∷◌, refl, ap, sym}
 use Rattle.std.specs.Prelude.{slice_get, slice_set}
 use Rattle.std.specs.Option.{option_map_or}
-use Rattle.std.specs.BTreeMap.{BTreeMap, IsEmpty, is_at, get}
 use Rattle.std.specs.List.{fold}
-use Rattle.std.specs.Map.{lookup}
-use Rattle.blz_value.specs.declared.aggregate.Agg.{Agg}
 use Rattle.blz_value.specs.declared.aggregate.Agg.TheVariants.{Count}
 use Rattle.blz_value.specs.Groups.{with_key, group_rows, at_least_rows}
 use Rattle.blz_value.specs.Operators.{Pairs, select_rows, project_rows, join_rows, notin_rows}
-use Rattle.blz_value.specs.Record.{Row, record_cmp}
+use Rattle.blz_value.specs.Record.{Row}
 use Rattle.blz_value.specs.Sets.{set_of}
 use Rattle.blz_value.specs.Test.{test_holds}
 use Rattle.blz_set.specs.Code.Pairs.{lefts_of, rights_of}
@@ -33,29 +30,17 @@ use Rattle.bloom_ast.proofs.Ends.SameEnds.{none_at}
 use Rattle.bloom_ast.proofs.Reach.Quiet.{empty_rows}
 use Rattle.bloom_eval.specs.Code.NumberedRows.{numbered_rows}
 use Rattle.bloom_index.specs.declared.excluding.NotInMemo.{NotInMemo}
-use Rattle.bloom_index.specs.declared.groups.Groups.{Groups}
-use Rattle.bloom_index.specs.declared.joining.JoinMemo.{JoinMemo}
+use Rattle.bloom_growth.specs.declared.joining.JoinMemo.{JoinMemo}
 use Rattle.bloom_index.specs.declared.memo.Memo.{Memo}
 use Rattle.bloom_index.specs.declared.memo.Memo as memo
-use Rattle.bloom_index.specs.declared.running.Running.{Running}
-use Rattle.bloom_index.specs.declared.side.Side.{Side}
 use Rattle.bloom_index.specs.Code.Evaluation.{Stands}
-use Rattle.bloom_index.specs.Code.Emptiness.{AreEmpty, IsFreshSide, IsFreshJoin, IsFreshNotIn, AreFreshGroups, IsFresh}
-use Rattle.bloom_index.specs.Code.Groups.{IsRunningAt}
+use Rattle.bloom_growth.proofs.Fresh.{side_of_none, groups_of_none}
+use Rattle.bloom_index.specs.Code.Emptiness.{AreEmpty, IsFreshJoin, IsFreshNotIn, IsFresh}
 use Rattle.bloom_index.specs.Code.Kept.{held_over}
-use Rattle.bloom_index.specs.Code.Memos.{JoinStands, NotInStands, GroupsStand}
-use Rattle.bloom_index.specs.Code.Side.{IsSideOf}
+use Rattle.bloom_index.specs.Code.Memos.{JoinStands, NotInStands}
 use Rattle.bloom_index.specs.Sides.{module_sides, part_side, side_rows, SidePart}
 
 -- ---- what is kept
-
--- each key of an empty map finds nothing
-none_found : {X : Type 0} (m : BTreeMap Row X) → IsEmpty m → (key : Row) → get record_cmp m key ≡ None
-none_found {X} m none key = ap (λ (entries : List (Row × X)). lookup (is_at (record_cmp key)) entries) none
-
-side_of_none : (columns : List ℕ) (side : Side) (rows : List Row) → IsFreshSide columns side → rows ≡ [] → IsSideOf columns rows side.sets
-side_of_none columns side rows fresh none key =
-    ap (λ (o : Option (List Row)). unwrap_or o []) (none_found side.sets fresh.none key) ∙ sym (ap (with_key columns key) none)
 
 join_of_none : (pairs : Pairs) (left right : Bool) (lefts rights : List Row) (kept : JoinMemo) → IsFreshJoin pairs kept → lefts ≡ [] → rights ≡ [] → JoinStands pairs left right lefts rights kept
 join_of_none pairs left right lefts rights kept fresh none also = record {
@@ -71,13 +56,6 @@ notin_of_none pairs left right lefts rights kept fresh none also = record {
   right_columns = fresh.right.columns_are;
   left = λ grow. fresh.lefts ∙ sym none;
   right = λ grow. side_of_none (rights_of pairs) kept.right rights fresh.right also;
-}
-
-groups_of_none : (keys : List ℕ) (agg : Agg) (grow : Bool) (rows : List Row) (groups : Groups) → AreFreshGroups keys agg groups → rows ≡ [] → GroupsStand keys agg grow rows groups
-groups_of_none keys agg grow rows groups fresh none = record {
-  keys_are = fresh.keys_are;
-  agg_is = fresh.agg_is;
-  running = λ is key. subst (λ (o : Option Running). IsRunningAt agg (with_key keys key rows) o) (sym (none_found groups.running fresh.none key)) (ap (with_key keys key) none);
 }
 
 -- ---- where no collection holds a row

@@ -16,11 +16,11 @@ use Rattle.bloom_ast.specs.Step.{rows_named, rules_at}
 use Rattle.bloom_eval.specs.Code.Counted.{Adds}
 use Rattle.bloom_index.specs.declared.change.Change.{Change}
 use Rattle.bloom_index.specs.declared.heads.RuleMemo.{RuleMemo}
-use Rattle.bloom_index.specs.Code.Changes.{Extends}
+use Rattle.bloom_growth.specs.Growth.{Extends}
 use Rattle.bloom_index.specs.Code.Growth.{grows_at}
 use Rattle.bloom_index.specs.Code.HeadRules.{AreReady, HasOldHead, AreTurned, GrowsHead, MakesHead}
 use Rattle.bloom_index.specs.Code.Heads.{HasOldRows, GrowsBy, KeepsRows, AddsBody}
-use Rattle.bloom_index.proofs.Extending.{sorted_new, old_is_in}
+use Rattle.bloom_growth.proofs.Extending.{sorted_new, old_is_in}
 use Rattle.bloom_index.proofs.HeadRulesLemmas.{own_adds, other_adds, own_fault, none_adds, ready_at, none_turned, own_turned, other_turned, all_turned, extends_none, grown_fault, added_fault, grown_rule, made_rule}
 
 -- ---- a head that grows

@@ -29,7 +29,7 @@ use Rattle.bloom_eval.proofs.Widths.{wide_named}
 use Rattle.bloom_index.specs.declared.change.Change.{Change}
 use Rattle.bloom_index.specs.declared.heads.RuleMemo.{RuleMemo}
 use Rattle.bloom_index.specs.declared.memo.Memo.{Memo}
-use Rattle.bloom_index.specs.Code.Changes.{Extends}
+use Rattle.bloom_growth.specs.Growth.{Extends}
 use Rattle.bloom_index.specs.Code.Evaluation.{IsReady, Stands}
 use Rattle.bloom_index.specs.Code.Growth.{grows, grows_at}
 use Rattle.bloom_index.specs.Code.HeadRules.{AreReady, AreTurned}

@@ -19,12 +19,12 @@ use Rattle.bloom_eval.specs.Code.NumberedRows.{numbered_rows, numbered_sets, Tes
 use Rattle.bloom_eval.specs.StepAnswers.{AllFit}
 use Rattle.bloom_index.specs.declared.change.Change.{Change}
 use Rattle.bloom_index.specs.declared.memo.Memo.{Memo}
-use Rattle.bloom_index.specs.Code.Changes.{Extends, Takes}
+use Rattle.bloom_growth.specs.Growth.{Extends, Takes}
 use Rattle.bloom_index.specs.Code.Evaluation.{Stands, IsReady, Evaluates}
 use Rattle.bloom_index.specs.Code.Heads.{GrowsBy, AddsBody, AreNew, EvaluatesNew}
 use Rattle.bloom_index.specs.Code.Turns.{HasTurned}
 use Rattle.bloom_index.proofs.Evaluating.{moved, part_of}
-use Rattle.bloom_index.proofs.Extending.{fresh_is_in}
+use Rattle.bloom_growth.proofs.Extending.{fresh_is_in}
 use Rattle.bloom_index.proofs.NewGroups.{whole_from_fresh, few_on}
 
 -- a change added to rows that have the old ones is the whole added

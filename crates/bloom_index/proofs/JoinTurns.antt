@@ -9,16 +9,15 @@ use Rattle.blz_set.specs.Code.Pairs.{lefts_of, rights_of}
 use Rattle.blz_set.specs.declared.fault.SetFault.{SetFault}
 use Rattle.blz_set.specs.declared.fault.SetFault.TheVariants.{TooManyRows, NoMemory}
 use Rattle.bloom_index.specs.declared.change.Change.{Change}
-use Rattle.bloom_index.specs.declared.joining.JoinMemo.{JoinMemo}
-use Rattle.bloom_index.specs.Code.Changes.{Extends}
-use Rattle.bloom_index.specs.Code.Joins.{GrowsTo}
+use Rattle.bloom_growth.specs.declared.joining.JoinMemo.{JoinMemo}
+use Rattle.bloom_growth.specs.Growth.{Extends, GrowsTo}
 use Rattle.bloom_index.specs.Code.Memos.{JoinStands}
-use Rattle.bloom_index.specs.Code.Side.{IsSideOf, SideGrows}
+use Rattle.bloom_growth.specs.Sides.{IsSideOf, SideGrows}
 use Rattle.bloom_index.specs.Code.Turns.{rows_in, Turns, TurnsTo}
 use Rattle.bloom_index.proofs.Turning.{extends_of, turns_from}
 
 module _ (pairs : Pairs) (lf rf : Bool) (lo ln ro rn : List Row) (memo : JoinMemo) (stands : JoinStands pairs lf rf lo ro memo) where
-  pub left_grows : (left : Change) (set : List Row) → left.fresh ≡ lf → lf ≡ true → Turns lo ln left → set ≡ rows_in left.rows → SideGrows (lefts_of pairs) lo ln set memo.left.columns.items memo.left.sets
+  pub left_grows : (left : Change) (set : List Row) → left.fresh ≡ lf → lf ≡ true → Turns lo ln left → set ≡ rows_in left.rows → SideGrows (lefts_of pairs) lo ln set memo.left
   left_grows left set same is t e = record {
     extends = subst (λ (l : List Row). Extends lo ln l) (sym e) (extends_of lo ln left t (same ∙ is));
     few = t.few;
@@ -26,7 +25,7 @@ module _ (pairs : Pairs) (lf rf : Bool) (lo ln ro rn : List Row) (memo : JoinMem
     side = stands.left is;
   }
 
-  pub right_grows : (right : Change) (set : List Row) → right.fresh ≡ rf → rf ≡ true → Turns ro rn right → set ≡ rows_in right.rows → SideGrows (rights_of pairs) ro rn set memo.right.columns.items memo.right.sets
+  pub right_grows : (right : Change) (set : List Row) → right.fresh ≡ rf → rf ≡ true → Turns ro rn right → set ≡ rows_in right.rows → SideGrows (rights_of pairs) ro rn set memo.right
   right_grows right set same is t e = record {
     extends = subst (λ (l : List Row). Extends ro rn l) (sym e) (extends_of ro rn right t (same ∙ is));
     few = t.few;
@@ -34,7 +33,7 @@ module _ (pairs : Pairs) (lf rf : Bool) (lo ln ro rn : List Row) (memo : JoinMem
     side = stands.right is;
   }
 
-  pub join_kept : (after : JoinMemo) → after.left.columns ≡ memo.left.columns → after.right.columns ≡ memo.right.columns → (IsTrue lf → IsSideOf (lefts_of pairs) ln after.left.sets) → (IsTrue rf → IsSideOf (rights_of pairs) rn after.right.sets)
+  pub join_kept : (after : JoinMemo) → after.left.columns ≡ memo.left.columns → after.right.columns ≡ memo.right.columns → (IsTrue lf → IsSideOf (lefts_of pairs) ln after.left) → (IsTrue rf → IsSideOf (rights_of pairs) rn after.right)
       → (IsTrue lf → IsTrue rf → after.rows ≡ set_of (join_rows pairs ln rn)) → JoinStands pairs lf rf ln rn after
   join_kept after l r left right rows = record {
     left_columns = ap (λ v. v.items) l ∙ stands.left_columns;

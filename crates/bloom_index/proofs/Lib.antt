@@ -1,12 +1,5 @@
-pub mod GrowSets
-pub mod SidesLemmas
-pub mod JoinsLemmas
-pub mod Extending
 pub mod Turning
-pub mod RunningLemmas
-pub mod GroupsLemmas
-pub mod FreshJoins
-pub mod Counting
+pub mod GroupTurns
 pub mod JoinTurns
 pub mod Evaluating
 pub mod NewGroups

@@ -18,11 +18,11 @@ use Rattle.bloom_ast.specs.declared.numbered.NumberedExpr as expr
 use Rattle.bloom_ast.specs.Step.{Sets, set_at}
 use Rattle.bloom_eval.specs.Code.NumberedRows.{numbered_rows}
 use Rattle.bloom_index.specs.declared.change.Change.{Change}
-use Rattle.bloom_index.specs.Code.Changes.{Extends}
+use Rattle.bloom_growth.specs.Growth.{Extends}
 use Rattle.bloom_index.specs.Code.Evaluation.{HasTurnedAt, HaveTurned}
 use Rattle.bloom_index.specs.Code.Growth.{grows_at, grows}
 use Rattle.bloom_index.specs.Code.Turns.{rows_in}
-use Rattle.bloom_index.proofs.Extending.{old_is_in}
+use Rattle.bloom_growth.proofs.Extending.{old_is_in}
 use Rattle.bloom_index.proofs.Turning.{extends_of}
 
 -- sets of rows, of which the second has those of the first

@@ -15,11 +15,11 @@ use Rattle.blz_value.proofs.SetLaws.{sorted_set_of, Has-set_of, Has-from_set_of}
 use Rattle.blz_set.specs.Code.Missing.{has_row}
 use Rattle.blz_set.proofs.RecordSets.{Has-from_has_row, has_row-from_Has}
 use Rattle.blz_set.proofs.Runs.{same_row}
-use Rattle.bloom_index.specs.Code.Changes.{Extends}
-use Rattle.bloom_index.specs.Code.Groups.{grouped}
+use Rattle.bloom_growth.specs.Growth.{Extends}
+use Rattle.bloom_growth.specs.Groups.{grouped}
 use Rattle.bloom_index.specs.Code.Heads.{AreNew}
-use Rattle.bloom_index.proofs.Counting.{touched_occur}
-use Rattle.bloom_index.proofs.Extending.{sorted_new, old_is_in, fresh_is_in, old_or_fresh}
+use Rattle.bloom_growth.proofs.GroupsGrowth.{touched_occur}
+use Rattle.bloom_growth.proofs.Extending.{sorted_new, old_is_in, fresh_is_in, old_or_fresh}
 
 module _ (keys : List ℕ) (agg : Agg) (old new fresh : List Row) (e : Extends old new fresh) where
   -- a key without new rows has its old rows

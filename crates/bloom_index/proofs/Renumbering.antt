@@ -25,7 +25,8 @@ use Rattle.bloom_index.specs.Code.Evaluation.{Stands}
 use Rattle.bloom_index.specs.Code.Growth.{grows, grows_at}
 use Rattle.bloom_index.specs.Code.Heads.{is_running}
 use Rattle.bloom_index.specs.Code.Kept.{IsAlone, RuleStands, MemosStand}
-use Rattle.bloom_index.specs.Code.Memos.{JoinStands, NotInStands, GroupsStand}
+use Rattle.bloom_growth.specs.Groups.{GroupsStand}
+use Rattle.bloom_index.specs.Code.Memos.{JoinStands, NotInStands}
 
 module _ (cs : List Collection) (growing : List Bool) (sets : Sets) where
   -- whether an expression grows, by names

@@ -24,12 +24,12 @@ use Rattle.bloom_ast.specs.Step.{Sets}
 use Rattle.bloom_eval.specs.Code.NumberedRows.{numbered_rows}
 use Rattle.bloom_eval.proofs.ByNumbers.{same_rows}
 use Rattle.bloom_index.specs.declared.heads.RuleMemo.{RuleMemo}
-use Rattle.bloom_index.specs.declared.side.Side.{Side}
+use Rattle.bloom_growth.specs.declared.side.Side.{Side}
 use Rattle.bloom_index.specs.Growing.{is_growing}
 use Rattle.bloom_index.specs.Sides.{SidePart, side_if, pairs_by_number, sides_in, module_sides, rows_over, part_side, side_rows}
 use Rattle.bloom_index.specs.Code.Growth.{grows, AreGrowing}
 use Rattle.bloom_index.specs.Code.Kept.{held_over, RuleStands}
-use Rattle.bloom_index.specs.Code.Side.{rows_at}
+use Rattle.bloom_growth.specs.Sides.{rows_at}
 use Rattle.bloom_index.specs.Code.SideParts.{NumberedSide, grown_side, numbered_sides, rules_sides, BodiesStand, HasRowsOf, IsSideAt}
 use Rattle.bloom_index.proofs.GrowsLemmas.{AreKnown, expr_is, rule_known}
 
@@ -112,12 +112,12 @@ module _ (a : Accepted) (checked : IsChecked a.form a.heads) (growing : List Boo
     sides_counted = AllZip-long (IsNumberedSide cs) (module_sides a.form) (rules_sides growing rules) same_sides
 
     -- the side with a number has the rows of that side
-    pub side_found : (kept : Sets) (number : ℕ) (side : Side) → IsSideAt (held_over a kept) (rules_sides growing rules) number side → (key : Row) → rows_at side.sets key ≡ side_rows (Some (Module a)) kept number key
+    pub side_found : (kept : Sets) (number : ℕ) (side : Side) → IsSideAt (held_over a kept) (rules_sides growing rules) number side → (key : Row) → rows_at side key ≡ side_rows (Some (Module a)) kept number key
     side_found kept number side at key = go (slice_get (module_sides a.form) number) (slice_get (rules_sides growing rules) number) (AllZip-right (IsNumberedSide cs) (module_sides a.form) (rules_sides growing rules) same_sides number) at
       where
         go : (o : Option SidePart) (u : Option NumberedSide) → MatchOption u (Unit {0}) (λ (s : NumberedSide). IsSomeAnd o (λ (p : SidePart). IsNumberedSide cs p s))
             → IsSomeAnd u (HasRowsOf (held_over a kept) side)
-            → rows_at side.sets key ≡ option_map_or (λ (p : SidePart). part_side a kept p key) o []
+            → rows_at side key ≡ option_map_or (λ (p : SidePart). part_side a kept p key) o []
         go o None zip found = absurd found
         go None (Some s) zip found = absurd zip
         go (Some p) (Some s) zip found =

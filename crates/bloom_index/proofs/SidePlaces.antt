@@ -7,15 +7,18 @@ use Rattle.std.proofs.lemmas.List.{append-nil, take_more, take_all, take-append-
 use Rattle.std.proofs.lemmas.List.Concat.{flat_map-append}
 use Rattle.std.proofs.lemmas.Slice.Zip.{AllZip-long}
 use Rattle.bloom_ast.specs.declared.numbered.NumberedExpr.{NumberedExpr}
+use Rattle.bloom_ast.specs.declared.numbered.NumberedExpr as expr
 use Rattle.bloom_ast.specs.declared.numbered.NumberedRule.{NumberedRule}
 use Rattle.bloom_ast.specs.Step.{Sets}
 use Rattle.bloom_index.specs.declared.heads.RuleMemo.{RuleMemo}
 use Rattle.bloom_index.specs.declared.memo.Memo.{Memo}
-use Rattle.bloom_index.specs.declared.side.Side.{Side}
+use Rattle.bloom_index.specs.declared.memo.Memo as shape
+use Rattle.bloom_growth.specs.declared.side.Side.{Side}
 use Rattle.bloom_eval.specs.Code.NumberedRows.{numbered_rows}
 use Rattle.bloom_index.specs.Code.Evaluation.{Stands}
 use Rattle.bloom_index.specs.Code.Growth.{grows}
-use Rattle.bloom_index.specs.Code.Side.{IsSideOf}
+use Rattle.bloom_growth.specs.Sides.{IsSideOf}
+use Rattle.bloom_index.specs.Code.Memos.{part_kept}
 use Rattle.bloom_index.specs.Code.SideParts.{NumberedSide, grown_side, numbered_sides, rules_sides, IsKept, BodiesStand, HasRowsOf, IsSideAt, Finds}
 
 -- the element at a place of two lists
@@ -75,7 +78,7 @@ finds_later sets xs ys number left (Continue more) passed found = omega (arith, 
 
 -- what is found of a part itself
 abbrev FindsPart : List Bool → NumberedExpr → Side → (number : ℕ) → ControlFlow (Bor Side) ℕ → Type 0
-FindsPart growing e side number r = (sets : Sets) (columns : List ℕ) → (IsTrue (grows growing e) → IsSideOf columns (numbered_rows sets e) side.sets) → Finds sets (grown_side growing e columns) number r
+FindsPart growing e side number r = (sets : Sets) (columns : List ℕ) → (IsTrue (grows growing e) → IsSideOf columns (numbered_rows sets e) side) → Finds sets (grown_side growing e columns) number r
 
 pub part_found : (growing : List Bool) (e0 e : NumberedExpr) (side : Side) (number : ℕ) (r : ControlFlow (Bor Side) ℕ) → e0 ≡ e → FindsPart growing e0 side number r → FindsPart growing e side number r
 part_found growing e0 e side number r ee f = subst (λ (x : NumberedExpr). FindsPart growing x side number r) ee f
@@ -86,6 +89,30 @@ pub transport : (growing : List Bool) (e0 e : NumberedExpr) (m0 m : Memo) (numbe
 transport growing e0 e m0 m number r ee em f kept =
     let there : IsKept growing e m = record { sets = kept.sets; stands = subst (λ (x : Memo). Stands growing kept.sets e x) em (subst (λ (x : NumberedExpr). Stands growing kept.sets x m0) ee kept.stands) } in
     subst (λ (x : NumberedExpr). Finds kept.sets (numbered_sides growing x) number r) (sym ee) (f there)
+
+-- the one part of an expression, and one without parts or of two itself
+abbrev part_of : NumberedExpr → NumberedExpr
+part_of (expr.Base number) = expr.Base number
+part_of (expr.Select' p e test) = e
+part_of (expr.Project' p e columns) = e
+part_of (expr.Join' p a q b pairs) = expr.Join' p a q b pairs
+part_of (expr.NotIn' p a q b pairs) = expr.NotIn' p a q b pairs
+part_of (expr.Group' p e keys agg) = e
+part_of (expr.AtLeast' p e keys bound) = e
+
+pub kept_part : (growing : List Bool) (sets : Sets) (e : NumberedExpr) (m : Memo) → Stands growing sets e m → Stands growing sets (part_of e) (part_kept m)
+kept_part growing sets (expr.Base number) shape.Base stands = stands
+kept_part growing sets (expr.Select' p e test) (shape.Select' q m) stands = stands
+kept_part growing sets (expr.Project' p e columns) (shape.Project' q m rows) stands = stands.0
+kept_part growing sets (expr.Join' p a q b pairs) (shape.Join' r m s n kept) stands = stands
+kept_part growing sets (expr.NotIn' p a q b pairs) (shape.NotIn' r m s n kept) stands = stands
+kept_part growing sets (expr.Group' p e keys agg) (shape.Group' q m groups) stands = stands.0
+kept_part growing sets (expr.AtLeast' p e keys bound) (shape.AtLeast' q m groups rows) stands = stands.0
+kept_part growing sets e m stands = absurd stands
+
+-- what is kept of an expression has what is kept of its part
+abbrev pub part_is_kept : (growing : List Bool) (e : NumberedExpr) (m : Memo) → IsKept growing e m → IsKept growing (part_of e) (part_kept m)
+part_is_kept growing e m kept = record { sets = kept.sets; stands = kept_part growing kept.sets e m kept.stands }
 
 -- ---- what is kept of the rules
 

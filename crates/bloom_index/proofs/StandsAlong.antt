@@ -24,17 +24,17 @@ use Rattle.bloom_ast.specs.Query.Query.{base, select, project, join, notin, grou
 use Rattle.bloom_ast.specs.Step.{Sets, set_at}
 use Rattle.bloom_eval.specs.Code.NumberedRows.{numbered_rows}
 use Rattle.bloom_index.specs.declared.excluding.NotInMemo.{NotInMemo}
-use Rattle.bloom_index.specs.declared.groups.Groups.{Groups}
+use Rattle.bloom_growth.specs.declared.groups.Groups.{Groups}
 use Rattle.bloom_index.specs.declared.heads.RuleMemo.{RuleMemo}
-use Rattle.bloom_index.specs.declared.joining.JoinMemo.{JoinMemo}
+use Rattle.bloom_growth.specs.declared.joining.JoinMemo.{JoinMemo}
 use Rattle.bloom_index.specs.declared.memo.Memo.{Memo}
 use Rattle.bloom_index.specs.declared.memo.Memo as memo
 use Rattle.bloom_index.specs.Code.Evaluation.{Stands}
-use Rattle.bloom_index.specs.Code.Groups.{AreRunning}
+use Rattle.bloom_growth.specs.Groups.{AreRunning, GroupsStand}
 use Rattle.bloom_index.specs.Code.Growth.{grows_at, grows}
 use Rattle.bloom_index.specs.Code.Kept.{RuleStands}
-use Rattle.bloom_index.specs.Code.Memos.{JoinStands, NotInStands, GroupsStand}
-use Rattle.bloom_index.specs.Code.Side.{IsSideOf}
+use Rattle.bloom_index.specs.Code.Memos.{JoinStands, NotInStands}
+use Rattle.bloom_growth.specs.Sides.{IsSideOf}
 
 -- the sets hold the same of each collection that grows and stands in the expression
 abbrev pub AgreeOn : List Bool → (xs ys : Sets) → NumberedExpr → Type 0
@@ -95,8 +95,8 @@ module _ (growing : List Bool) (xs ys : Sets) where
   join_along pairs left right ls ms rs ss kept lefts rights s = record {
     left_columns = s.left_columns;
     right_columns = s.right_columns;
-    left = λ t. subst (λ (rows : List Row). IsSideOf (lefts_of pairs) rows kept.left.sets) (lefts t) (s.left t);
-    right = λ t. subst (λ (rows : List Row). IsSideOf (rights_of pairs) rows kept.right.sets) (rights t) (s.right t);
+    left = λ t. subst (λ (rows : List Row). IsSideOf (lefts_of pairs) rows kept.left) (lefts t) (s.left t);
+    right = λ t. subst (λ (rows : List Row). IsSideOf (rights_of pairs) rows kept.right) (rights t) (s.right t);
     rows = λ t u. s.rows t u ∙ (λ i. set_of (join_rows pairs (lefts t i) (rights u i)));
   }
 
@@ -104,7 +104,7 @@ module _ (growing : List Bool) (xs ys : Sets) where
   notin_along pairs left right ls ms rs ss kept lefts rights s = record {
     right_columns = s.right_columns;
     left = λ t. s.left t ∙ lefts t;
-    right = λ t. subst (λ (rows : List Row). IsSideOf (rights_of pairs) rows kept.right.sets) (rights t) (s.right t);
+    right = λ t. subst (λ (rows : List Row). IsSideOf (rights_of pairs) rows kept.right) (rights t) (s.right t);
   }
 
   groups_along : (keys : List ℕ) (agg : Agg) (grow : Bool) (rs ss : List Row) (kept : Groups) → (IsTrue grow → rs ≡ ss) → GroupsStand keys agg grow rs kept → GroupsStand keys agg grow ss kept

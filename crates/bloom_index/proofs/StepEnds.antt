@@ -34,7 +34,7 @@ use Rattle.bloom_eval.proofs.Taking.{at_first, at_last}
 use Rattle.bloom_eval.proofs.Widths.{are_begun}
 use Rattle.bloom_index.specs.declared.change.Change.{Change}
 use Rattle.bloom_index.specs.declared.step.Parts.{Parts}
-use Rattle.bloom_index.specs.Code.Changes.{Extends}
+use Rattle.bloom_growth.specs.Growth.{Extends}
 use Rattle.bloom_index.specs.Code.Evaluation.{HasTurnedAt}
 use Rattle.bloom_index.specs.Code.Growth.{grows_at, kind_grows, rules_grow, AreGrowing}
 use Rattle.bloom_index.specs.Code.Heads.{AreNew}

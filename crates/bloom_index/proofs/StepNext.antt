@@ -28,7 +28,7 @@ use Rattle.bloom_eval.proofs.Widths.{columns_at, length-sets_of_all, wide_at, se
 use Rattle.bloom_index.specs.declared.change.Change.{Change}
 use Rattle.bloom_index.specs.declared.heads.RuleMemo.{RuleMemo}
 use Rattle.bloom_index.specs.declared.step.Parts.{Parts}
-use Rattle.bloom_index.specs.Code.Changes.{Extends}
+use Rattle.bloom_growth.specs.Growth.{Extends}
 use Rattle.bloom_index.specs.Code.Evaluation.{HasTurnedAt, HaveTurned}
 use Rattle.bloom_index.specs.Code.Growth.{grows_at}
 use Rattle.bloom_index.specs.Code.HeadRules.{AreReady, AreTurned, HasOldHead, GrowsHead, MakesHead, head_sets}
@@ -36,7 +36,7 @@ use Rattle.bloom_index.specs.Code.Heads.{AreNew}
 use Rattle.bloom_index.specs.Code.Kept.{RuleStands}
 use Rattle.bloom_index.specs.Code.StepSets.{owned_change, held_rows}
 use Rattle.bloom_index.specs.Code.Turns.{rows_in, Turns}
-use Rattle.bloom_index.proofs.Extending.{sorted_new, old_is_in, fresh_is_in, old_or_fresh}
+use Rattle.bloom_growth.proofs.Extending.{sorted_new, old_is_in, fresh_is_in, old_or_fresh}
 use Rattle.bloom_index.proofs.HeadRulesLemmas.{got_set, got_other}
 use Rattle.bloom_index.proofs.Monotone.{IsGrown}
 use Rattle.bloom_index.proofs.StandsAlong.{rule_along}

@@ -11,13 +11,13 @@ use Rattle.blz_set.specs.RecordSet.{row_limit}
 use Rattle.blz_set.specs.declared.fault.SetFault.{SetFault}
 use Rattle.blz_set.specs.declared.fault.SetFault.TheVariants.{TooManyRows, NoMemory}
 use Rattle.blz_set.proofs.RecordSets.{length-filter-le}
-use Rattle.std.specs.BTreeMap.{BTreeMap}
 use Rattle.bloom_index.specs.declared.change.Change.{Change}
 use Rattle.bloom_index.specs.declared.change.Rows.{Rows}
-use Rattle.bloom_index.specs.Code.Side.{SideGrows}
-use Rattle.bloom_index.specs.Code.Changes.{Extends, Takes}
+use Rattle.bloom_growth.specs.declared.side.Side.{Side}
+use Rattle.bloom_growth.specs.Sides.{SideGrows}
+use Rattle.bloom_growth.specs.Growth.{Extends, Takes}
 use Rattle.bloom_index.specs.Code.Turns.{rows_in, HasTurned, Turns, TurnsTo}
-use Rattle.bloom_index.proofs.Extending.{select_extends, project_new}
+use Rattle.bloom_growth.proofs.Extending.{select_extends, project_new}
 
 -- a change of these rows
 pub turns_from : (fresh : Bool) (old new rows : List Row) (made : Change) → made.fresh ≡ fresh → rows_in made.rows ≡ rows → IsRowSet new → length new ≤ row_limit → HasTurned fresh old new rows → TurnsTo fresh old new (Ok made)
@@ -84,5 +84,5 @@ project_taken columns old new part kept set t is k s =
     ∙ ap (λ (l : List Row). set_of (l ++ set_of (project_rows columns (rows_in part.rows)))) (sym k) ∙ ap (λ (l : List Row). set_of (kept ++ l)) (sym s)
 
 -- the set of a change, in its place
-pub side_of_change : (columns : List ℕ) (old new : List Row) (own : List ℕ) (rows : Rows) (set : List Row) (sets : BTreeMap Row (List Row)) → set ≡ rows_in rows → SideGrows columns old new (rows_in rows) own sets → SideGrows columns old new set own sets
-side_of_change columns old new own rows set sets is g = subst (λ (l : List Row). SideGrows columns old new l own sets) (sym is) g
+pub side_of_change : (columns : List ℕ) (old new : List Row) (rows : Rows) (set : List Row) (side : Side) → set ≡ rows_in rows → SideGrows columns old new (rows_in rows) side → SideGrows columns old new set side
+side_of_change columns old new rows set side is g = subst (λ (l : List Row). SideGrows columns old new l side) (sym is) g

@@ -1,10 +1,5 @@
 -- What private functions give.
-pub mod Changes
-pub mod Side
-pub mod Joins
 pub mod Turns
-pub mod Running
-pub mod Groups
 pub mod Memos
 pub mod Growth
 pub mod Evaluation

@@ -11,12 +11,12 @@ ghost use Rattle.bloom_index.specs.Code.Emptiness.{AreEmpty};
 ghost use Rattle.bloom_index.specs.Code.Heads.{is_running};
 ghost use Rattle.bloom_index.specs.Code.Kept.{tables_in, IsAlone, RuleStands, PartsStand};
 
-use crate::grow_set::GrowSet;
 use crate::grows::{growing_heads, grows};
 use crate::heads::RuleMemo;
 use crate::memo::memo_of;
 use crate::step::Parts;
 use bloom_ast::{Checked, Collection, Kind, NumberedExpr, NumberedRule};
+use bloom_growth::GrowSet;
 use std::alloc::{AllocError, Global};
 
 // Whether a rule is a group over a part that grows.

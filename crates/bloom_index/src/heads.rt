@@ -1,7 +1,7 @@
 //! The heads of a module, each with what its rules give in a step.
 ghost use Rattle.std.specs.Prelude.{◌≡◌, ◌<◌, false, true, List, length, IfSome, IsTrue, OnOk};
 ghost use Rattle.blz_value.specs.Record.{Row};
-ghost use Rattle.bloom_index.specs.Code.Changes.{Extends};
+ghost use Rattle.bloom_growth.specs.Growth.{Extends};
 ghost use Rattle.bloom_index.specs.Code.Evaluation.{IsReady};
 ghost use Rattle.bloom_index.specs.Code.Growth.{grows_at};
 ghost use Rattle.bloom_index.specs.Code.HeadRules.{AreReady, HasOldHead, GrowsHead, MakesHead, IsAloneAt};
@@ -9,9 +9,9 @@ ghost use Rattle.bloom_index.specs.Code.Heads.{HasOldRows, GrowsBy, KeepsRows, A
 
 use crate::change::Change;
 use crate::evaluate::{evaluate, evaluate_group};
-use crate::grow_set::GrowSet;
 use crate::memo::Memo;
 use bloom_ast::NumberedRule;
+use bloom_growth::GrowSet;
 use blz_set::{RecordSet, SetFault};
 use std::alloc::Global;
 

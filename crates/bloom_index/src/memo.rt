@@ -1,14 +1,11 @@
 //! What is kept of an expression and its parts from step to step.
 ghost use Rattle.std.specs.Prelude.{◌≡◌, IfOk};
-ghost use Rattle.bloom_index.specs.Code.Emptiness.{IsFreshJoin, IsFreshNotIn, AreFreshGroups, IsFresh};
+ghost use Rattle.bloom_growth.specs.Groups.{AreFreshGroups};
+ghost use Rattle.bloom_index.specs.Code.Emptiness.{IsFreshJoin, IsFreshNotIn, IsFresh};
 
 use crate::excluding::NotInMemo;
-use crate::groups::Groups;
-use crate::grow_set::GrowSet;
-use crate::joined::{left_columns, right_columns};
-use crate::joining::JoinMemo;
-use crate::side::Side;
 use bloom_ast::NumberedExpr;
+use bloom_growth::{Groups, GrowSet, JoinMemo, Side, left_columns, right_columns};
 use blz_value::Agg;
 use std::alloc::{AllocError, Global};
 
@@ -27,6 +24,23 @@ pub(crate) enum Memo {
     Group(Box<Memo>, Groups),
     /// How many rows there are of each key, and the rows, where they grow.
     AtLeast(Box<Memo>, Groups, GrowSet),
+}
+
+impl Memo {
+    ghost use Rattle.bloom_index.specs.Code.Memos.{part_kept};
+
+    /// What is kept of the one part, and of an expression without parts or of two all.
+    pub(crate) fn part(&self) -> &Memo
+        ensures { result.now ≡ part_kept self.now }
+    {
+        match self {
+            Memo::Select(part) => part,
+            Memo::Project(part, _) => part,
+            Memo::Group(part, _) => part,
+            Memo::AtLeast(part, _, _) => part,
+            Memo::Base | Memo::Join(_, _, _) | Memo::NotIn(_, _, _) => self,
+        }
+    }
 }
 
 fn join_memo(alloc: Global, pairs: &[(u32, u32)]) -> Result<JoinMemo, AllocError>

@@ -3,14 +3,14 @@ ghost use Rattle.std.specs.Prelude.{◌≡◌, ◌+◌, ◌<◌, List, ℕ, leng
 ghost use Rattle.bloom_ast.specs.Step.{Sets};
 ghost use Rattle.bloom_eval.specs.Code.NumberedRows.{numbered_rows};
 ghost use Rattle.bloom_index.specs.Code.Growth.{grows};
-ghost use Rattle.bloom_index.specs.Code.Side.{IsSideOf};
+ghost use Rattle.bloom_growth.specs.Sides.{IsSideOf};
 ghost use Rattle.bloom_index.specs.Code.SideParts.{grown_side, numbered_sides, rules_sides, IsKept, AreKept, IsSideAt, Finds};
 
 use crate::grows::grows;
 use crate::heads::RuleMemo;
 use crate::memo::Memo;
-use crate::side::Side;
 use bloom_ast::{NumberedExpr, NumberedRule};
+use bloom_growth::Side;
 use std::alloc::AllocError;
 use std::ops::ControlFlow;
 
@@ -70,7 +70,7 @@ fn this_side<'a>(
     side: &'a Side,
     number: u32,
 ) -> ControlFlow<&'a Side, u32>
-    ensures { (sets : Sets) (columns : List ℕ) → (IsTrue (grows growing.now part.now) → IsSideOf columns (numbered_rows sets part.now) side.now.sets) → Finds sets (grown_side growing.now part.now columns) number result }
+    ensures { (sets : Sets) (columns : List ℕ) → (IsTrue (grows growing.now part.now) → IsSideOf columns (numbered_rows sets part.now) side.now) → Finds sets (grown_side growing.now part.now columns) number result }
 {
     if !grows(part, growing) {
         ControlFlow::Continue(number)
@@ -94,18 +94,8 @@ fn find_side<'a>(
 {
     match expr {
         NumberedExpr::Base(_) => ControlFlow::Continue(number),
-        NumberedExpr::Select(part, _) => {
-            let Memo::Select(memo) = memo else {
-                unreachable!()
-            };
-            find_side(part, growing, memo, number)
-        }
-        NumberedExpr::Project(part, _) => {
-            let Memo::Project(memo, _) = memo else {
-                unreachable!()
-            };
-            find_side(part, growing, memo, number)
-        }
+        NumberedExpr::Select(part, _) => find_side(part, growing, memo.part(), number),
+        NumberedExpr::Project(part, _) => find_side(part, growing, memo.part(), number),
         NumberedExpr::Join(a, b, _) => {
             let Memo::Join(left, right, memo) = memo else {
                 unreachable!()
@@ -123,18 +113,8 @@ fn find_side<'a>(
             let number = this_side(b, growing, &memo.right, number)?;
             find_side(b, growing, right, number)
         }
-        NumberedExpr::Group(part, _, _) => {
-            let Memo::Group(memo, _) = memo else {
-                unreachable!()
-            };
-            find_side(part, growing, memo, number)
-        }
-        NumberedExpr::AtLeast(part, _, _) => {
-            let Memo::AtLeast(memo, _, _) = memo else {
-                unreachable!()
-            };
-            find_side(part, growing, memo, number)
-        }
+        NumberedExpr::Group(part, _, _) => find_side(part, growing, memo.part(), number),
+        NumberedExpr::AtLeast(part, _, _) => find_side(part, growing, memo.part(), number),
     }
 }
 

@@ -17,10 +17,10 @@ ghost use Rattle.bloom_index.specs.Code.StepSets.{owned_change, held_rows, AreBe
 ghost use Rattle.bloom_index.specs.Code.Turns.{rows_in};
 
 use crate::change::{Change, Rows};
-use crate::grow_set::GrowSet;
 use crate::heads::{RuleMemo, grow_head, make_changes, make_head};
 use bloom_ast::{Checked, Collection, Kind, NumberedRule};
 use bloom_eval::{Outs, StepFault};
+use bloom_growth::GrowSet;
 use blz_set::{RecordSet, SetFault};
 use std::alloc::{AllocError, Global};
 use std::mem;

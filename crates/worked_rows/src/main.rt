@@ -1,9 +1,11 @@
 //! Worked rows of the program: what it writes, and with which status it ends, for words over files.
 //!
-//! A word of the command line names a file of rows, which stands in the folder data/; behind
-//! `over-indexed-shells` and `over-both-kinds` the usual bench has other shells for modules. A line of it that
-//! begins with `== ` is a heading, and what is below it are the lines up to the next one. A line that
-//! ends with a backslash goes on in the next.
+//! A word of the command line names a file of rows, which stands in the folder data/. The shells for
+//! modules evaluate a module anew in each step; behind `over-indexed-shells` they keep indexes, and behind
+//! `over-both-kinds` they do so by turns, and the same files have to give the same.
+//!
+//! A line of a file that begins with `== ` is a heading, and what is below it are the lines up to the next
+//! one. A line that ends with a backslash goes on in the next.
 //!
 //! - `== file NAME`: the lines below are the file NAME.
 //! - `== from FOLDER`: `copy` and `writes` find their files in this folder of data/.
@@ -12,8 +14,9 @@
 //!   `*` in them is the number of the time, counted from 0.
 //! - `== fail NUMBER`: the read with this number fails, counted from 1; with 0 none does.
 //! - `== room COUNT`: no more than so many bytes can be written.
-//! - `== bench WORDS`: the bench has these shells, of `WORD*COUNT` so many, where it has four for modules
-//!   and sixteen of each stock body else. It is used again from answer to answer.
+//! - `== bench WORDS`: the bench has these shells, of `WORD*COUNT` so many and of `module` one for modules,
+//!   where it has four for modules and sixteen of each stock body else. It is used again from answer to
+//!   answer.
 //! - `== ask WORDS`: the words of the command line, with a blank between two; `\n` is the end of a line.
 //! - `== show WORDS`: in place of the program these rows themselves answer, with the status Done.
 //! - `== hold NAME`: what is written, asked so over the files so far, is the file NAME.
@@ -37,7 +40,10 @@ use std::alloc::Global;
 use std::env;
 use worked_calls::{PoorShell, TellingShell};
 
-// Which shells for modules the bench has of rows that name none.
+// The bench of rows that name none.
+const USUAL_BENCH: &str = "bench module*4 split*16 latest*16 number*16";
+
+// Which shells for modules the benches have.
 #[derive(Clone, Copy)]
 enum Modules {
     Plain,
@@ -46,25 +52,20 @@ enum Modules {
 }
 
 impl Modules {
-    // The bench of rows that name none: four shells for modules, which evaluate a module anew in each step,
-    // or keep indexes, or do so by turns, and sixteen of each stock body.
-    fn usual_bench(self) -> &'static str {
+    // Whether the one at a place of a bench keeps indexes.
+    fn is_indexed(self, place: usize) -> bool {
         match self {
-            Modules::Plain => "bench plain*4 split*16 latest*16 number*16",
-            Modules::Indexed => "bench indexed*4 split*16 latest*16 number*16",
-            Modules::Both => "bench indexed plain indexed plain split*16 latest*16 number*16",
+            Modules::Plain => false,
+            Modules::Indexed => true,
+            Modules::Both => place % 2 == 0,
         }
     }
 }
 
 // The headings of a text of rows, each with the text below it; the first is that of the usual bench.
-fn sections<'a>(
-    alloc: Global,
-    bench: &'static str,
-    text: &'a str,
-) -> Result<Vec<(&'a str, String)>> {
+fn sections(alloc: Global, text: &str) -> Result<Vec<(&str, String)>> {
     let mut sections: Vec<(&str, String)> = Vec::new(alloc);
-    sections.push((bench, String::new(alloc)))?;
+    sections.push((USUAL_BENCH, String::new(alloc)))?;
     for line in text.lines() {
         if let Some(heading) = line.strip_prefix("== ") {
             sections.push((heading, String::new(alloc)))?;
@@ -129,14 +130,14 @@ fn compared(
 }
 
 // How many of the rows of a file are as it says, and how many it has.
-fn right_rows(rt: &HostRuntime, usual_bench: &'static str, name: &str) -> Result<(u64, u64)> {
+fn right_rows(rt: &HostRuntime, modules: Modules, name: &str) -> Result<(u64, u64)> {
     let bytes = bytes_of(rt, name)?;
     let text = str::from_utf8(bytes.as_slice())?;
     let alloc = rt.alloc();
     let mut asked = Question::new(alloc)?;
     let mut bench: Vec<Box<dyn Component>> = Vec::new(alloc);
     let (mut right, mut all) = (0u64, 0u64);
-    for (heading, below) in &sections(alloc, usual_bench, text)? {
+    for (heading, below) in &sections(alloc, text)? {
         let kind_and_rest = heading.split_once(' ').unwrap_or((*heading, ""));
         let (kind, rest) = kind_and_rest;
         match kind {
@@ -147,8 +148,10 @@ fn right_rows(rt: &HostRuntime, usual_bench: &'static str, name: &str) -> Result
                     let (word, count) = words.split_once('*').unwrap_or((words, "1"));
                     for _ in 0..count.parse::<usize>()? {
                         match word {
-                            "indexed" => bench.push(Box::new(alloc, IndexShell::new(alloc))?)?,
-                            "plain" => bench.push(Box::new(alloc, PlainShell::new(alloc))?)?,
+                            "module" if modules.is_indexed(bench.len()) => {
+                                bench.push(Box::new(alloc, IndexShell::new(alloc))?)?;
+                            }
+                            "module" => bench.push(Box::new(alloc, PlainShell::new(alloc))?)?,
                             "split" => bench.push(Box::new(alloc, SplitShell::new(alloc))?)?,
                             "latest" => bench.push(Box::new(alloc, LatestShell::new(alloc))?)?,
                             "number" => bench.push(Box::new(alloc, NumberShell::new(alloc))?)?,
@@ -196,7 +199,7 @@ fn main(rt: HostRuntime) -> Result<()> {
             "over-indexed-shells" => modules = Modules::Indexed,
             "over-both-kinds" => modules = Modules::Both,
             name => {
-                let (right, all) = right_rows(&rt, modules.usual_bench(), name)?;
+                let (right, all) = right_rows(&rt, modules, name)?;
                 println!(rt; "{name}: {right} of {all} rows")?;
             }
         }

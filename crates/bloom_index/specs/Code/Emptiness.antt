@@ -1,30 +1,23 @@
 -- Collections that hold no row, and what is kept before the first step.
-use Rattle.std.specs.Prelude.{ℕ, ◌≡◌, List, []}
-use Rattle.std.specs.BTreeMap.{IsEmpty}
-use Rattle.blz_value.specs.declared.aggregate.Agg.{Agg}
+use Rattle.std.specs.Prelude.{ℕ, ◌≡◌, []}
 use Rattle.blz_value.specs.declared.aggregate.Agg.TheVariants.{Count}
 use Rattle.blz_value.specs.Operators.{Pairs}
 use Rattle.blz_set.specs.Code.Pairs.{lefts_of, rights_of}
 use Rattle.bloom_ast.specs.declared.numbered.NumberedExpr.{NumberedExpr}
 use Rattle.bloom_ast.specs.declared.numbered.NumberedExpr as expr
 use Rattle.bloom_ast.specs.Step.{Sets, set_at}
-use Rattle.bloom_index.specs.declared.joining.JoinMemo.{JoinMemo}
+use Rattle.bloom_growth.specs.declared.joining.JoinMemo.{JoinMemo}
 use Rattle.bloom_index.specs.declared.excluding.NotInMemo.{NotInMemo}
-use Rattle.bloom_index.specs.declared.groups.Groups.{Groups}
+use Rattle.bloom_growth.specs.Groups.{AreFreshGroups}
+use Rattle.bloom_growth.specs.Sides.{IsFreshSide}
 use Rattle.bloom_index.specs.declared.memo.Memo.{Memo}
 use Rattle.bloom_index.specs.declared.memo.Memo as memo
-use Rattle.bloom_index.specs.declared.side.Side.{Side}
 
 -- no collection holds a row
 abbrev pub AreEmpty : Sets → Type 0
 AreEmpty sets = (number : ℕ) → set_at sets number ≡ []
 
--- a side by these columns, without rows
-pub record IsFreshSide (columns : List ℕ) (side : Side) : Type 0 where
-  pub columns_are : side.columns.items ≡ columns
-  pub none : IsEmpty side.sets
-
--- of a join
+-- what is kept of a join, without rows
 pub record IsFreshJoin (pairs : Pairs) (memo : JoinMemo) : Type 0 where
   pub left : IsFreshSide (lefts_of pairs) memo.left
   pub right : IsFreshSide (rights_of pairs) memo.right
@@ -34,12 +27,6 @@ pub record IsFreshJoin (pairs : Pairs) (memo : JoinMemo) : Type 0 where
 pub record IsFreshNotIn (pairs : Pairs) (memo : NotInMemo) : Type 0 where
   pub lefts : memo.lefts ≡ []
   pub right : IsFreshSide (rights_of pairs) memo.right
-
--- of a group or an atleast
-pub record AreFreshGroups (keys : List ℕ) (agg : Agg) (groups : Groups) : Type 0 where
-  pub keys_are : groups.keys.items ≡ keys
-  pub agg_is : groups.agg ≡ agg
-  pub none : IsEmpty groups.running
 
 -- of an expression, in its shape
 abbrev pub IsFresh : NumberedExpr → Memo → Type 0

@@ -13,7 +13,8 @@ use Rattle.bloom_index.specs.declared.change.Change.{Change}
 use Rattle.bloom_index.specs.declared.memo.Memo.{Memo}
 use Rattle.bloom_index.specs.declared.memo.Memo as memo
 use Rattle.bloom_index.specs.Code.Growth.{grows_at, grows}
-use Rattle.bloom_index.specs.Code.Memos.{JoinStands, NotInStands, GroupsStand}
+use Rattle.bloom_growth.specs.Groups.{GroupsStand}
+use Rattle.bloom_index.specs.Code.Memos.{JoinStands, NotInStands}
 use Rattle.bloom_index.specs.Code.Turns.{Turns, TurnsTo}
 
 -- what is kept of an expression is that over these sets of the collections: each kept part is the rows of the part

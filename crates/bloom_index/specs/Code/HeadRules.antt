@@ -17,7 +17,7 @@ use Rattle.bloom_eval.specs.Code.Taken.{AreSetsOfAll}
 use Rattle.bloom_eval.specs.StepAnswers.{AllFit, SomeIsOver, rule_sets}
 use Rattle.bloom_index.specs.declared.change.Change.{Change}
 use Rattle.bloom_index.specs.declared.heads.RuleMemo.{RuleMemo}
-use Rattle.bloom_index.specs.Code.Changes.{Extends}
+use Rattle.bloom_growth.specs.Growth.{Extends}
 use Rattle.bloom_index.specs.Code.Evaluation.{HaveTurned}
 use Rattle.bloom_index.specs.Code.Growth.{grows}
 use Rattle.bloom_index.specs.Code.Heads.{AreNew}

@@ -11,10 +11,10 @@ use Rattle.bloom_ast.specs.Step.{Sets}
 use Rattle.bloom_eval.specs.Code.NumberedRows.{numbered_rows}
 use Rattle.bloom_index.specs.declared.heads.RuleMemo.{RuleMemo}
 use Rattle.bloom_index.specs.declared.memo.Memo.{Memo}
-use Rattle.bloom_index.specs.declared.side.Side.{Side}
+use Rattle.bloom_growth.specs.declared.side.Side.{Side}
 use Rattle.bloom_index.specs.Code.Evaluation.{Stands}
 use Rattle.bloom_index.specs.Code.Growth.{grows}
-use Rattle.bloom_index.specs.Code.Side.{IsSideOf}
+use Rattle.bloom_growth.specs.Sides.{IsSideOf}
 
 -- ---- sides by numbers
 
@@ -60,7 +60,7 @@ pub record AreKept (growing : List Bool) (rules : List NumberedRule) (memos : Li
 
 -- a side has the rows of a part over the sets, by the part's columns
 abbrev pub HasRowsOf : Sets → Side → NumberedSide → Type 0
-HasRowsOf sets side numbered = IsSideOf numbered.columns (numbered_rows sets numbered.part) side.sets
+HasRowsOf sets side numbered = IsSideOf numbered.columns (numbered_rows sets numbered.part) side
 
 -- it is the side with the number
 abbrev pub IsSideAt : Sets → List NumberedSide → (number : ℕ) → Side → Type 0

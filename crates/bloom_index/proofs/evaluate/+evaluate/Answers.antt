@@ -11,7 +11,8 @@ use Rattle.bloom_eval.specs.Code.NumberedRows.{numbered_rows, numbered_sets}
 use Rattle.bloom_ast.specs.Step.{set_at}
 use Rattle.blz_set.specs.RecordSet.{row_limit}
 use Rattle.bloom_index.specs.Code.Growth.{grows, grows_at}
-use Rattle.bloom_index.specs.Code.Memos.{JoinStands, NotInStands, GroupsStand}
+use Rattle.bloom_growth.specs.Groups.{GroupsStand}
+use Rattle.bloom_index.specs.Code.Memos.{JoinStands, NotInStands}
 use Rattle.bloom_index.specs.Code.Turns.{TurnsTo}
 use Rattle.bloom_index.proofs.Evaluating.{base_stands, moved, part_of, transport, refused, own_refused, both_fit, all_fit, flagged, all_turned}
 use Rattle.bloom_index.proofs.evaluate.+evaluate.Goals as goal

@@ -1,18 +1,15 @@
-use Rattle.std.proofs.Common.{◌≡◌, ◌≤◌, ◌∙◌, ℕ, Bool, true, IsTrue, List, Ok, Err, length, map, sym, ap, subst, inl, inr}
-use Rattle.blz_value.specs.declared.aggregate.Agg.{Agg}
+use Rattle.std.proofs.Common.{◌≡◌, ◌≤◌, ◌∙◌, Bool, true, IsTrue, List, Ok, Err, length, sym, subst, inl, inr}
 use Rattle.blz_value.specs.Groups.{group_rows}
-use Rattle.blz_value.specs.Operators.{project_rows}
 use Rattle.blz_value.specs.Record.{Row}
 use Rattle.blz_value.specs.Sets.{set_of}
 use Rattle.bloom_ast.specs.declared.numbered.NumberedExpr.{NumberedExpr}
 use Rattle.bloom_eval.specs.Code.NumberedRows.{numbered_rows}
-use Rattle.bloom_index.specs.Code.Groups.{grouped}
+use Rattle.bloom_growth.specs.Groups.{grouped, GroupsStand}
 use Rattle.bloom_index.specs.Code.Growth.{grows}
 use Rattle.bloom_index.specs.Code.Heads.{is_running}
-use Rattle.bloom_index.specs.Code.Memos.{GroupsStand}
 use Rattle.bloom_index.specs.Code.Turns.{rows_in}
 use Rattle.blz_set.specs.RecordSet.{row_limit}
-use Rattle.bloom_index.proofs.Counting.{few_grouped, own_stands}
+use Rattle.bloom_index.proofs.GroupTurns.{few_grouped}
 use Rattle.bloom_index.proofs.Evaluating.{moved, part_of, transport}
 use Rattle.bloom_index.proofs.NewGroups.{new_groups}
 use Rattle.bloom_index.proofs.Turning.{extends_of}
@@ -52,11 +49,10 @@ returns-in_err-changes c = λ ready0 running0.
     let keys = c.in-Group.field-1 in
     let agg = c.in-Group.field-2 in
     let stands : GroupsStand keys agg true old groups = subst (λ (b : Bool). GroupsStand keys agg b old groups) running ready.stands.1 in
-    let own : GroupsStand groups.keys.items groups.agg true old groups = own_stands keys agg true old groups stands in
     let fresh : part.fresh ≡ true = answers.0.0 ∙ running in
     let e = extends_of old new part answers.0.1 fresh in
-    changes_fault groups.keys.items (grouped groups.keys.items groups.agg new) old new (rows_in part.rows) c.args.expr.now c.args.memo.now _ c.args.held.now ready0 c.from_residual-in_err-changes.result c.in_err-changes.field-0.0 c.from_residual-in_err-changes.ensures.1 e answers.0.1.few
-    (c.in_err-changes.ensures.turned old new answers.0.1 own)
+    changes_fault keys (grouped keys agg new) old new (rows_in part.rows) c.args.expr.now c.args.memo.now _ c.args.held.now ready0 c.from_residual-in_err-changes.result c.in_err-changes.field-0.0 c.from_residual-in_err-changes.ensures.1 e answers.0.1.few
+    (c.in_err-changes.ensures.turned keys agg old new answers.0.1 stands)
 
 pub returns : goal.returns
 returns c = λ ready0 running0.
@@ -73,17 +69,13 @@ returns c = λ ready0 running0.
     let keys = c.in-Group.field-1 in
     let agg = c.in-Group.field-2 in
     let stands : GroupsStand keys agg true old groups = subst (λ (b : Bool). GroupsStand keys agg b old groups) running ready.stands.1 in
-    let own : GroupsStand groups.keys.items groups.agg true old groups = own_stands keys agg true old groups stands in
     let fresh : part.fresh ≡ true = answers.0.0 ∙ running in
     let e = extends_of old new part answers.0.1 fresh in
-    let made = c.in_ok-changes.ensures.turned old new answers.0.1 own in
-    let kept = c.in_ok-changes.ensures.kept old new answers.0.1 own in
+    let made = c.in_ok-changes.ensures.turned keys agg old new answers.0.1 stands in
+    let kept = c.in_ok-changes.ensures.kept keys agg old new answers.0.1 stands in
     let changes = c.in_ok-changes.changes in
-    let is : changes ≡ set_of (map (grouped keys agg new) (set_of (project_rows keys (rows_in part.rows)))) =
-    made.0 ∙ ap (λ (cs : List ℕ). set_of (map (grouped cs groups.agg new) (set_of (project_rows cs (rows_in part.rows))))) stands.keys_are ∙ ap (λ (a : Agg). set_of (map (grouped keys a new) (set_of (project_rows keys (rows_in part.rows))))) stands.agg_is in
-    let news = new_groups keys agg old new (rows_in part.rows) e changes is in
+    let news = new_groups keys agg old new (rows_in part.rows) e changes made.0 in
     let after : GroupsStand keys agg (grows ready0.growing e1) new c.group_changes.new.groups =
-    subst (λ (b : Bool). GroupsStand keys agg b new c.group_changes.new.groups) (sym running)
-    (subst (λ (cs : List ℕ). GroupsStand cs agg true new c.group_changes.new.groups) stands.keys_are (subst (λ (a : Agg). GroupsStand groups.keys.items a true new c.group_changes.new.groups) stands.agg_is kept)) in
+    subst (λ (b : Bool). GroupsStand keys agg b new c.group_changes.new.groups) (sym running) kept in
     let few : length (set_of (group_rows keys agg new)) ≤ row_limit = few_grouped keys agg new answers.0.1.few in
     new_done c.args.expr.now _ c.args.memo.now _ c.args.held.now changes c.in-Group.is ready0 news (answers.1, after) (λ rows h. elim h [ inl own_rows ↦ subst (λ (l : List Row). length l ≤ row_limit) own_rows few | inr m ↦ answers.2 rows m ])

@@ -1,43 +1,40 @@
-use Rattle.std.proofs.Common.{◌++◌, ℕ, Bor, sym, subst}
+use Rattle.std.proofs.Common.{◌++◌, ℕ, Bor, refl, sym, subst}
 use Rattle.std.specs.declared.ops.ControlFlow.{ControlFlow}
 use Rattle.std.specs.declared.ops.ControlFlow.TheVariants.{Continue, Break}
 use Rattle.blz_set.specs.Code.Pairs.{lefts_of, rights_of}
-use Rattle.bloom_index.specs.declared.side.Side.{Side}
+use Rattle.bloom_growth.specs.declared.side.Side.{Side}
+use Rattle.bloom_index.specs.Code.Memos.{part_kept}
 use Rattle.bloom_index.specs.Code.SideParts.{grown_side, numbered_sides, IsKept, Finds}
-use Rattle.bloom_index.proofs.SidePlaces.{finds_first, finds_later, part_found, transport}
+use Rattle.bloom_index.proofs.SidePlaces.{part_is_kept, finds_first, finds_later, part_found, transport}
 use Rattle.bloom_index.proofs.sides.+find_side.Goals as goal
 
-pub returns-in-Select-memo : goal.returns-in-Select-memo
-returns-in-Select-memo t c =
+pub returns-in-Select : goal.returns-in-Select
+returns-in-Select t c =
     let growing = c.args.growing.now in
-    let e = c.in-Select.part.value in
-    let m = c.in-Select-memo.memo.value in
-    transport growing c.args.expr.now _ c.args.memo.now _ c.args.number c.find_side.result c.in-Select.is c.in-Select-memo.is (λ kept.
-    transport growing e c.deref.result.now m c.deref-in-Select.result.now c.args.number c.find_side.result (sym c.deref.ensures) (sym c.deref-in-Select.ensures) c.find_side.ensures (record { sets = kept.sets; stands = kept.stands }))
+    let memo = c.args.memo.now in
+    transport growing c.args.expr.now _ memo memo c.args.number c.find_side.result c.in-Select.is refl (λ kept.
+    transport growing c.in-Select.part.value c.deref.result.now (part_kept memo) c.part.result.now c.args.number c.find_side.result (sym c.deref.ensures) (sym c.part.ensures) c.find_side.ensures (part_is_kept growing _ memo kept))
 
-pub returns-in-Project-memo : goal.returns-in-Project-memo
-returns-in-Project-memo t c =
+pub returns-in-Project : goal.returns-in-Project
+returns-in-Project t c =
     let growing = c.args.growing.now in
-    let e = c.in-Project.part.value in
-    let m = c.in-Project-memo.memo.value in
-    transport growing c.args.expr.now _ c.args.memo.now _ c.args.number c.find_side-in-Project.result c.in-Project.is c.in-Project-memo.is (λ kept.
-    transport growing e c.deref-in-Project.result.now m c.deref-in-Project-2.result.now c.args.number c.find_side-in-Project.result (sym c.deref-in-Project.ensures) (sym c.deref-in-Project-2.ensures) c.find_side-in-Project.ensures (record { sets = kept.sets; stands = kept.stands.0 }))
+    let memo = c.args.memo.now in
+    transport growing c.args.expr.now _ memo memo c.args.number c.find_side-in-Project.result c.in-Project.is refl (λ kept.
+    transport growing c.in-Project.part.value c.deref-in-Project.result.now (part_kept memo) c.part-in-Project.result.now c.args.number c.find_side-in-Project.result (sym c.deref-in-Project.ensures) (sym c.part-in-Project.ensures) c.find_side-in-Project.ensures (part_is_kept growing _ memo kept))
 
-pub returns-in-Group-memo : goal.returns-in-Group-memo
-returns-in-Group-memo t c =
+pub returns-in-Group : goal.returns-in-Group
+returns-in-Group t c =
     let growing = c.args.growing.now in
-    let e = c.in-Group.part.value in
-    let m = c.in-Group-memo.memo.value in
-    transport growing c.args.expr.now _ c.args.memo.now _ c.args.number c.find_side-in-Group.result c.in-Group.is c.in-Group-memo.is (λ kept.
-    transport growing e c.deref-in-Group.result.now m c.deref-in-Group-2.result.now c.args.number c.find_side-in-Group.result (sym c.deref-in-Group.ensures) (sym c.deref-in-Group-2.ensures) c.find_side-in-Group.ensures (record { sets = kept.sets; stands = kept.stands.0 }))
+    let memo = c.args.memo.now in
+    transport growing c.args.expr.now _ memo memo c.args.number c.find_side-in-Group.result c.in-Group.is refl (λ kept.
+    transport growing c.in-Group.part.value c.deref-in-Group.result.now (part_kept memo) c.part-in-Group.result.now c.args.number c.find_side-in-Group.result (sym c.deref-in-Group.ensures) (sym c.part-in-Group.ensures) c.find_side-in-Group.ensures (part_is_kept growing _ memo kept))
 
-pub returns-in-AtLeast-memo : goal.returns-in-AtLeast-memo
-returns-in-AtLeast-memo t c =
+pub returns-in-AtLeast : goal.returns-in-AtLeast
+returns-in-AtLeast t c =
     let growing = c.args.growing.now in
-    let e = c.in-AtLeast.part.value in
-    let m = c.in-AtLeast-memo.memo.value in
-    transport growing c.args.expr.now _ c.args.memo.now _ c.args.number c.find_side-in-AtLeast.result c.in-AtLeast.is c.in-AtLeast-memo.is (λ kept.
-    transport growing e c.deref-in-AtLeast.result.now m c.deref-in-AtLeast-2.result.now c.args.number c.find_side-in-AtLeast.result (sym c.deref-in-AtLeast.ensures) (sym c.deref-in-AtLeast-2.ensures) c.find_side-in-AtLeast.ensures (record { sets = kept.sets; stands = kept.stands.0 }))
+    let memo = c.args.memo.now in
+    transport growing c.args.expr.now _ memo memo c.args.number c.find_side-in-AtLeast.result c.in-AtLeast.is refl (λ kept.
+    transport growing c.in-AtLeast.part.value c.deref-in-AtLeast.result.now (part_kept memo) c.part-in-AtLeast.result.now c.args.number c.find_side-in-AtLeast.result (sym c.deref-in-AtLeast.ensures) (sym c.part-in-AtLeast.ensures) c.find_side-in-AtLeast.ensures (part_is_kept growing _ memo kept))
 
 pub returns-in_err-number-in-Join : goal.returns-in_err-number-in-Join
 returns-in_err-number-in-Join t c =

@@ -1,0 +1,9 @@
+pub mod GrowSets
+pub mod SidesLemmas
+pub mod PartnersLemmas
+pub mod Extending
+pub mod RunningLemmas
+pub mod GroupsLemmas
+pub mod GroupsGrowth
+pub mod FreshJoins
+pub mod Fresh

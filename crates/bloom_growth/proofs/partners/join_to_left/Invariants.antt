@@ -1,0 +1,15 @@
+-- the joined rows so far were added, or are still to be
+use Rattle.std.proofs.Common.{◌≡◌, ◌++◌, List, take}
+use Rattle.bloom_growth.specs.Code.Joins.{turned_rows}
+use Rattle.blz_value.specs.Record.{Row}
+use Rattle.blz_value.specs.Sets.{set_of}
+use Rattle.blz_set.specs.Code.Pairs.{lefts_of}
+use Rattle.blz_set.specs.RecordSet.{IsRecordSet}
+use Rattle.bloom_growth.specs.Sides.{IsSideOf}
+use Rattle.bloom_growth.proofs.partners.join_to_left.Given as goal
+
+abbrev pub invariant-loop-right : goal.invariant-loop-right
+invariant-loop-right l = record {
+  set : IsRecordSet l.set;
+  added : (lefts : List Row) → IsSideOf (lefts_of l.pairs) lefts l.side → set_of (l.set ++ l.rows.items) ≡ set_of (l.initial.set ++ turned_rows l.pairs lefts (take l.right-index l.right-items));
+}

@@ -1,0 +1,182 @@
+//! The rows that have a partner in a side, joined, and those that have none.
+ghost use Rattle.std.specs.Prelude.{◌≡◌, ◌<◌, ◌++◌, List, map, length, Err, IfOk, OnOk};
+ghost use Rattle.blz_value.specs.Operators.{is_paired, unpaired, joined, join_rows, notin_rows};
+ghost use Rattle.blz_value.specs.Record.{Row};
+ghost use Rattle.blz_value.specs.Sets.{set_of};
+ghost use Rattle.blz_set.specs.Answers.{Gives};
+ghost use Rattle.blz_set.specs.Code.Growth.{Grows};
+ghost use Rattle.blz_set.specs.Code.Pairs.{lefts_of, rights_of};
+ghost use Rattle.blz_set.specs.RecordSet.{IsRecordSet, row_limit};
+ghost use Rattle.blz_set.specs.declared.fault.SetFault.TheVariants.{TooManyRows};
+ghost use Rattle.bloom_growth.specs.Code.Joins.{turned_rows};
+ghost use Rattle.bloom_growth.specs.Sides.{IsSideOf};
+
+use crate::columns::{left_columns, right_columns};
+use crate::grow_set::ROW_LIMIT;
+use crate::side::Side;
+use blz_set::{RecordSet, SetFault};
+use blz_value::{Record, Value};
+use std::alloc::{AllocError, Global};
+use std::mem;
+
+// Whether a right column stands in a pair.
+fn is_paired(pairs: &[(u32, u32)], column: usize) -> bool
+    ensures { result ≡ is_paired pairs.now column }
+{
+    pairs.iter().any(|pair| pair.1 as usize == column)
+}
+
+fn push_values(values: &mut Vec<Value>, row: &Record) -> Result<(), AllocError>
+    ensures { OnOk result (values.new.items ≡ values.old.items ++ row.now) }
+{
+    for value in row.values() {
+        values.push(value.copy()?)?;
+    }
+    Ok(())
+}
+
+fn push_unpaired(
+    values: &mut Vec<Value>,
+    right: &Record,
+    pairs: &[(u32, u32)],
+) -> Result<(), AllocError>
+    ensures { OnOk result (values.new.items ≡ values.old.items ++ unpaired pairs.now right.now) }
+{
+    for (column, value) in right.values().iter().enumerate() {
+        if !is_paired(pairs, column) {
+            values.push(value.copy()?)?;
+        }
+    }
+    Ok(())
+}
+
+// A left row, followed by the right row's values whose columns stand in no pair.
+fn joined_row(
+    alloc: Global,
+    left: &Record,
+    right: &Record,
+    pairs: &[(u32, u32)],
+) -> Result<Record, AllocError>
+    ensures { IfOk result (λ row. row ≡ joined pairs.now left.now right.now) }
+{
+    let mut values = Vec::new(alloc);
+    push_values(&mut values, left)?;
+    push_unpaired(&mut values, right, pairs)?;
+    Ok(Record::from_values(values))
+}
+
+// Adds at the end the rows that a left row makes with some right rows.
+fn push_rights(
+    alloc: Global,
+    rows: &mut Vec<Record>,
+    left: &Record,
+    rights: &[Record],
+    pairs: &[(u32, u32)],
+) -> Result<(), AllocError>
+    ensures { OnOk result (rows.new.items ≡ rows.old.items ++ map (joined pairs.now left.now) rights.now) }
+{
+    for right in rights {
+        rows.push(joined_row(alloc, left, right, pairs)?)?;
+    }
+    Ok(())
+}
+
+// Adds at the end the rows that some left rows make with a right row.
+fn push_lefts(
+    alloc: Global,
+    rows: &mut Vec<Record>,
+    lefts: &[Record],
+    right: &Record,
+    pairs: &[(u32, u32)],
+) -> Result<(), AllocError>
+    ensures { OnOk result (rows.new.items ≡ rows.old.items ++ map (λ left. joined pairs.now left right.now) lefts.now) }
+{
+    for left in lefts {
+        rows.push(joined_row(alloc, left, right, pairs)?)?;
+    }
+    Ok(())
+}
+
+// Adds rows to a set. After a fault it is as it was.
+fn add_rows(set: &mut RecordSet, rows: Vec<Record>) -> Result<(), SetFault>
+    ensures { Grows set.old rows.items set.new result }
+{
+    let more = RecordSet::from_rows(rows)?;
+    set.union_in(&more)
+}
+
+// Adds rows to a set and takes them away once they are more than a set may have, so that few sets
+// are joined.
+fn add_many(alloc: Global, set: &mut RecordSet, rows: &mut Vec<Record>) -> Result<(), SetFault>
+    requires { IsRecordSet set.old }
+    ensures set { OnOk result (IsRecordSet set.new) }
+    ensures all { OnOk result (set_of (set.new ++ rows.new.items) ≡ set_of (set.old ++ rows.old.items)) }
+    ensures too_many { result ≡ Err TooManyRows → row_limit < length (set_of (set.old ++ rows.old.items)) }
+{
+    if rows.len() > ROW_LIMIT {
+        let many = mem::replace(rows, Vec::new(alloc));
+        add_rows(set, many)?;
+    }
+    Ok(())
+}
+
+/// Adds the joined rows of some left rows and all rows of a side, by its columns.
+pub(crate) fn join_to_right(
+    alloc: Global,
+    set: &mut RecordSet,
+    lefts: &RecordSet,
+    side: &Side,
+    pairs: &[(u32, u32)],
+) -> Result<(), SetFault>
+    requires { IsRecordSet set.old }
+    ensures { (rights : List Row) → IsSideOf (rights_of pairs.now) rights side.now → Grows set.old (join_rows pairs.now lefts.now rights) set.new result }
+{
+    let columns = left_columns(alloc, pairs)?;
+    let mut rows = Vec::new(alloc);
+    for left in lefts.rows() {
+        let partners = side.partners(left, &columns)?;
+        push_rights(alloc, &mut rows, left, partners.rows(), pairs)?;
+        add_many(alloc, set, &mut rows)?;
+    }
+    add_rows(set, rows)
+}
+
+/// Adds the joined rows of all rows of a side and some right rows.
+pub(crate) fn join_to_left(
+    alloc: Global,
+    set: &mut RecordSet,
+    side: &Side,
+    rights: &RecordSet,
+    pairs: &[(u32, u32)],
+) -> Result<(), SetFault>
+    requires { IsRecordSet set.old }
+    ensures { (lefts : List Row) → IsSideOf (lefts_of pairs.now) lefts side.now → Grows set.old (turned_rows pairs.now lefts rights.now) set.new result }
+{
+    let columns = right_columns(alloc, pairs)?;
+    let mut rows = Vec::new(alloc);
+    for right in rights.rows() {
+        let partners = side.partners(right, &columns)?;
+        push_lefts(alloc, &mut rows, partners.rows(), right, pairs)?;
+        add_many(alloc, set, &mut rows)?;
+    }
+    add_rows(set, rows)
+}
+
+/// The left rows that have no partner in a side of right rows.
+pub fn without_partner(
+    alloc: Global,
+    lefts: &RecordSet,
+    side: &Side,
+    pairs: &[(u32, u32)],
+) -> Result<RecordSet, SetFault>
+    ensures { (rights : List Row) → IsSideOf (rights_of pairs.now) rights side.now → Gives (set_of (notin_rows pairs.now lefts.now rights)) result }
+{
+    let columns = left_columns(alloc, pairs)?;
+    let mut rows = Vec::new(alloc);
+    for left in lefts.rows() {
+        if side.partners(left, &columns)?.len() == 0 {
+            rows.push(left.copy()?)?;
+        }
+    }
+    RecordSet::from_rows(rows)
+}

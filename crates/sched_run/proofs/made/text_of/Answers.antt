@@ -9,11 +9,11 @@ loop-event-init c = text_first _ _ _ c.new-text.ensures.items
 
 pub named-requires : goal.named-requires
 named-requires c =
-    subst (λ event. HasEventNames c.args.valid.now.view (event_by_numbers event)) (sym c.loop-event-item.is) (c.requires.named c.loop-event.event-index c.loop-event-item.result c.loop-event-test.true)
+    subst (λ event. HasEventNames c.args.valid.now.view (event_by_numbers event)) (sym c.event-item.is) (c.requires.named c.loop-event.event-index c.event-item.result c.loop-event-test.true)
 
 pub loop-event-preserved : goal.loop-event-preserved
 loop-event-preserved c =
-    text_more c.args.valid.now.view c.args.events.now c.loop-event.event-index c.loop-event.text.items c.loop-event.invariant _ c.loop-event-item.result c.in_ok-line.line c.requires.few c.loop-event-test.true c.loop-event-item.is c.in_ok-line.ensures.event c.in_ok-line.ensures.printable
+    text_more c.args.valid.now.view c.args.events.now c.loop-event.event-index c.loop-event.text.items c.loop-event.invariant _ c.event-item.result c.in_ok-line.line c.requires.few c.loop-event-test.true c.event-item.is c.in_ok-line.ensures.event c.in_ok-line.ensures.printable
     c.in_ok-push_line.ensures.small c.in_ok-push_line.ensures.text
 
 pub returns : goal.returns

@@ -1,6 +1,7 @@
 -- What the first fault says, as the code finds it.
 pub mod SizeLemmas
 pub mod BuiltSites
+pub mod BuiltFacts
 pub mod EarlyKinds
 pub mod EarlyEnds
 pub mod KnownNotes

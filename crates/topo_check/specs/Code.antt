@@ -1,4 +1,5 @@
 pub mod Built
+pub mod Bodies
 pub mod Chosen
 pub mod Named
 pub mod OfView

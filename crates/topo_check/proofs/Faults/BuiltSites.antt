@@ -34,10 +34,10 @@ output_within site p number built e lt = omega (arith, lt, outputs_of site p bui
 -- ---- notes that a body gives
 
 -- a table of the numbers below a count, looked up at one of them
-at_below : {X : Type 0} (f : ℕ → X) (n c : ℕ) (d : X) → c < n → get_or (map f (range_with_len 0 n)) c d ≡ f c
+pub at_below : {X : Type 0} (f : ℕ → X) (n c : ℕ) (d : X) → c < n → get_or (map f (range_with_len 0 n)) c d ≡ f c
 at_below f n c d lt = get_or-map-range_with_len f 0 n c c d lt (omega arith)
 
-length_below : {X : Type 0} (f : ℕ → X) (n : ℕ) → length (map f (range_with_len 0 n)) ≡ n
+pub length_below : {X : Type 0} (f : ℕ → X) (n : ℕ) → length (map f (range_with_len 0 n)) ≡ n
 length_below f n = length-map-range_with_len f 0 n
 
 rows_at : (f : ℕ → ℕ → Option Note) (ports outputs p o : ℕ) → p < ports → o < outputs

@@ -182,8 +182,12 @@ fn is_understated(alloc: Global, names: &AttrNames, site: &Site<'_>) -> Result<b
     requires known { code.HasKnownNotes (site_seen site.now) }
     ensures { IfOk result (λ short. short ≡ spec.is_understated names.now (site_seen site.now)) }
 {
+    let notes = site.entry.notes.as_slice();
+    if notes.is_empty() {
+        return Ok(false);
+    }
     let derived = derived_notes(alloc, names, site)?;
-    Ok(any_short(names, site, &derived, site.entry.notes.as_slice()))
+    Ok(any_short(names, site, &derived, notes))
 }
 
 /// The first component with a declared note that doesn't cover the derived note of its path.

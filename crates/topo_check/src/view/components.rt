@@ -3,8 +3,10 @@ ghost use Rattle.std.specs.Prelude.{◌≡◌, ◌≤◌, ◌<◌, map, length, 
 ghost use Rattle.std.specs.List.{enumerate_from};
 ghost use Rattle.path_annotate.specs.Annotation.{notes_of};
 ghost use Rattle.path_annotate.specs.Roots.{no_roots as no_roots_of};
+ghost use Rattle.path_trace.specs.Outputs.{roots_of_outputs, gates_of_outputs};
 ghost use Rattle.topo_types.specs.ViewOf as spec;
 ghost use Rattle.topo_types.specs.Kept.{component_kept, output_kept, port_kept};
+ghost use Rattle.topo_check.specs.Code.Bodies.{gates_seen, AreFound};
 ghost use Rattle.topo_check.specs.Code.Built.{site_seen, sites_seen, IsBuilt};
 
 use crate::view::numbers::{attributes_of, mode_from, note_from, numbers_of};
@@ -13,10 +15,42 @@ use bloom_ast::Program;
 use blz_value::{Items, Str};
 use fd_closure::{AttrNames, Attrs};
 use path_annotate::{Note, Notes};
-use path_trace::{annotate, gate_of, roots};
+use path_trace::{annotate, program_facts};
 use std::alloc::{AllocError, Global};
 use topo_copy::copy_program;
 use topo_types::{Declared, KeptComponent, KeptOutput, KeptPort, Side};
+
+// ---- what is found of bodies
+
+// What is found of a component's body, nothing without one: its notes, and of each output the roots
+// and the gate.
+#[derive(Drop)]
+struct BodyFacts {
+    notes: Option<Notes>,
+    roots: Option<Items<Items<Option<u8>>>>,
+    gates: Option<Items<Attrs>>,
+}
+
+fn body_facts(alloc: Global, names: &AttrNames, site: &Site<'_>) -> Result<BodyFacts, AllocError>
+    requires { IsBuilt (site_seen site.now) }
+    ensures { IfOk result (AreFound names.now (site_seen site.now)) }
+{
+    match &site.program {
+        Some(program) => {
+            let facts = program_facts(alloc, program, names)?;
+            Ok(BodyFacts {
+                notes: Some(facts.notes),
+                roots: Some(facts.roots),
+                gates: Some(facts.gates),
+            })
+        }
+        None => Ok(BodyFacts {
+            notes: None,
+            roots: None,
+            gates: None,
+        }),
+    }
+}
 
 // ---- ports and outputs
 
@@ -46,40 +80,43 @@ fn no_roots(alloc: Global, columns: &[Str]) -> Result<Vec<Option<u8>>, AllocErro
 }
 
 // The roots of the columns of an output.
-#[tactic(auto, using(crate::proofs::Faults::BuiltSites::output_within, crate::proofs::Faults::BuiltSites::stock_of))]
+#[tactic(auto, using(crate::proofs::Faults::BuiltFacts::no_roots_found))]
 fn roots_with(
     alloc: Global,
     names: &AttrNames,
     site: &Site<'_>,
+    roots: &Option<Items<Items<Option<u8>>>>,
     number: usize,
     output: &Side,
 ) -> Result<Vec<Option<u8>>, AllocError>
     requires built { IsBuilt (site_seen site.now) }
+    requires roots { roots.now ≡ option_map (roots_of_outputs names.now) site.now.program }
     requires within { number < length site.now.outputs }
     ensures { IfOk result (λ roots. roots.items ≡ spec.roots_with names.now site.now.program (number, output.now)) }
 {
-    match &site.program {
-        Some(program) => roots(alloc, program, names, number as u32),
+    match roots {
+        Some(all) => Vec::from_slice(alloc, all.as_slice()[number].as_slice()),
         None => no_roots(alloc, output.columns.as_slice()),
     }
 }
 
 // The gate of an output.
-#[tactic(auto, using(crate::proofs::Faults::BuiltSites::output_within, crate::proofs::Faults::BuiltSites::stock_of))]
+#[tactic(auto, using(crate::proofs::Faults::BuiltFacts::no_gate_found))]
 fn gate_with(
-    alloc: Global,
     names: &AttrNames,
     site: &Site<'_>,
+    gates: &Option<Items<Attrs>>,
     number: usize,
     output: &Side,
-) -> Result<Attrs, AllocError>
+) -> Attrs
     requires built { IsBuilt (site_seen site.now) }
+    requires gates { option_map gates_seen gates.now ≡ option_map (gates_of_outputs names.now) site.now.program }
     requires within { number < length site.now.outputs }
-    ensures { IfOk result (λ gate. gate ≡ spec.gate_with names.now site.now.program (number, output.now)) }
+    ensures { result ≡ spec.gate_with names.now site.now.program (number, output.now) }
 {
-    match &site.program {
-        Some(program) => gate_of(alloc, program, names, number as u32),
-        None => Ok(Attrs::from_bits(0)),
+    match gates {
+        Some(all) => all.as_slice()[number],
+        None => Attrs::from_bits(0),
     }
 }
 
@@ -87,21 +124,23 @@ fn output_of(
     alloc: Global,
     names: &AttrNames,
     site: &Site<'_>,
+    found: &BodyFacts,
     number: usize,
     output: &Side,
 ) -> Result<KeptOutput, AllocError>
     requires built { IsBuilt (site_seen site.now) }
+    requires found { AreFound names.now (site_seen site.now) found.now }
     requires within { number < length site.now.outputs }
     ensures { IfOk result (λ kept. output_kept kept ≡ spec.output_view names.now site.now.program (number, output.now)) }
 {
     let name = output.name.copy()?;
     let columns = attributes_of(alloc, names, output.columns.as_slice())?;
-    let roots = Items::from_vec(roots_with(alloc, names, site, number, output)?);
-    let gate = gate_with(alloc, names, site, number, output)?;
+    let own = roots_with(alloc, names, site, &found.roots, number, output)?;
+    let gate = gate_with(names, site, &found.gates, number, output);
     Ok(KeptOutput {
         name,
         columns,
-        roots,
+        roots: Items::from_vec(own),
         gate,
     })
 }
@@ -110,13 +149,15 @@ fn outputs_of(
     alloc: Global,
     names: &AttrNames,
     site: &Site<'_>,
+    found: &BodyFacts,
 ) -> Result<Items<KeptOutput>, AllocError>
-    requires { IsBuilt (site_seen site.now) }
+    requires built { IsBuilt (site_seen site.now) }
+    requires found { AreFound names.now (site_seen site.now) found.now }
     ensures { IfOk result (λ kept. map output_kept kept ≡ map (spec.output_view names.now site.now.program) (enumerate_from 0 site.now.outputs)) }
 {
     let mut kept = Vec::new(alloc);
     for (number, output) in site.outputs.as_slice().iter().enumerate() {
-        kept.push(output_of(alloc, names, site, number, output)?)?;
+        kept.push(output_of(alloc, names, site, found, number, output)?)?;
     }
     Ok(Items::from_vec(kept))
 }
@@ -213,18 +254,6 @@ fn rows_with(
     Ok(Items::from_vec(rows))
 }
 
-fn notes_with(
-    alloc: Global,
-    names: &AttrNames,
-    site: &Site<'_>,
-) -> Result<Items<Items<Option<Note>>>, AllocError>
-    requires { IsBuilt (site_seen site.now) }
-    ensures { IfOk result (λ rows. rows ≡ spec.notes_view names.now (site_seen site.now)) }
-{
-    let derived = derived_notes(alloc, names, site)?;
-    rows_with(alloc, names, site, &derived)
-}
-
 // ---- components
 
 fn program_of(alloc: Global, site: &Site<'_>) -> Result<Option<Program>, AllocError>
@@ -258,8 +287,9 @@ fn component_of(
     let mode = mode_from(names, entry.mode, entry.key.as_slice());
     let replicas = replicas_of(entry.replicas);
     let ports = ports_of(alloc, names, site.ports.as_slice())?;
-    let outputs = outputs_of(alloc, names, site)?;
-    let notes = notes_with(alloc, names, site)?;
+    let found = body_facts(alloc, names, site)?;
+    let outputs = outputs_of(alloc, names, site, &found)?;
+    let notes = rows_with(alloc, names, site, &found.notes)?;
     Ok(KeptComponent {
         name,
         program,

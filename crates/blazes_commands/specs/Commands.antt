@@ -14,9 +14,8 @@ use Rattle.coord_synth.specs.Laws.{AreCoordinated}
 use Rattle.report_derivation.specs.DeriveText.{derive_text}
 use Rattle.report_print.specs.LabelText.{label_text}
 use Rattle.report_runs.specs.SoakText.{soak_text}
-use Rattle.sched_run.specs.Applying.{Line}
 use Rattle.sched_run.specs.Made.{LeavesNothing, execution_after}
-use Rattle.sched_run.specs.Making.{events_of}
+use Rattle.sched_run.specs.Making.{events_of, Line}
 use Rattle.shard_copies.specs.declared.sharded.Sharded.{Sharded}
 use Rattle.sched_text.specs.Reading.{ReadsAs, event_reading}
 use Rattle.sched_text.specs.Text.{schedule_text}

@@ -16,8 +16,9 @@ use Rattle.report_print.specs.declared.refusal.WhyKind.TheVariants as why_kinds
 use Rattle.sched_bench.specs.Bench.{fault_of_opening}
 use Rattle.sched_hear.specs.Net.{execution_in}
 use Rattle.sched_hear.specs.declared.books.Books.{Books}
-use Rattle.sched_run.specs.Applying.{Line, after_lines, steps_of, Applied}
-use Rattle.sched_run.specs.declared.applying.EventRefusal.{EventRefusal}
+use Rattle.sched_run.specs.Making.{Line, steps_of}
+use Rattle.replay_run.specs.Applying.{after_lines, Applied}
+use Rattle.replay_run.specs.declared.applying.EventRefusal.{EventRefusal}
 use Rattle.topo_types.specs.Data.{Data}
 use Rattle.topo_types.specs.View.{View, find_stream, stream_replicas}
 use Rattle.why_trace.specs.Trim as trim

@@ -18,8 +18,9 @@ use Rattle.sched_hear.specs.Net.{Stands, BooksRun, execution_in}
 use Rattle.sched_hear.specs.Numbered.{numbered}
 use Rattle.sched_hear.specs.declared.books.Books.{Books}
 use Rattle.sched_lists.specs.Limits.{Limit, limit_of_event}
-use Rattle.sched_run.specs.Applying.{Line, after_line, after_lines, in_line, made_by, steps_of, Applied, AppliesLines}
-use Rattle.sched_run.specs.declared.applying.EventRefusal.{EventRefusal}
+use Rattle.sched_run.specs.Making.{Line, steps_of}
+use Rattle.replay_run.specs.Applying.{after_line, after_lines, in_line, made_by, Applied, AppliesLines}
+use Rattle.replay_run.specs.declared.applying.EventRefusal.{EventRefusal}
 use Rattle.topo_types.specs.Data.{Data}
 use Rattle.topo_types.specs.View.{View}
 use Rattle.witness_check.specs.declared.difference.Which.{Which}

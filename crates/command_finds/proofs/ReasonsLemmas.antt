@@ -18,7 +18,8 @@ use Rattle.inbox.specs.Wiring.{wiring_of}
 use Rattle.inbox.proofs.TimestepLemmas.Entries.{Has-rows_in}
 use Rattle.messages.proofs.MessagesLemmas.{is_same_row-itself}
 use Rattle.sched_bench.specs.Bench.{fault_of_opening}
-use Rattle.sched_run.specs.Applying.{Line, after_lines}
+use Rattle.sched_run.specs.Making.{Line}
+use Rattle.replay_run.specs.Applying.{after_lines}
 use Rattle.sched_text.specs.Text.{IsPrintable, is_printable}
 use Rattle.topo_types.specs.Data.{Data}
 use Rattle.topo_types.specs.Messages.{Message, row, seal, is_same_row, row_in, rows_in}

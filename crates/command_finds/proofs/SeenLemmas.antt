@@ -7,8 +7,9 @@ use Rattle.blz_boxes.specs.declared.kind.ProgramKind.{ProgramKind}
 use Rattle.sched_bench.specs.Bench.{fault_of_opening}
 use Rattle.sched_hear.specs.Net.{execution_in}
 use Rattle.sched_hear.specs.declared.books.Books.{Books}
-use Rattle.sched_run.specs.Applying.{Line, after_lines, steps_of, Applied}
-use Rattle.sched_run.specs.declared.applying.EventRefusal.{EventRefusal}
+use Rattle.sched_run.specs.Making.{Line, steps_of}
+use Rattle.replay_run.specs.Applying.{after_lines, Applied}
+use Rattle.replay_run.specs.declared.applying.EventRefusal.{EventRefusal}
 use Rattle.inbox.specs.Executions.{Execution, first_execution}
 use Rattle.topo_types.specs.Data.{Data}
 use Rattle.topo_types.specs.View.{View}

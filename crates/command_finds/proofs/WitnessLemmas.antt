@@ -6,7 +6,8 @@ use Rattle.blz_boxes.specs.declared.kind.ProgramKind.{ProgramKind}
 use Rattle.confluence.specs.Laws.{RegionLaw}
 use Rattle.inbox.specs.Executions.{Execution, contents, first_execution}
 use Rattle.sched_bench.specs.Bench.{fault_of_opening}
-use Rattle.sched_run.specs.Applying.{Line, after_lines}
+use Rattle.sched_run.specs.Making.{Line}
+use Rattle.replay_run.specs.Applying.{after_lines}
 use Rattle.sched_run.specs.Reading.{is_complete}
 use Rattle.sched_run.proofs.LeftSeen.{tells_complete}
 use Rattle.topo_types.specs.Data.{Data, Holds, IsData}

@@ -8,8 +8,9 @@ use Rattle.topo_types.specs.View.{View, find_stream, stream_replicas}
 use Rattle.inbox.specs.Executions.{Execution, emitted_list, first_execution}
 use Rattle.inbox.specs.Wiring.{wiring_of}
 use Rattle.sched_text.specs.Reading.{bad_line, entries_of, event_reading}
-use Rattle.sched_run.specs.Applying.{Line, after_lines}
-use Rattle.sched_run.specs.declared.applying.EventRefusal.{EventRefusal}
+use Rattle.sched_run.specs.Making.{Line}
+use Rattle.replay_run.specs.Applying.{after_lines}
+use Rattle.replay_run.specs.declared.applying.EventRefusal.{EventRefusal}
 use Rattle.emitted.specs.declared.fault.EventFault.{EventFault}
 use Rattle.emitted.specs.declared.fault.EventFault.TheVariants as event_faults
 use Rattle.why_trace.specs.Trim.{Wanted}

@@ -9,7 +9,7 @@ use Rattle.label_walk.specs.Labels.{AreLabels}
 use Rattle.label_walk.specs.Paths.{label_at}
 use Rattle.confluence.specs.Sound.{IsBodied, IsSteady}
 use Rattle.inbox.specs.Executions.{Execution}
-use Rattle.sched_run.specs.Applying.{Line}
+use Rattle.sched_run.specs.Making.{Line}
 use Rattle.sched_run.specs.Reading.{is_complete}
 use Rattle.witness_check.specs.Difference.{difference, snapshot}
 use Rattle.witness_check.specs.declared.difference.Difference.{Difference}

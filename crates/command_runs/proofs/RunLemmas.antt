@@ -17,8 +17,9 @@ use Rattle.report_print.specs.declared.refusal.EventKind.TheVariants as event_ki
 use Rattle.sched_bench.specs.Bench.{fault_of_opening}
 use Rattle.sched_hear.specs.Net.{Stands, BooksRun, execution_in}
 use Rattle.sched_hear.specs.declared.books.Books.{Books}
-use Rattle.sched_run.specs.Applying.{Line, after_lines, steps_of, Applied, AppliesLines}
-use Rattle.sched_run.specs.declared.applying.EventRefusal.{EventRefusal}
+use Rattle.sched_run.specs.Making.{Line, steps_of}
+use Rattle.replay_run.specs.Applying.{after_lines, Applied, AppliesLines}
+use Rattle.replay_run.specs.declared.applying.EventRefusal.{EventRefusal}
 use Rattle.sched_run.proofs.TablesLemmas.{tables_are_last}
 use Rattle.topo_types.specs.Data.{Data}
 use Rattle.topo_types.specs.View.{View}

@@ -14,8 +14,9 @@ use Rattle.report_print.specs.Refusals.{refusal_line}
 use Rattle.sched_bench.specs.Bench.{fault_of_opening}
 use Rattle.sched_bench.specs.declared.fault.OpenFault.{OpenFault}
 use Rattle.sched_bench.specs.declared.fault.OpenFault.TheVariants as open_faults
-use Rattle.sched_run.specs.Applying.{Line, after_lines}
-use Rattle.sched_run.specs.declared.applying.EventRefusal.{EventRefusal}
+use Rattle.sched_run.specs.Making.{Line}
+use Rattle.replay_run.specs.Applying.{after_lines}
+use Rattle.replay_run.specs.declared.applying.EventRefusal.{EventRefusal}
 use Rattle.sched_text.specs.Reading.{bad_line, entries_of}
 use Rattle.topo_types.specs.Data.{Data}
 use Rattle.topo_types.specs.View.{View, component_at}

@@ -3,7 +3,7 @@ use Rattle.std.specs.Prelude.{List}
 use Rattle.blz_boxes.specs.declared.kind.ProgramKind.{ProgramKind}
 use Rattle.inbox.specs.Executions.{Execution}
 use Rattle.replay_run.specs.Steps.{StepLine}
-use Rattle.sched_run.specs.Applying.{Line}
+use Rattle.sched_run.specs.Making.{Line}
 use Rattle.topo_types.specs.Data.{Data}
 use Rattle.topo_types.specs.View.{View}
 use Rattle.blazes_words.specs.Words.{RunFiles}

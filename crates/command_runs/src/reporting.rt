@@ -8,9 +8,10 @@ ghost use Rattle.command_runs.specs.Code.Ran.{IsOutcomeOf, ReportsBooks};
 ghost use Rattle.command_runs.specs.Contents.{TellsStatus};
 
 use command_files::{Reply, Status, Stop, stop_at};
+use replay_run::EventRefusal;
 use report_print::{EventKind, Refusal};
 use report_runs::run_text;
-use sched_run::{EventFault, EventRefusal, Net};
+use sched_run::{EventFault, Net};
 use std::alloc::{AllocError, Global};
 use topo_types::Valid;
 

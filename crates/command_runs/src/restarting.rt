@@ -18,8 +18,7 @@ use blz_outside::Files;
 use command_checks::{data_file, valid_topology};
 use command_files::{Reply, Stop};
 use data_read::Data;
-use replay_run::{Step, StepRefusal};
-use sched_run::EventRefusal;
+use replay_run::{EventRefusal, Step, StepRefusal};
 use std::alloc::Global;
 use topo_types::Valid;
 

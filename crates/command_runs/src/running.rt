@@ -16,7 +16,7 @@ use blz_outside::Files;
 use command_checks::{data_file, valid_topology};
 use command_files::{Reply, Stop, schedule_file};
 use data_read::Data;
-use sched_run::apply;
+use replay_run::apply;
 use sched_text::Event;
 use std::alloc::Global;
 use topo_types::Valid;

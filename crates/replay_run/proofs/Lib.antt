@@ -1,3 +1,4 @@
+pub mod ApplyingLemmas
 pub mod StepsLemmas
 pub mod WorkedLines
 pub mod WorkedReplay

@@ -1,5 +1,5 @@
 -- A step more: where it is done, the net reaches one step more, and where it is refused, the replay is.
-use Rattle.std.proofs.Common.{◌≡◌, ◌≢◌, ◌∙◌, ◌+◌, ◌<◌, ◌≤◌, ◌++◌, ℕ, Bool, true, false, List, [], ◌∷◌, Option, None, Some, take, drop, length, get_or, append_assoc, append-nil, refl, sym, subst, ap}
+use Rattle.std.proofs.Common.{◌≡◌, ◌≢◌, ◌∙◌, ◌+◌, ◌<◌, ◌≤◌, ◌++◌, ℕ, Bool, true, false, List, [], ◌∷◌, Option, None, take, drop, length, get_or, append_assoc, append-nil, refl, sym, subst, ap}
 use Rattle.std.specs.Prelude.{Result, Ok, Err, if◌then◌else◌}
 use Rattle.std.specs.List.{fold}
 use Rattle.std.proofs.lemmas.List.{map-append, take_more, take_all, take-append-drop}
@@ -17,16 +17,15 @@ use Rattle.inbox.proofs.Executions.Appending.{legal_more}
 use Rattle.inbox.proofs.Executions.Results.{Ok_same}
 use Rattle.emitted.specs.declared.fault.EventFault.{EventFault}
 use Rattle.emitted.specs.declared.fault.EventFault.TheVariants.{NoInstance, NoMemory}
-use Rattle.sched_lists.specs.Limits.{Limit}
-use Rattle.sched_hear.specs.Answers.{Answers, answer_to, fault_of, fault_at}
+use Rattle.sched_hear.specs.Answers.{Answers, answer_to}
 use Rattle.sched_hear.specs.Net.{Stands, execution_in}
 use Rattle.sched_hear.specs.declared.books.Books.{Books}
-use Rattle.sched_run.specs.Applying.{made_by}
 use Rattle.sched_run.specs.Forgetting.{ForgetAnswers, ForgetLeaves, answer_to_forget}
 use Rattle.sched_run.specs.declared.fault.ForgetFault.{ForgetFault}
 use Rattle.replay_run.specs.Steps.{StepLine, numbered_step, limit_of_step, in_step_line, after_step_line, after_step_lines, steps_in, ReachesSteps, AppliedSteps}
 use Rattle.replay_run.specs.Code.Stepping.{StepAnswers, StepLeaves}
 use Rattle.replay_run.specs.declared.running.StepRefusal.{StepRefusal}
+use Rattle.replay_run.proofs.ApplyingLemmas.{done_made, fault_made}
 
 -- ---- a forget
 
@@ -56,23 +55,6 @@ pub forget_leaves : (v : View) (loaded : List (Option Program)) (tables next : L
     → ForgetLeaves v loaded tables next old new (forget c r) (Err fault) → StepLeaves v loaded tables next old new (forget c r) (Err NoInstance)
 forget_leaves v loaded tables next old new c r fault same given steps stands =
     subst (λ (b : Books). Stands v given steps loaded next b) (sym same.1) (subst (λ (t : List Sets). Stands v given steps loaded t old) (sym same.0) stands)
-
--- ---- one answer
-
--- a step that is done was legal, and met no limit
-done_made : (after : Result Execution Refusal) (limit : Option Limit) → Answers after limit (Ok tt) → (y : Execution) × (after ≡ Ok y) × (made_by after limit ≡ Ok y)
-done_made (Ok y) None answers = (y, refl, refl)
-done_made (Ok y) (Some limit) answers = let is : Ok tt ≡ Err (fault_at limit) = answers (λ bad. cc) in cc
-done_made (Err refusal) limit answers = let is : Ok tt ≡ Err (fault_of refusal) = answers (λ bad. cc) in cc
-
--- a fault is that of the step, unless memory ran out
-fault_made : (after : Result Execution Refusal) (limit : Option Limit) (fault : EventFault) → Answers after limit (Err fault) → fault ≢ NoMemory → made_by after limit ≡ Err fault
-fault_made after limit fault answers other = from after limit (answers (λ is. other (cc)))
-  where
-    from : (after : Result Execution Refusal) (limit : Option Limit) → Err fault ≡ answer_to after limit → made_by after limit ≡ Err fault
-    from (Ok y) None is = cc
-    from (Ok y) (Some limit) is = let same : fault ≡ fault_at limit = cc in ap (λ f. Err f) (sym same)
-    from (Err refusal) limit is = let same : fault ≡ fault_of refusal = cc in ap (λ f. Err f) (sym same)
 
 -- ---- one line
 

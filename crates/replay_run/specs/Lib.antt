@@ -1,3 +1,4 @@
+pub mod Applying
 pub mod Reading
 pub mod Steps
 pub mod Code

@@ -14,7 +14,7 @@ use Rattle.sched_lists.specs.Limits.{Limit, limit_of_event}
 use Rattle.sched_hear.specs.Net.{Stands, Leaves, execution_in}
 use Rattle.sched_hear.specs.Numbered.{component_number, numbered}
 use Rattle.sched_hear.specs.declared.books.Books.{Books}
-use Rattle.sched_run.specs.Applying.{made_by}
+use Rattle.replay_run.specs.Applying.{made_by}
 use Rattle.replay_run.specs.declared.running.StepRefusal.{StepRefusal}
 use Rattle.replay_run.specs.declared.step.Step.{Step as NamedStep}
 use Rattle.replay_run.specs.declared.step.Step.TheVariants.{Event, Forget}

@@ -1,10 +1,13 @@
-//! Schedules in which instances forget: their steps, the text of these, and what they make of a net.
+//! Schedules that are given, applied to a net in order: plain ones, and those in which instances forget, with their
+//! steps and the text of these.
 #![tactic(auto)]
 
+mod applying;
 mod reading;
 mod running;
 mod step;
 
+pub use applying::{EventRefusal, apply};
 pub use reading::read;
 pub use running::{StepRefusal, run};
 pub use step::Step;

@@ -25,7 +25,6 @@ pub mod WorksLemmas
 pub mod SameBooks
 pub mod Untouched
 pub mod WatchLemmas
-pub mod ApplyingLemmas
 pub mod TurnsLemmas
 pub mod FrontsLemmas
 pub mod NetRead

@@ -7,9 +7,8 @@ use Rattle.topo_types.specs.Valid.{IsValid}
 use Rattle.topo_types.specs.View.{View}
 use Rattle.inbox.specs.Events.{Event, Step, event}
 use Rattle.inbox.specs.Wiring.{wiring_of}
-use Rattle.sched_run.specs.Applying.{Line, steps_of}
 use Rattle.sched_run.specs.Made.{made_of, open_works, AnswersSo}
-use Rattle.sched_run.specs.Making.{RunsFirst, AnswersMade, AnswersNumbered, HasMade, HasMadeNumbered, LeavesMade, LeavesNumbered, events_in, events_of}
+use Rattle.sched_run.specs.Making.{RunsFirst, AnswersMade, AnswersNumbered, HasMade, HasMadeNumbered, LeavesMade, LeavesNumbered, events_in, events_of, Line, steps_of}
 use Rattle.sched_hear.specs.Net.{BooksRun, Stands, execution_in}
 use Rattle.sched_hear.specs.Numbered.{numbered}
 use Rattle.sched_run.specs.Code.Making.{Goes, HasTurned, IsReady, MeetNone, StandsMade, TurnedSo, Turns}

@@ -17,9 +17,8 @@ use Rattle.topo_types.specs.View.{View}
 use Rattle.inbox.specs.Events.{Event}
 use Rattle.sched_hear.specs.Numbered.{event_by_numbers, numbered}
 use Rattle.sched_hear.specs.declared.numbered.NumberedEvent.{NumberedEvent}
-use Rattle.sched_run.specs.Applying.{Line}
 use Rattle.sched_run.specs.Made.{event_limit}
-use Rattle.sched_run.specs.Making.{CountFromOne, IsTextOf, events_of}
+use Rattle.sched_run.specs.Making.{CountFromOne, IsTextOf, events_of, Line}
 use Rattle.sched_run.specs.Naming.{CanBeWritten, HasEventNames}
 use Rattle.sched_run.specs.Code.Works.{HasNames, work_event}
 use Rattle.sched_run.specs.Code.Written.{AreLines}

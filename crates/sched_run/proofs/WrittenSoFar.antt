@@ -6,8 +6,7 @@ use Rattle.sched_text.specs.Text.{schedule_text}
 use Rattle.topo_types.specs.View.{View}
 use Rattle.sched_hear.specs.Numbered.{event_by_numbers}
 use Rattle.sched_hear.specs.declared.numbered.NumberedEvent.{NumberedEvent}
-use Rattle.sched_run.specs.Applying.{Line}
-use Rattle.sched_run.specs.Making.{events_of}
+use Rattle.sched_run.specs.Making.{events_of, Line}
 use Rattle.sched_run.specs.Code.Written.{AreLines}
 
 -- they are those of the first events, so many

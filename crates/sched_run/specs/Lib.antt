@@ -2,7 +2,6 @@ pub mod Forgetting
 pub mod Closing
 pub mod Reading
 pub mod Tables
-pub mod Applying
 pub mod Made
 pub mod Naming
 pub mod Making

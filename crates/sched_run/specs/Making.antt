@@ -5,11 +5,11 @@ use Rattle.bloom_ast.specs.declared.program.Program.{Program}
 use Rattle.bloom_ast.specs.Step.{Sets}
 use Rattle.sched_text.specs.Reading.{ReadsAs, event_reading}
 use Rattle.sched_text.specs.Text.{schedule_text}
+use Rattle.sched_text.specs.declared.event.Event.{Event as NamedEvent}
 use Rattle.topo_types.specs.Data.{Data}
 use Rattle.topo_types.specs.View.{View}
-use Rattle.inbox.specs.Events.{Event, event}
+use Rattle.inbox.specs.Events.{Event, Step, event}
 use Rattle.inbox.specs.Wiring.{wiring_of}
-use Rattle.sched_run.specs.Applying.{Line, steps_of}
 use Rattle.sched_run.specs.Made.{made_of, AnswersSo}
 use Rattle.sched_hear.specs.Net.{Stands}
 use Rattle.sched_hear.specs.Numbered.{numbered}
@@ -36,6 +36,14 @@ abbrev pub LeavesNumbered : View → (loaded : List (Option Program)) → (table
 LeavesNumbered v loaded tables next old new result = (given : Data) → Stands v given [] loaded tables old → HasMadeNumbered v given loaded next new result
 
 -- ---- a schedule
+
+-- a line of a schedule: its number and its event
+abbrev pub Line : Type 0
+Line = ℕ × NamedEvent
+
+-- the steps of some lines
+abbrev pub steps_of : View → List Line → List Step
+steps_of v lines = map (λ line. event (numbered v line.1)) lines
 
 -- the events of lines, by numbers
 abbrev pub events_of : View → List Line → List Event

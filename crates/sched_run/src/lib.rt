@@ -1,8 +1,7 @@
 //! The runner: what a topology does under events, over given data and with boxed shells, what is read of it,
-//! and schedules over it: one that is given, applied in order, and one that is made of a seed.
+//! and the schedule that is made of a seed.
 #![tactic(auto)]
 
-mod applying;
 mod closing;
 mod fault;
 mod forgetting;
@@ -22,7 +21,6 @@ mod stale;
 mod watch;
 mod works;
 
-pub use applying::{EventRefusal, apply};
 pub use fault::{ForgetFault, MakeFault};
 pub use made::Made;
 pub use making::{make, make_numbered};

@@ -8,7 +8,7 @@ use Rattle.bloom_ast.specs.declared.expr.Term.TheVariants.{Column, Literal}
 use Rattle.bloom_ast.specs.Query.{Name, Formula}
 use Rattle.bloom_ast.specs.Query.Formula.{compare, both}
 use Rattle.row_laws.specs.Shards.{from_bound, below_bound, buckets_from}
-use Rattle.shard_copies.specs.Buckets.{bucket_tests}
+use Rattle.shard_buckets.specs.Buckets.{bucket_tests}
 use Rattle.shard_copies.specs.Copying.{IsTestOf}
 
 module _ (column : Name) where

@@ -9,7 +9,7 @@ use Rattle.bloom_ast.specs.HeadOrder.{heads_of}
 use Rattle.bloom_ast.specs.Kinds.{is_input}
 use Rattle.bloom_ast.specs.Query.{Name, Formula}
 use Rattle.row_laws.specs.Shards.{copied_rule}
-use Rattle.shard_copies.specs.Buckets.{bucket_tests}
+use Rattle.shard_buckets.specs.Buckets.{bucket_tests}
 
 -- the module with each port name in a rule's body under a select by the test
 abbrev pub copied_form : Form → Formula → Form

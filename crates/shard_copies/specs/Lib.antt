@@ -1,4 +1,3 @@
-pub mod Buckets
 pub mod Copies
 pub mod Routing
 pub mod Sharding

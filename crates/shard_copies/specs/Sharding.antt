@@ -20,7 +20,7 @@ use Rattle.shard_copies.specs.declared.fault.ShardFault.{ShardFault}
 use Rattle.shard_copies.specs.declared.fault.ShardFault.TheVariants as fault
 use Rattle.shard_copies.specs.declared.sharded.ShardFile.{ShardFile}
 use Rattle.shard_copies.specs.declared.sharded.Sharded.{Sharded}
-use Rattle.shard_copies.specs.Buckets.{bucket_tests}
+use Rattle.shard_buckets.specs.Buckets.{bucket_tests}
 use Rattle.shard_copies.specs.Copies.{copy_of, has_deep_copy, lacks_column}
 use Rattle.shard_copies.specs.Routing.{numbers_to, file_of, sharded_topology, sharded_modules, has_bad_names}
 

@@ -2,7 +2,6 @@
 //! column, in a topology where they stand in its place.
 #![tactic(auto)]
 
-mod buckets;
 mod gates;
 mod routing;
 mod sharding;

@@ -17,12 +17,12 @@ ghost use Rattle.shard_copies.specs.Copies.{lacks_column as lacks};
 ghost use Rattle.shard_copies.specs.Sharding as spec;
 ghost use Rattle.shard_copies.specs.Sharding.{Answers};
 
-use crate::buckets::bucket_tests;
 use crate::gates::lacks_in_gates;
 use crate::routing::sharded_topology;
 use bloom_ast::{Checked, Pred, Program};
 use blz_value::{Items, Str};
 use label_walk::cycle_of;
+use shard_buckets::bucket_tests;
 use shard_copies::{
     ShardFault, ShardFile, Sharded, copies_for, file_of, has_bad_names, lacks_column, numbers_to,
     sharded_modules,

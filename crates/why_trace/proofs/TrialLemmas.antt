@@ -17,9 +17,10 @@ use Rattle.inbox.specs.Wiring.{wiring_of}
 use Rattle.inbox.proofs.Executions.Results.{Ok_same}
 use Rattle.sched_hear.specs.Net.{Stands, BooksRun, execution_in}
 use Rattle.sched_hear.specs.declared.books.Books.{Books}
-use Rattle.sched_run.specs.Applying.{Line, after_lines, steps_of, Applied, AppliesLines}
+use Rattle.sched_run.specs.Making.{Line, steps_of}
+use Rattle.replay_run.specs.Applying.{after_lines, Applied, AppliesLines}
 use Rattle.sched_run.specs.Reading.{IsRead}
-use Rattle.sched_run.specs.declared.applying.EventRefusal.{EventRefusal}
+use Rattle.replay_run.specs.declared.applying.EventRefusal.{EventRefusal}
 use Rattle.why_trace.specs.Trim.{Wanted, has_record, has_at_end, yields}
 use Rattle.why_trace.specs.Code.Trials.{Sought, is_yielded_by, TellsFound}
 

@@ -7,8 +7,9 @@ use Rattle.topo_types.specs.Messages.{is_same_row}
 use Rattle.topo_types.specs.View.{View, stream_replicas}
 use Rattle.inbox.specs.Executions.{Execution, first_execution, contents}
 use Rattle.inbox.specs.Wiring.{wiring_of}
-use Rattle.sched_run.specs.Applying.{Line, after_lines}
-use Rattle.sched_run.specs.declared.applying.EventRefusal.{EventRefusal}
+use Rattle.sched_run.specs.Making.{Line}
+use Rattle.replay_run.specs.Applying.{after_lines}
+use Rattle.replay_run.specs.declared.applying.EventRefusal.{EventRefusal}
 use Rattle.why_trace.specs.Passes.{trim_by}
 
 -- a record that is looked for, with its stream and the sending replica

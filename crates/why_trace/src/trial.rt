@@ -12,7 +12,8 @@ ghost use Rattle.why_trace.specs.Code.Trials.{sought_of, is_yielded_by, TellsFou
 use blz_boxes::Component;
 use blz_value::Record;
 use data_read::Data;
-use sched_run::{EventFault, EventRefusal, Net, OpenFault, apply};
+use replay_run::{EventRefusal, apply};
+use sched_run::{EventFault, Net, OpenFault};
 use sched_text::Event;
 use std::alloc::{AllocError, Global};
 use topo_types::Valid;

@@ -6,8 +6,8 @@ use Rattle.topo_types.specs.View.{View}
 use Rattle.inbox.specs.Events.{Step}
 use Rattle.sched_hear.specs.Net.{BooksStand, execution_in}
 use Rattle.sched_hear.specs.declared.books.Books.{Books}
-use Rattle.sched_run.specs.Applying.{Line}
-use Rattle.sched_run.specs.declared.applying.EventRefusal.{EventRefusal}
+use Rattle.sched_run.specs.Making.{Line}
+use Rattle.replay_run.specs.declared.applying.EventRefusal.{EventRefusal}
 use Rattle.why_trace.specs.Trim as trim
 use Rattle.blazes_words.specs.Words.{WhyWords}
 use Rattle.command_runs.specs.Checks.{event_refusal}

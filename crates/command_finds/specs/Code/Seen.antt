@@ -5,9 +5,10 @@ use Rattle.topo_types.specs.Data.{Data}
 use Rattle.topo_types.specs.View.{View}
 use Rattle.inbox.specs.Executions.{Execution, first_execution}
 use Rattle.sched_hear.specs.declared.books.Books.{Books}
-use Rattle.sched_run.specs.Applying.{Line, after_lines}
+use Rattle.sched_run.specs.Making.{Line}
+use Rattle.replay_run.specs.Applying.{after_lines}
 use Rattle.sched_run.specs.Reading.{IsRead, is_complete}
-use Rattle.sched_run.specs.declared.applying.EventRefusal.{EventRefusal}
+use Rattle.replay_run.specs.declared.applying.EventRefusal.{EventRefusal}
 use Rattle.witness_check.specs.Difference.{difference, snapshot}
 use Rattle.witness_check.specs.declared.difference.Difference.{Difference}
 use Rattle.witness_check.specs.declared.difference.Which.{Which}

@@ -5,7 +5,7 @@ use Rattle.inbox.specs.Events.{Step}
 use Rattle.replay_run.specs.declared.running.StepRefusal.{StepRefusal}
 use Rattle.sched_hear.specs.Net.{BooksStand, execution_in}
 use Rattle.sched_hear.specs.declared.books.Books.{Books}
-use Rattle.sched_run.specs.declared.applying.EventRefusal.{EventRefusal}
+use Rattle.replay_run.specs.declared.applying.EventRefusal.{EventRefusal}
 use Rattle.topo_types.specs.Data.{Data}
 use Rattle.topo_types.specs.View.{View}
 use Rattle.command_files.specs.Ran.{answer_of, IsStopAt}

@@ -4,9 +4,9 @@ use Rattle.topo_types.specs.Data.{Data}
 use Rattle.topo_types.specs.View.{View}
 use Rattle.emitted.specs.declared.fault.EventFault.TheVariants.{NoMemory}
 use Rattle.sched_hear.specs.declared.books.Books.{Books}
-use Rattle.sched_run.specs.Applying.{Line}
+use Rattle.sched_run.specs.Making.{Line}
 use Rattle.sched_run.specs.Reading.{IsRead}
-use Rattle.sched_run.specs.declared.applying.EventRefusal.{EventRefusal}
+use Rattle.replay_run.specs.declared.applying.EventRefusal.{EventRefusal}
 use Rattle.why_trace.specs.declared.trial.Trial.{Trial}
 use Rattle.why_trace.specs.Trim.{Wanted, wanted, has_record, yields}
 

@@ -1,6 +1,6 @@
 use Rattle.std.proofs.Common.{List, ◌∙◌, ap, subst, sym}
 use Rattle.std.specs.List.{AllPass}
-use Rattle.sched_run.specs.Applying.{Line}
+use Rattle.sched_run.specs.Making.{Line}
 use Rattle.sched_text.specs.Text.{is_printable}
 use Rattle.command_files.specs.Reply.{Answer}
 use Rattle.command_files.specs.Script.{Bytes}

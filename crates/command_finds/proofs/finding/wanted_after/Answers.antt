@@ -1,7 +1,7 @@
 use Rattle.std.proofs.Common.{[], ap, map, subst, sym, ◌∙◌}
 use Rattle.inbox.specs.Executions.{first_execution}
 use Rattle.sched_hear.specs.Net.{Stands}
-use Rattle.sched_run.specs.Applying.{after_lines}
+use Rattle.replay_run.specs.Applying.{after_lines}
 use Rattle.topo_types.specs.Valid.{Validated}
 use Rattle.topo_types.specs.View.{View}
 use Rattle.blazes_words.specs.Requests.{why_shown}

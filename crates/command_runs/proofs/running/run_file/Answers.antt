@@ -1,7 +1,7 @@
 -- A schedule stops the run, or its lines are run.
 use Rattle.std.proofs.Common.{List, map, subst}
 use Rattle.std.proofs.lemmas.List.Sorted.{IsPermutation-refl}
-use Rattle.sched_run.specs.Applying.{Line}
+use Rattle.sched_run.specs.Making.{Line}
 use Rattle.command_files.specs.Ends.{files_states, source}
 use Rattle.command_runs.specs.Bench.{bench_states}
 use Rattle.command_runs.specs.Checks as check

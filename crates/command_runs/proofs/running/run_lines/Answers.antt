@@ -3,7 +3,7 @@ use Rattle.sched_hear.specs.Net.{Stands}
 use Rattle.topo_types.specs.Valid.{Validated}
 use Rattle.topo_types.specs.View.{View}
 use Rattle.inbox.specs.Executions.{first_execution}
-use Rattle.sched_run.specs.Applying.{after_lines}
+use Rattle.replay_run.specs.Applying.{after_lines}
 use Rattle.command_files.specs.Script.{Script, ◌>>=◌}
 use Rattle.command_runs.specs.Bench.{bench_states}
 use Rattle.command_runs.specs.Checks as check

@@ -1,7 +1,7 @@
 use Rattle.std.proofs.Common.{◌∙◌, ◌++◌, ap, map, refl, take}
 use Rattle.replay_run.specs.Steps.{steps_in}
 use Rattle.sched_hear.specs.Net.{execution_in}
-use Rattle.sched_run.proofs.ApplyingLemmas.{runs_on}
+use Rattle.replay_run.proofs.ApplyingLemmas.{runs_on}
 use Rattle.replay_run.proofs.StepsLemmas.{none_applied, all_applied, line_applied, line_stops}
 use Rattle.replay_run.proofs.running.run.Goals as goal
 

@@ -1,7 +1,7 @@
 use Rattle.std.proofs.Common.{◌≡◌, ◌++◌, map, drop}
 use Rattle.bloom_ast.specs.Form.{formula_of}
 use Rattle.row_laws.specs.Shards.{buckets, buckets_from}
-use Rattle.shard_route.proofs.buckets.tests_from.Given as goal
+use Rattle.shard_buckets.proofs.buckets.tests_from.Given as goal
 
 abbrev pub invariant-loop-next : goal.invariant-loop-next
 invariant-loop-next l = map formula_of l.tests.items ++ buckets_from l.column l.bound (drop l.next-index l.bounds) ≡ buckets l.column l.first l.bounds

@@ -15,25 +15,26 @@ use Rattle.inbox.specs.Wiring.{wiring_of}
 use Rattle.inbox.proofs.Executions.Appending.{legal_more}
 use Rattle.inbox.proofs.Executions.Results.{Ok_same}
 use Rattle.sched_hear.specs.Answers.{Answers, answer_to, fault_of, fault_at}
-use Rattle.sched_run.specs.Applying.{Line, within, made_by, in_line, after_line, after_lines, steps_of, Reaches, Applied}
+use Rattle.sched_run.specs.Making.{Line, steps_of}
+use Rattle.replay_run.specs.Applying.{within, made_by, in_line, after_line, after_lines, Reaches, Applied}
 use Rattle.sched_lists.specs.Limits.{Limit, limit_of_event}
 use Rattle.sched_hear.specs.Net.{Stands, Runs, EventAnswers, EventLeaves, execution_in}
 use Rattle.sched_hear.specs.Numbered.{numbered}
-use Rattle.sched_run.specs.declared.applying.EventRefusal.{EventRefusal}
+use Rattle.replay_run.specs.declared.applying.EventRefusal.{EventRefusal}
 use Rattle.sched_hear.specs.declared.books.Books.{Books}
 use Rattle.emitted.specs.declared.fault.EventFault.{EventFault}
 use Rattle.emitted.specs.declared.fault.EventFault.TheVariants.{NoMemory}
 
 -- ---- one answer
 
--- an event that is done was legal, and met no limit
-done_made : (after : Result Execution Refusal) (limit : Option Limit) → Answers after limit (Ok tt) → (y : Execution) × (after ≡ Ok y) × (made_by after limit ≡ Ok y)
+-- what is done was legal, and met no limit
+pub done_made : (after : Result Execution Refusal) (limit : Option Limit) → Answers after limit (Ok tt) → (y : Execution) × (after ≡ Ok y) × (made_by after limit ≡ Ok y)
 done_made (Ok y) None answers = (y, refl, refl)
 done_made (Ok y) (Some limit) answers = let is : Ok tt ≡ Err (fault_at limit) = answers (λ bad. cc) in cc
 done_made (Err refusal) limit answers = let is : Ok tt ≡ Err (fault_of refusal) = answers (λ bad. cc) in cc
 
--- a fault is that of the event, unless memory ran out
-fault_made : (after : Result Execution Refusal) (limit : Option Limit) (fault : EventFault) → Answers after limit (Err fault) → fault ≢ NoMemory → made_by after limit ≡ Err fault
+-- a fault is that of the step, unless memory ran out
+pub fault_made : (after : Result Execution Refusal) (limit : Option Limit) (fault : EventFault) → Answers after limit (Err fault) → fault ≢ NoMemory → made_by after limit ≡ Err fault
 fault_made after limit fault answers other = from after limit (answers (λ is. other (cc)))
   where
     from : (after : Result Execution Refusal) (limit : Option Limit) → Err fault ≡ answer_to after limit → made_by after limit ≡ Err fault
@@ -44,7 +45,7 @@ fault_made after limit fault answers other = from after limit (answers (λ is. o
 -- ---- one line
 
 -- the steps of one line more
-pub steps_more : (v : View) (steps : List Step) (lines : List Line) (i : ℕ) (line : Line) → i < length lines → line ≡ get_or lines i line
+steps_more : (v : View) (steps : List Step) (lines : List Line) (i : ℕ) (line : Line) → i < length lines → line ≡ get_or lines i line
     → (steps ++ steps_of v (take i lines)) ++ event (numbered v line.1) ∷ [] ≡ steps ++ steps_of v (take (i + 1) lines)
 steps_more v steps lines i line within at =
     append_assoc steps (steps_of v (take i lines)) (event (numbered v line.1) ∷ [])
@@ -53,7 +54,7 @@ steps_more v steps lines i line within at =
     ∙ map-append (λ (l : Line). event (numbered v l.1)) (take i lines) (line ∷ [])))
 
 -- what it makes of an execution
-pub lines_more : (v : View) (given : Data) (lines : List Line) (i : ℕ) (line : Line) (x : Execution) → i < length lines → line ≡ get_or lines i line
+lines_more : (v : View) (given : Data) (lines : List Line) (i : ℕ) (line : Line) (x : Execution) → i < length lines → line ≡ get_or lines i line
     → after_lines v given (take (i + 1) lines) x ≡ result_and_then (after_lines v given (take i lines) x) (after_line v given line)
 lines_more v given lines i line x within at =
     ap (λ (some : List Line). after_lines v given some x) (take_more lines i line within ∙ ap (λ (l : Line). take i lines ++ l ∷ []) (sym at))
@@ -66,7 +67,7 @@ refused_on v given (l ∷ later) refusal = refused_on v given later refusal
 
 module _ (v : View) (given : Data) (steps : List Step) (loaded : List (Option Program)) (tables next : List Sets) (old new : Books) (after : Result Execution EventRefusal) (line : Line) where
   -- an event that is done is one step more
-  pub reaches_more : (r : Reaches v given steps loaded tables old after)
+  reaches_more : (r : Reaches v given steps loaded tables old after)
       → Answers (after_event (wiring_of v) given (numbered v line.1) (execution_in r.stands.books)) (limit_of_event (wiring_of v) given (numbered v line.1) (execution_in r.stands.books)) (Ok tt)
       → Stands v given (steps ++ event (numbered v line.1) ∷ []) loaded next new
       → Reaches v given (steps ++ event (numbered v line.1) ∷ []) loaded next new (result_and_then after (after_line v given line))
@@ -85,7 +86,7 @@ module _ (v : View) (given : Data) (steps : List Step) (loaded : List (Option Pr
       }
 
   -- an event that is refused is so in its line
-  pub line_refused : (r : Reaches v given steps loaded tables old after) (fault : EventFault)
+  line_refused : (r : Reaches v given steps loaded tables old after) (fault : EventFault)
       → Answers (after_event (wiring_of v) given (numbered v line.1) (execution_in r.stands.books)) (limit_of_event (wiring_of v) given (numbered v line.1) (execution_in r.stands.books)) (Err fault)
       → fault ≢ NoMemory → result_and_then after (after_line v given line) ≡ Err (record { line = line.0; fault = fault })
   line_refused r fault answers other =
@@ -97,7 +98,7 @@ module _ (v : View) (given : Data) (steps : List Step) (loaded : List (Option Pr
 -- ---- all lines
 
 -- a line that is refused among others
-pub all_refused : (v : View) (given : Data) (lines : List Line) (i : ℕ) (line : Line) (x : Execution) (refusal : EventRefusal) → i < length lines → line ≡ get_or lines i line
+all_refused : (v : View) (given : Data) (lines : List Line) (i : ℕ) (line : Line) (x : Execution) (refusal : EventRefusal) → i < length lines → line ≡ get_or lines i line
     → result_and_then (after_lines v given (take i lines) x) (after_line v given line) ≡ Err refusal → after_lines v given lines x ≡ Err refusal
 all_refused v given lines i line x refusal within at refused =
     let whole : lines ≡ take (i + 1) lines ++ drop (i + 1) lines = sym (take-append-drop (i + 1) lines) in

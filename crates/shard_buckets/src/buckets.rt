@@ -5,7 +5,7 @@ ghost use Rattle.row_laws.specs.Shards.{below_bound, buckets, from_bound};
 ghost use Rattle.bloom_ast.specs.Query.Formula.{both, compare};
 ghost use Rattle.bloom_ast.specs.declared.expr.Term.TheVariants.{Column, Literal};
 ghost use Rattle.blz_value.specs.declared.value.Value.TheVariants.{Int};
-ghost use Rattle.shard_copies.specs.Buckets as spec;
+ghost use Rattle.shard_buckets.specs.Buckets as spec;
 
 use bloom_ast::{Pred, Term};
 use blz_value::{Op, Str, Value};
@@ -64,11 +64,7 @@ fn tests_from(
 
 /// The tests of the buckets in order: below the first bound, from each up to the next, and from the
 /// last on.
-pub(crate) fn bucket_tests(
-    alloc: Global,
-    column: &Str,
-    bounds: &[i64],
-) -> Result<Vec<Pred>, AllocError>
+pub fn bucket_tests(alloc: Global, column: &Str, bounds: &[i64]) -> Result<Vec<Pred>, AllocError>
     ensures { IfOk result (λ tests. map formula_of tests.items ≡ spec.bucket_tests column.now bounds.now) }
 {
     match bounds {

@@ -2,9 +2,10 @@
 use Rattle.std.proofs.Common.{◌≡◌, ◌++◌, List, map, take}
 use Rattle.topo_types.specs.Data.{Data}
 use Rattle.inbox.specs.Events.{Step}
-use Rattle.sched_run.specs.Applying.{Reaches, after_lines, steps_of}
+use Rattle.sched_run.specs.Making.{steps_of}
+use Rattle.replay_run.specs.Applying.{Reaches, after_lines}
 use Rattle.sched_hear.specs.Net.{Stands, execution_in}
-use Rattle.sched_run.proofs.applying.apply.Given as goal
+use Rattle.replay_run.proofs.applying.apply.Given as goal
 
 abbrev pub invariant-loop-line : goal.invariant-loop-line
 invariant-loop-line g l = record {

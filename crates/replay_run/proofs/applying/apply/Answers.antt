@@ -1,8 +1,8 @@
 use Rattle.std.proofs.Common.{◌∙◌, ◌++◌, ap, map, refl, take}
-use Rattle.sched_run.specs.Applying.{steps_of}
+use Rattle.sched_run.specs.Making.{steps_of}
 use Rattle.sched_hear.specs.Net.{execution_in}
-use Rattle.sched_run.proofs.ApplyingLemmas.{none_applied, runs_on, all_applied, line_applied, line_stops}
-use Rattle.sched_run.proofs.applying.apply.Goals as goal
+use Rattle.replay_run.proofs.ApplyingLemmas.{none_applied, runs_on, all_applied, line_applied, line_stops}
+use Rattle.replay_run.proofs.applying.apply.Goals as goal
 
 pub event-requires : goal.event-requires
 event-requires g c =

@@ -1,5 +1,5 @@
 -- The events of a schedule are applied in order, up to the first that is refused, which is named by its line.
-use Rattle.std.specs.Prelude.{◌≡◌, ◌≢◌, ◌++◌, ℕ, Option, None, Some, Result, Ok, Err, List, map, take, slice_get}
+use Rattle.std.specs.Prelude.{◌≡◌, ◌≢◌, ◌++◌, ℕ, Option, None, Some, Result, Ok, Err, List, take, slice_get}
 use Rattle.std.specs.List.{fold}
 use Rattle.bloom_ast.specs.declared.program.Program.{Program}
 use Rattle.bloom_ast.specs.Step.{Sets}
@@ -13,14 +13,11 @@ use Rattle.sched_hear.specs.Answers.{fault_of, fault_at}
 use Rattle.sched_lists.specs.Limits.{Limit, limit_of_event}
 use Rattle.sched_hear.specs.Net.{Stands, Leaves, execution_in}
 use Rattle.sched_hear.specs.Numbered.{numbered}
-use Rattle.sched_run.specs.declared.applying.EventRefusal.{EventRefusal}
+use Rattle.sched_run.specs.Making.{Line, steps_of}
+use Rattle.replay_run.specs.declared.applying.EventRefusal.{EventRefusal}
 use Rattle.sched_hear.specs.declared.books.Books.{Books}
 use Rattle.emitted.specs.declared.fault.EventFault.{EventFault}
 use Rattle.emitted.specs.declared.fault.EventFault.TheVariants.{NoMemory}
-
--- a line of a schedule: its number and its event
-abbrev pub Line : Type 0
-Line = ℕ × Event
 
 -- ---- what a schedule makes of an execution
 
@@ -48,10 +45,6 @@ abbrev pub after_lines : View → Data → List Line → Execution → Result Ex
 after_lines v given lines x = fold (λ result line. result_and_then result (after_line v given line)) (Ok x) lines
 
 -- ---- what they make of a net
-
--- the steps of some lines
-abbrev pub steps_of : View → List Line → List Step
-steps_of v lines = map (λ line. event (numbered v line.1)) lines
 
 -- the net stands for these steps, and their execution is this
 pub record Reaches (v : View) (given : Data) (steps : List Step) (loaded : List (Option Program)) (tables : List Sets) (b : Books) (after : Result Execution EventRefusal) : Type 0 where

@@ -8,8 +8,8 @@ use Rattle.blz_value.specs.Record.{Row}
 use Rattle.blz_value.proofs.Membership.{Has-from_filter}
 use Rattle.indexmap.specs.IndexSet.{insert_key}
 use Rattle.topo_types.specs.Messages.{is_same_row, distinct_rows}
-use Rattle.data_read.specs.Broken.{same}
-use Rattle.data_read.proofs.EarliestLemmas.{same-is, same-sym}
+use Rattle.source_deps.specs.Broken.{same}
+use Rattle.source_deps.proofs.EarliestLemmas.{same-is, same-sym}
 
 -- a record stands in a list
 abbrev pub is_among : List Row → Row → Bool

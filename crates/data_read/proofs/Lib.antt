@@ -1,5 +1,4 @@
 pub mod Front
-pub mod Loops
 pub mod RowLemmas
 pub mod ListsLemmas
 pub mod KeysLemmas
@@ -8,9 +7,6 @@ pub mod TextWeight
 pub mod KeyOfSource
 pub mod DistinctLemmas
 pub mod CountingLemmas
-pub mod EarliestLemmas
-pub mod SidesLemmas
-pub mod PairLemmas
 pub mod MakingLemmas
 pub mod FormLemmas
 pub mod HoldingLemmas

@@ -1,4 +1,3 @@
 -- What the private functions give.
 pub mod Weight
-pub mod Earliest
 pub mod Pairs

@@ -1,18 +1,29 @@
 -- The data that lists of rows and parts make, or their first fault.
-use Rattle.std.specs.Prelude.{List, map, Result, Ok}
+use Rattle.std.specs.Prelude.{List, map, Option, Some, None, Result, Ok, Err}
 use Rattle.std.specs.List.{zip}
 use Rattle.blz_value.specs.Record.{Row}
+use Rattle.source_deps.specs.declared.dependencies.BrokenFd.{BrokenFd}
+use Rattle.source_deps.specs.Broken.{first_broken}
 use Rattle.topo_types.specs.Data.{Data, SourceData}
 use Rattle.topo_types.specs.Messages.{distinct_rows}
 use Rattle.topo_types.specs.View.{View}
 use Rattle.data_read.specs.declared.fault.DataFault.{DataFault}
+use Rattle.data_read.specs.declared.fault.DataFault.TheVariants.{FdBroken}
 use Rattle.data_read.specs.Steps.{◌>>=◌}
 use Rattle.data_read.specs.Counting.{counted}
-use Rattle.data_read.specs.Broken.{upheld}
 
 -- each record and each part once, where it first stands
 abbrev pub distinct_lists : SourceData → SourceData
 distinct_lists d = record { rows = distinct_rows d.rows; parts = distinct_rows d.parts }
+
+-- FdBroken for this dependency, where there is one
+abbrev pub unbroken : Option BrokenFd → Result (Unit {0}) DataFault
+unbroken None = Ok tt
+unbroken (Some broken) = Err (FdBroken broken.fd broken.first broken.second)
+
+-- no dependency is broken
+abbrev pub upheld : View → Data → Result (Unit {0}) DataFault
+upheld v d = unbroken (first_broken v d)
 
 -- repeats count towards the limit, and are one record afterwards
 unfoldable pub data_from : View → List SourceData → Result Data DataFault

@@ -4,14 +4,14 @@ ghost use Rattle.data_read.specs.Counting as spec;
 ghost use Rattle.data_read.specs.Gives.{Gives};
 ghost use Rattle.topo_types.specs.View as view;
 
-use crate::data::Lists;
 use crate::fault::{DataFault, too_many};
+use source_deps::SourceLists;
 use topo_types::Valid;
 
 pub(crate) const MAX_ROWS: usize = 65_536;
 
 // The source with which rows and parts pass the limit.
-fn passed_at(sources: &[Lists]) -> Option<usize>
+fn passed_at(sources: &[SourceLists]) -> Option<usize>
     ensures place { result ≡ spec.passed_at 0 0 sources.now }
     ensures within { IfSome result (λ source. source < length sources.now) }
 {
@@ -28,7 +28,7 @@ fn passed_at(sources: &[Lists]) -> Option<usize>
 }
 
 /// TooMany where rows and parts pass 65,536, repeats included, with the source at which they do.
-pub(crate) fn counted(valid: &Valid, sources: &[Lists]) -> Result<(), DataFault>
+pub(crate) fn counted(valid: &Valid, sources: &[SourceLists]) -> Result<(), DataFault>
     requires { length sources.now ≤ length valid.now.view.streams }
     ensures count { Gives (λ _. tt) result (spec.counted valid.now.view sources.now) }
     ensures few { OnOk result (spec.AreFew sources.now) }

@@ -4,29 +4,15 @@ ghost use Rattle.data_read.specs.Counting.{AreFew};
 ghost use Rattle.topo_types.specs.Data.{source_data};
 
 use blz_value::Record;
+use source_deps::SourceLists;
 use std::alloc::{AllocError, Global};
 use std::marker::Model;
 
-/// What one source holds: its records and its declared partitions, both in file order.
-#[derive(Debug, Drop)]
-pub(crate) struct Lists {
-    pub(crate) rows: Vec<Record>,
-    pub(crate) parts: Vec<Record>,
-}
-
-impl Model for Lists {
-    ghost use Rattle.topo_types.specs.Data.{SourceData};
-
-    ghost Value = { SourceData };
-
-    ghost view = { λ lists. record { rows = lists.rows.items; parts = lists.parts.items } };
-}
-
 /// What the sources of a topology hold: of each its distinct records and its distinct declared
 /// partitions, both in file order. They are at most 65,536 together.
-#[derive(Debug, Drop)]
+#[derive(Drop)]
 pub struct Data {
-    sources: Vec<Lists>,
+    sources: Vec<SourceLists>,
 }
 
 impl Model for Data {
@@ -43,7 +29,7 @@ impl Model for Data {
 
 impl Data {
     /// The data of these sources.
-    pub(crate) fn new(sources: Vec<Lists>) -> Data
+    pub(crate) fn new(sources: Vec<SourceLists>) -> Data
         requires { AreFew sources.items }
         ensures { result ≡ sources.items }
     {
@@ -79,23 +65,21 @@ impl Data {
     {
         let mut sources = Vec::new(*self.sources.allocator());
         for lists in &self.sources {
-            sources.push(lists.copy()?)?;
+            sources.push(lists_copy(lists)?)?;
         }
         Ok(Data { sources })
     }
 }
 
-impl Lists {
-    // Equal lists of their own.
-    fn copy(&self) -> Result<Lists, AllocError>
-        ensures { IfOk result (λ lists. lists ≡ self.now) }
-    {
-        let alloc = *self.rows.allocator();
-        Ok(Lists {
-            rows: copies(alloc, &self.rows)?,
-            parts: copies(alloc, &self.parts)?,
-        })
-    }
+// Equal lists of their own.
+fn lists_copy(lists: &SourceLists) -> Result<SourceLists, AllocError>
+    ensures { IfOk result (λ same. same ≡ lists.now) }
+{
+    let alloc = *lists.rows.allocator();
+    Ok(SourceLists {
+        rows: copies(alloc, &lists.rows)?,
+        parts: copies(alloc, &lists.parts)?,
+    })
 }
 
 fn copies(alloc: Global, records: &[Record]) -> Result<Vec<Record>, AllocError>

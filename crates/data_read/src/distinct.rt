@@ -3,9 +3,9 @@ ghost use Rattle.std.specs.Prelude.{◌≡◌, IfOk, map};
 ghost use Rattle.topo_types.specs.Messages.{distinct_rows};
 ghost use Rattle.data_read.specs.Making.{distinct_lists};
 
-use crate::data::Lists;
 use blz_value::Record;
 use indexmap::IndexSet;
+use source_deps::SourceLists;
 use std::alloc::{AllocError, Global};
 use std::hash::{BuildHasherDefault, DefaultHasher};
 
@@ -38,17 +38,20 @@ fn distinct_rows(alloc: Global, rows: Vec<Record>) -> Result<Vec<Record>, AllocE
     Ok(distinct)
 }
 
-fn distinct_lists(alloc: Global, lists: Lists) -> Result<Lists, AllocError>
+fn distinct_lists(alloc: Global, lists: SourceLists) -> Result<SourceLists, AllocError>
     ensures { IfOk result (λ distinct. distinct ≡ distinct_lists lists) }
 {
-    Ok(Lists {
+    Ok(SourceLists {
         rows: distinct_rows(alloc, lists.rows)?,
         parts: distinct_rows(alloc, lists.parts)?,
     })
 }
 
 /// Of each source its distinct records and parts.
-pub(crate) fn all_distinct(alloc: Global, sources: Vec<Lists>) -> Result<Vec<Lists>, AllocError>
+pub(crate) fn all_distinct(
+    alloc: Global,
+    sources: Vec<SourceLists>,
+) -> Result<Vec<SourceLists>, AllocError>
     ensures { IfOk result (λ distinct. distinct.items ≡ map distinct_lists sources.items) }
 {
     let mut distinct = Vec::new(alloc);

@@ -11,13 +11,13 @@ ghost use Rattle.data_read.specs.Gives.{Gives, IsFault};
 ghost use Rattle.data_read.specs.Keys as keys;
 ghost use Rattle.data_read.specs.Values as values;
 
-use crate::data::Lists;
 use crate::fault::{DataFault, ValueFault, break_at};
 use crate::keys::{has_only, unknown_key};
 use crate::shape::Shape;
 use crate::values::record_in;
 use blz_value::{Record, Str};
 use serde_json::{Map, Value as Json};
+use source_deps::SourceLists;
 use std::alloc::{AllocError, Global};
 use topo_types::ColumnType;
 
@@ -128,7 +128,7 @@ fn first_part(rows: &[Json]) -> usize
 }
 
 #[tactic(auto, unfolding(crate::specs::Form::lists_in))]
-fn lists_in(alloc: Global, shape: &Shape, value: &Json) -> Result<Lists, DataFault>
+fn lists_in(alloc: Global, shape: &Shape, value: &Json) -> Result<SourceLists, DataFault>
     requires { weight (view value.now) ≤ 2 ^ 32 }
     ensures { Gives (λ lists. lists) result (spec.lists_in shape.now (view value.now)) }
 {
@@ -138,16 +138,16 @@ fn lists_in(alloc: Global, shape: &Shape, value: &Json) -> Result<Lists, DataFau
     let after = first_part(rows);
     let rows = records_in(alloc, shape.types.as_slice(), &shape.name, 1, rows)?;
     let parts = records_in(alloc, shape.key.as_slice(), &shape.name, after, parts)?;
-    Ok(Lists { rows, parts })
+    Ok(SourceLists { rows, parts })
 }
 
-fn source_in(alloc: Global, shape: &Shape, value: Option<&Json>) -> Result<Lists, DataFault>
+fn source_in(alloc: Global, shape: &Shape, value: Option<&Json>) -> Result<SourceLists, DataFault>
     requires { weight_or_none (option_map (λ x. view x.now) value) ≤ 2 ^ 32 }
     ensures { Gives (λ lists. lists) result (spec.source_in shape.now (option_map (λ x. view x.now) value.entry)) }
 {
     match value {
         Some(value) => lists_in(alloc, shape, value),
-        None => Ok(Lists {
+        None => Ok(SourceLists {
             rows: Vec::new(alloc),
             parts: Vec::new(alloc),
         }),
@@ -155,14 +155,14 @@ fn source_in(alloc: Global, shape: &Shape, value: Option<&Json>) -> Result<Lists
 }
 
 #[tactic(auto, using(crate::proofs::WeightLemmas::get_within))]
-fn named_in(alloc: Global, shape: &Shape, top: &Json) -> Result<Lists, DataFault>
+fn named_in(alloc: Global, shape: &Shape, top: &Json) -> Result<SourceLists, DataFault>
     requires { weight (view top.now) ≤ 2 ^ 32 }
     ensures { Gives (λ lists. lists) result (spec.source_in shape.now (get shape.now.name (view top.now))) }
 {
     source_in(alloc, shape, top.get(shape.name.as_str()))
 }
 
-fn sources_in(alloc: Global, shapes: &[Shape], top: &Json) -> Result<Vec<Lists>, DataFault>
+fn sources_in(alloc: Global, shapes: &[Shape], top: &Json) -> Result<Vec<SourceLists>, DataFault>
     requires { weight (view top.now) ≤ 2 ^ 32 }
     ensures { Gives (λ sources. sources.items) result (spec.sources_in shapes.now (view top.now)) }
 {
@@ -213,7 +213,11 @@ fn no_other(alloc: Global, shapes: &[Shape], object: &Map<String, Json>) -> Resu
 
 /// The rows and the parts of each source; each name in the value is that of a source.
 #[tactic(auto, unfolding(crate::specs::Form::form_of))]
-pub(crate) fn form_of(alloc: Global, shapes: &[Shape], top: &Json) -> Result<Vec<Lists>, DataFault>
+pub(crate) fn form_of(
+    alloc: Global,
+    shapes: &[Shape],
+    top: &Json,
+) -> Result<Vec<SourceLists>, DataFault>
     requires { weight (view top.now) ≤ 2 ^ 32 }
     ensures { Gives (λ sources. sources.items) result (spec.form_of shapes.now (view top.now)) }
 {

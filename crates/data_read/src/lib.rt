@@ -1,10 +1,8 @@
 //! Reads the records of a topology's sources from the JSON text of a file.
 #![tactic(auto)]
 
-mod columns;
 mod counting;
 mod data;
-mod dependencies;
 mod distinct;
 mod entries;
 mod fault;
@@ -12,7 +10,6 @@ mod keys;
 mod making;
 mod reading;
 mod shape;
-mod sides;
 mod values;
 
 pub use data::Data;

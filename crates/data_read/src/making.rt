@@ -1,23 +1,38 @@
 //! Data made of lists of rows and parts.
-ghost use Rattle.std.specs.Prelude.{◌≡◌, IfOk, length, map};
+ghost use Rattle.std.specs.Prelude.{◌≡◌, ◌≤◌, IfOk, length, map};
 ghost use Rattle.std.specs.List.{zip};
 ghost use Rattle.data_read.specs.Code.Pairs.{source_in};
 ghost use Rattle.data_read.specs.Gives.{Gives};
-ghost use Rattle.data_read.specs.Making.{data_from, sources_of};
+ghost use Rattle.data_read.specs.Making.{data_from, sources_of, upheld};
 ghost use Rattle.topo_types.specs.Data.{IsData, Holds};
 ghost use Rattle.topo_types.specs.View.{source_count};
 
 use crate::counting::counted;
-use crate::data::{Data, Lists};
-use crate::dependencies::upheld;
+use crate::data::Data;
 use crate::distinct::all_distinct;
 use crate::fault::DataFault;
 use blz_value::Record;
+use source_deps::{SourceLists, first_broken};
 use std::alloc::{AllocError, Global};
 use topo_types::Valid;
 
+// FdBroken for the first dependency that is broken.
+fn upheld(alloc: Global, valid: &Valid, sources: &[SourceLists]) -> Result<(), DataFault>
+    requires { length sources.now ≤ length valid.now.view.streams }
+    ensures { Gives (λ _. tt) result (upheld valid.now.view sources.now) }
+{
+    match first_broken(alloc, valid, sources)? {
+        Some(broken) => Err(DataFault::FdBroken {
+            fd: broken.fd,
+            first: broken.first,
+            second: broken.second,
+        }),
+        None => Ok(()),
+    }
+}
+
 #[tactic(auto, unfolding(crate::specs::Making::data_from), using(crate::proofs::MakingLemmas::few_lists, crate::proofs::MakingLemmas::few_distinct, crate::proofs::CountingLemmas::few_once))]
-fn made_of(alloc: Global, valid: &Valid, sources: Vec<Lists>) -> Result<Data, DataFault>
+fn made_of(alloc: Global, valid: &Valid, sources: Vec<SourceLists>) -> Result<Data, DataFault>
     requires { IsData valid.now.view sources.items }
     ensures { Gives (λ d. d) result (data_from valid.now.view sources.items) }
 {
@@ -31,7 +46,7 @@ fn made_of(alloc: Global, valid: &Valid, sources: Vec<Lists>) -> Result<Data, Da
 pub(crate) fn data_from(
     alloc: Global,
     valid: &Valid,
-    sources: Vec<Lists>,
+    sources: Vec<SourceLists>,
 ) -> Result<Data, DataFault>
     requires { IsData valid.now.view sources.items }
     ensures making { Gives (λ d. d) result (data_from valid.now.view sources.items) }
@@ -45,14 +60,14 @@ fn side_by_side(
     alloc: Global,
     rows: Vec<Vec<Record>>,
     parts: Vec<Vec<Record>>,
-) -> Result<Vec<Lists>, AllocError>
+) -> Result<Vec<SourceLists>, AllocError>
     ensures { IfOk result (λ sources. sources.items ≡ map source_in (zip rows.items parts.items)) }
 {
     let mut others = parts.into_iter();
     let mut sources = Vec::new(alloc);
     for rows in rows {
         match others.next() {
-            Some(parts) => sources.push(Lists { rows, parts })?,
+            Some(parts) => sources.push(SourceLists { rows, parts })?,
             None => return Ok(sources),
         }
     }
@@ -65,7 +80,7 @@ fn sources_of(
     alloc: Global,
     rows: Vec<Vec<Record>>,
     parts: Vec<Vec<Record>>,
-) -> Result<Vec<Lists>, AllocError>
+) -> Result<Vec<SourceLists>, AllocError>
     ensures { IfOk result (λ sources. sources.items ≡ sources_of (map (λ r. r.items) rows.items) (map (λ p. p.items) parts.items)) }
 {
     side_by_side(alloc, rows, parts)

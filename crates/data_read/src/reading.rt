@@ -8,12 +8,13 @@ ghost use Rattle.data_read.specs.Shape.{shapes_of};
 ghost use Rattle.serde_json.specs.View.{view};
 ghost use Rattle.topo_types.specs.Data.{IsData, Holds};
 
-use crate::data::{Data, Lists};
+use crate::data::Data;
 use crate::entries::form_of;
 use crate::fault::DataFault;
 use crate::making::data_from;
 use crate::shape::shapes_of;
 use serde_json::Value as Json;
+use source_deps::SourceLists;
 use std::alloc::Global;
 use topo_types::Valid;
 
@@ -40,7 +41,7 @@ fn small_value(alloc: Global, text: &[u8]) -> Result<Json, DataFault>
     value_of(alloc, text)
 }
 
-fn sources_of(alloc: Global, valid: &Valid, top: &Json) -> Result<Vec<Lists>, DataFault>
+fn sources_of(alloc: Global, valid: &Valid, top: &Json) -> Result<Vec<SourceLists>, DataFault>
     requires { weight (view top.now) ≤ 2 ^ 32 }
     ensures { Gives (λ sources. sources.items) result (form_of (shapes_of valid.now) (view top.now)) }
 {
@@ -49,7 +50,7 @@ fn sources_of(alloc: Global, valid: &Valid, top: &Json) -> Result<Vec<Lists>, Da
 }
 
 // The rows and parts of each source, which are as wide as it is.
-fn wide_sources(alloc: Global, valid: &Valid, top: &Json) -> Result<Vec<Lists>, DataFault>
+fn wide_sources(alloc: Global, valid: &Valid, top: &Json) -> Result<Vec<SourceLists>, DataFault>
     requires { weight (view top.now) ≤ 2 ^ 32 }
     ensures form { Gives (λ sources. sources.items) result (form_of (shapes_of valid.now) (view top.now)) }
     ensures fits { IfOk result (λ sources. IsData valid.now.view sources.items) }

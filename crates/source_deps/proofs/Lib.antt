@@ -1,0 +1,5 @@
+pub mod Loops
+pub mod EarliestLemmas
+pub mod SidesLemmas
+pub mod PairLemmas
+pub mod BrokenLemmas

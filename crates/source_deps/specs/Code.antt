@@ -1,0 +1,2 @@
+-- What the private functions give.
+pub mod Earliest

@@ -1,0 +1,11 @@
+//! Whether the records of all sources hold the dependencies.
+#![tactic(auto)]
+
+mod columns;
+mod dependencies;
+mod lists;
+mod sides;
+
+pub use columns::{columns_of, places_of};
+pub use dependencies::{BrokenFd, first_broken};
+pub use lists::SourceLists;

@@ -1,3 +1,4 @@
+pub mod Putting
 pub mod Turning
 pub mod GroupTurns
 pub mod JoinTurns

@@ -7,7 +7,7 @@ ghost use Rattle.bloom_index.specs.Code.Growth.{grows_at};
 ghost use Rattle.bloom_index.specs.Code.HeadRules.{AreReady, HasOldHead, GrowsHead, MakesHead, IsAloneAt};
 ghost use Rattle.bloom_index.specs.Code.Heads.{HasOldRows, GrowsBy, KeepsRows, AddsBody, is_running, EvaluatesNew};
 
-use crate::change::Change;
+use crate::change::{Change, Rows};
 use crate::evaluate::{evaluate, evaluate_group};
 use crate::memo::Memo;
 use bloom_ast::NumberedRule;
@@ -41,7 +41,7 @@ fn grow_by(
 {
     let change = evaluate(alloc, &rule.body, &mut memo.memo, held)?;
     let new = rows.take(alloc, change.rows.as_set())?;
-    fresh.union_in(&new)?;
+    Rows::Own(new).put_into(fresh)?;
     Ok(())
 }
 
@@ -85,10 +85,10 @@ fn add_rule(
     if change.fresh {
         let _ = memo.rows.take(alloc, change.rows.as_set())?;
         let all = memo.rows.to_set(alloc)?;
-        set.union_in(&all)?;
+        Rows::Own(all).put_into(set)?;
         Ok(())
     } else {
-        set.union_in(change.rows.as_set())?;
+        change.rows.put_into(set)?;
         Ok(())
     }
 }

@@ -20,10 +20,10 @@ returns-in_err-new-clause-grows c = λ ready start has e.
     let whole = gets change.fresh (numbered_rows ready.old body) (numbered_rows ready.new body) (rows_in change.rows) c.as_set.result.now rows answers.0.1.rows (λ f. has (sym answers.0.0 ∙ f)) c.as_set.ensures.rows in
     head_over body c.args.memo.now.memo _ c.args.held.now ready start rows _ _ c.from_residual-in_err-new.result c.in_err-new.field-0.0 c.from_residual-in_err-new.ensures.1 c.as_set.result.now c.take.new.self whole c.in_err-new.ensures
 
-pub returns-in_err-union_in-clause-grows : goal.returns-in_err-union_in-clause-grows
-returns-in_err-union_in-clause-grows c = λ ready start has e.
+pub returns-in_err-put_into-clause-grows : goal.returns-in_err-put_into-clause-grows
+returns-in_err-put_into-clause-grows c = λ ready start has e.
     let takes = c.in_ok-new.ensures in
-    head_fresh c.args.rule.now.body c.args.memo.now.memo _ c.args.held.now ready start c.args.rows.now _ _ c.from_residual-in_err-union_in.result c.in_err-union_in.field-0.0 c.from_residual-in_err-union_in.ensures.1 c.take.new.self c.args.fresh.now c.in_ok-new.new c.union_in.new.self e takes.2 takes.1 c.in_err-union_in.ensures
+    head_fresh c.args.rule.now.body c.args.memo.now.memo _ c.args.held.now ready start c.args.rows.now _ _ c.from_residual-in_err-put_into.result c.in_err-put_into.field-0.0 c.from_residual-in_err-put_into.ensures.1 c.take.new.self c.args.fresh.now c.in_ok-new.new c.put_into.new.into e takes.2 takes.1 c.in_err-put_into.ensures
 
 pub returns-clause-grows : goal.returns-clause-grows
 returns-clause-grows c = λ ready start has e.
@@ -36,5 +36,5 @@ returns-clause-grows c = λ ready start has e.
       takes.0 ∙ whole,
       answers.1,
       λ set h. elim h [ inl own ↦ subst (λ (l : List Row). length l ≤ row_limit) own takes.1 | inr m ↦ answers.2 set m ],
-      extends_on start rows c.take.new.self c.args.fresh.now c.in_ok-new.new c.union_in.new.self e takes.2 c.in_ok-union_in.ensures.0,
+      extends_on start rows c.take.new.self c.args.fresh.now c.in_ok-new.new c.put_into.new.into e takes.2 c.in_ok-put_into.ensures.0,
     )

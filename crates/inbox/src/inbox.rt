@@ -17,7 +17,7 @@ ghost use Rattle.messages.specs.Log.{row_with_id, entries_with_ids};
 ghost use Rattle.partitions.specs.Feeds.{port_count, port_in, key_in, carries_in, is_whole_in};
 
 use crate::instance::{feeds_of, key_of, ports_of, ports_of_feeds};
-use crate::step::{push_one_by_one, push_together, timestep};
+use crate::step::{push_one_by_one, push_some, timestep, together};
 use crate::waiting::Waiting;
 use bloom_eval::Arrivals;
 use blz_pool::{Id, Pool};
@@ -181,25 +181,24 @@ impl Inbox {
         Ok(self.feeds.is_due(key.as_ref()))
     }
 
-    // Adds the record of a message, where it goes with its batch.
-    fn add_going(
+    // The record of a message with its port, where it goes with its batch.
+    fn entry_going(
         &self,
         pool: &Pool,
         feed: u32,
         message: &Message,
-        going: &mut Vec<(u32, Id)>,
-    ) -> Result<(), AllocError>
+    ) -> Result<Option<(u32, Id)>, AllocError>
         requires feed { feed < feeds_in self.now }
         requires given { IsGiven pool.now message.now }
-        ensures { OnOk result (going.new.items ≡ going.old.items ++ filter (goes_in pool.now self.now) (cons_option (entry_id_of (feeds_view self.now.feeds) (feed, message.now)) [])) }
+        ensures { IfOk result (λ entry. cons_option entry [] ≡ filter (goes_in pool.now self.now) (cons_option (entry_id_of (feeds_view self.now.feeds) (feed, message.now)) [])) }
     {
         if let Message::Row(id) = message {
             let port = self.feeds.port_of(feed);
             if self.goes(pool, port, *id)? {
-                going.push((port, *id))?;
+                return Ok(Some((port, *id)));
             }
         }
-        Ok(())
+        Ok(None)
     }
 
     // The records of a batch that go with it.
@@ -211,9 +210,29 @@ impl Inbox {
     {
         let mut going = Vec::new(self.alloc);
         for (feed, message) in batch {
-            self.add_going(pool, *feed, message, &mut going)?;
+            let entry = self.entry_going(pool, *feed, message)?;
+            push_some(entry, &mut going)?;
         }
         Ok(going)
+    }
+
+    // The timestep of what goes with a batch, where there is one. A message alone makes no list.
+    fn step_going(
+        &self,
+        pool: &Pool,
+        batch: &[(u32, Message)],
+    ) -> Result<Option<Arrivals>, AllocError>
+        requires feeds { All (λ pair. pair.0 < feeds_in self.now) batch.now }
+        requires given { All (λ pair. IsGiven pool.now pair.1) batch.now }
+        ensures { IfOk result (λ step. cons_option step [] ≡ one_timestep (port_count (feeds_view self.now.feeds)) (entries_with_ids pool.now (filter (goes_in pool.now self.now) (entry_ids_of (feeds_view self.now.feeds) batch.now)))) }
+    {
+        let ports = self.feeds.port_count();
+        if let [(feed, message)] = batch {
+            let entry = self.entry_going(pool, *feed, message)?;
+            return together(self.alloc, pool, ports, entry.as_slice());
+        }
+        let entries = self.going(pool, batch)?;
+        together(self.alloc, pool, ports, &entries)
     }
 
     // Keeps a record, where the mode is Seal; it waits where its partition is one of these.
@@ -440,51 +459,55 @@ impl Inbox {
         }
     }
 
-    // Adds the timestep of what goes with the batch, where there is one.
-    fn push_going(
-        &self,
-        pool: &Pool,
-        going: &[(u32, Id)],
-        steps: &mut Vec<Arrivals>,
-    ) -> Result<(), AllocError>
-        requires { All (λ entry. entry.1 < length pool.now) going.now }
-        ensures { OnOk result (steps.new.items ≡ steps.old.items ++ one_timestep (port_count (feeds_view self.now.feeds)) (entries_with_ids pool.now going.now)) }
-    {
-        let ports = self.feeds.port_count();
-        push_together(self.alloc, pool, ports, going, steps)
-    }
-
     /// Hears a batch, whose ids the pool gave, as it gave those of all batches since the inbox was
     /// empty; between two calls the pool may get records (`pool_law`). A message costs look-ups of
     /// its key value by its hash, whatever the number of feeds, and a partition that becomes whole
     /// the sort of its records. The error is want of memory; afterwards the inbox can only be
     /// dropped.
-    pub fn hear(&mut self, pool: &Pool, batch: Vec<(u32, Message)>) -> Result<Timesteps, AllocError>
-        requires feeds { All (λ pair. pair.0 < feeds_in self.old) batch.items }
-        requires given { All (λ pair. IsGiven pool.now pair.1) batch.items }
+    pub fn hear_batch(
+        &mut self,
+        pool: &Pool,
+        batch: &[(u32, Message)],
+    ) -> Result<Timesteps, AllocError>
+        requires feeds { All (λ pair. pair.0 < feeds_in self.old) batch.now }
+        requires given { All (λ pair. IsGiven pool.now pair.1) batch.now }
         requires kept { IsFrom pool.now self.old }
 
         // Of every list of batches for which the inbox stood: the answer is what the batch sets off
         // after them, and the inbox then stands for them and this batch.
-        ensures steps { IfOk result (λ set. (i : Instance) (batches : List Batch) → HasHeard i pool.now batches self.old → set.steps ≡ (set_off i (all_pairs batches) (batch_with_ids pool.now batch.items)).steps) }
-        ensures whole { IfOk result (λ set. (i : Instance) (batches : List Batch) → HasHeard i pool.now batches self.old → set.whole ≡ (set_off i (all_pairs batches) (batch_with_ids pool.now batch.items)).whole) }
-        ensures heard { OnOk result ((i : Instance) (batches : List Batch) → HasHeard i pool.now batches self.old → HasHeard i pool.now (batches ++ batch_with_ids pool.now batch.items ∷ []) self.new) }
+        ensures steps { IfOk result (λ set. (i : Instance) (batches : List Batch) → HasHeard i pool.now batches self.old → set.steps ≡ (set_off i (all_pairs batches) (batch_with_ids pool.now batch.now)).steps) }
+        ensures whole { IfOk result (λ set. (i : Instance) (batches : List Batch) → HasHeard i pool.now batches self.old → set.whole ≡ (set_off i (all_pairs batches) (batch_with_ids pool.now batch.now)).whole) }
+        ensures heard { OnOk result ((i : Instance) (batches : List Batch) → HasHeard i pool.now batches self.old → HasHeard i pool.now (batches ++ batch_with_ids pool.now batch.now ∷ []) self.new) }
 
         ensures feeds { OnOk result (feeds_in self.new ≡ feeds_in self.old) }
         ensures kept { OnOk result (IsFrom pool.now self.new) }
     {
         pool.known();
-        let partial = self.open_keys(pool, &batch)?;
-        let going = self.going(pool, &batch)?;
-        self.hear_all(pool, &partial, &batch)?;
+        let partial = self.open_keys(pool, batch)?;
+        let going = self.step_going(pool, batch)?;
+        self.hear_all(pool, &partial, batch)?;
         let whole = self.whole_among(&partial)?;
         let mut steps = Vec::new(self.alloc);
         self.release(pool, &whole, &mut steps)?;
-        self.push_going(pool, &going, &mut steps)?;
+        push_some(going, &mut steps)?;
         Ok(Timesteps {
             steps: Items::from_vec(steps),
             whole: Items::from_vec(whole),
         })
+    }
+
+    /// Hears a batch, as `hear_batch` does, and lets it go.
+    pub fn hear(&mut self, pool: &Pool, batch: Vec<(u32, Message)>) -> Result<Timesteps, AllocError>
+        requires feeds { All (λ pair. pair.0 < feeds_in self.old) batch.items }
+        requires given { All (λ pair. IsGiven pool.now pair.1) batch.items }
+        requires kept { IsFrom pool.now self.old }
+        ensures steps { IfOk result (λ set. (i : Instance) (batches : List Batch) → HasHeard i pool.now batches self.old → set.steps ≡ (set_off i (all_pairs batches) (batch_with_ids pool.now batch.items)).steps) }
+        ensures whole { IfOk result (λ set. (i : Instance) (batches : List Batch) → HasHeard i pool.now batches self.old → set.whole ≡ (set_off i (all_pairs batches) (batch_with_ids pool.now batch.items)).whole) }
+        ensures heard { OnOk result ((i : Instance) (batches : List Batch) → HasHeard i pool.now batches self.old → HasHeard i pool.now (batches ++ batch_with_ids pool.now batch.items ∷ []) self.new) }
+        ensures feeds { OnOk result (feeds_in self.new ≡ feeds_in self.old) }
+        ensures kept { OnOk result (IsFrom pool.now self.new) }
+    {
+        self.hear_batch(pool, batch.as_slice())
     }
 
     /// The number of feeds; a message is heard on a feed below it.

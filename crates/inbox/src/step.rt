@@ -1,5 +1,6 @@
 //! Timesteps of records that are known by their ids.
 ghost use Rattle.std.specs.Prelude.{◌≡◌, ◌==◌, ◌<◌, ◌≤◌, ◌++◌, ◌∷◌, [], length, map, filter, All, IfOk, OnOk, if◌then◌else◌};
+ghost use Rattle.std.specs.List.{cons_option};
 ghost use Rattle.blz_set.specs.RecordSet.{row_limit};
 ghost use Rattle.blz_value.specs.Sets.{set_of};
 ghost use Rattle.messages.specs.Log.{row_with_id, entries_with_ids};
@@ -83,26 +84,35 @@ pub fn timestep(
     requires { All (λ entry. entry.1 < length pool.now) entries.now }
     ensures { IfOk result (λ step. step ≡ timestep_of ports (entries_with_ids pool.now entries.now)) }
 {
-    let mut sets = Vec::new(alloc);
+    let mut sets = Vec::with_capacity(alloc, ports)?;
     for port in 0..ports {
         sets.push(set_at(alloc, pool, port, entries)?)?;
     }
     Ok(Arrivals::from_sets(sets))
 }
 
-/// Adds the timestep of some entries, where there is one.
-pub(crate) fn push_together(
+/// The timestep of some entries, where there is one.
+pub(crate) fn together(
     alloc: Global,
     pool: &Pool,
     ports: usize,
     entries: &[(u32, Id)],
-    steps: &mut Vec<Arrivals>,
-) -> Result<(), AllocError>
+) -> Result<Option<Arrivals>, AllocError>
     requires { All (λ entry. entry.1 < length pool.now) entries.now }
-    ensures { OnOk result (steps.new.items ≡ steps.old.items ++ one_timestep ports (entries_with_ids pool.now entries.now)) }
+    ensures { IfOk result (λ step. cons_option step [] ≡ one_timestep ports (entries_with_ids pool.now entries.now)) }
 {
     if let [_, ..] = entries {
-        steps.push(timestep(alloc, pool, ports, entries)?)?;
+        return Ok(Some(timestep(alloc, pool, ports, entries)?));
+    }
+    Ok(None)
+}
+
+/// Puts an item behind others, where there is one.
+pub(crate) fn push_some<T: Drop>(item: Option<T>, items: &mut Vec<T>) -> Result<(), AllocError>
+    ensures { OnOk result (items.new.items ≡ items.old.items ++ cons_option item []) }
+{
+    if let Some(item) = item {
+        items.push(item)?;
     }
     Ok(())
 }

@@ -163,23 +163,22 @@ released_first i records waits heard f w (key ∷ keys) s t =
 -- ---- a whole batch
 
 -- what the code says of the batch, from its beginning over its middle, when all is heard, to its end
-pub record HearsBatch (records : List Record) (old mid new : Inbox) (partial : BTreeSet Record) (batch : List (ℕ × IdMessage)) (going : List EntryId) (whole : List Record) (first steps : List Sets) : Type 0 where
+pub record HearsBatch (records : List Record) (old mid new : Inbox) (partial : BTreeSet Record) (batch : List (ℕ × IdMessage)) (whole : List Record) (first steps : List Sets) : Type 0 where
   pub pool : IsPool records
   pub inside : (pair : ℕ × IdMessage) → Has pair batch → pair.0 < feed_count (feeds_view old.feeds)
   pub given : (pair : ℕ × IdMessage) → Has pair batch → IsGiven records pair.1
   pub open_keys : partial.keys ≡ set_of (filter_map (open_key (feeds_view old.feeds)) (batch_with_ids records batch))
-  pub going_are : going ≡ filter (goes_in records old) (entry_ids_of (feeds_view old.feeds) batch)
   pub whole_are : whole ≡ filter (is_whole_in (feeds_view mid.feeds)) partial.keys
   pub releases : Releases records mid new (cond mid.sealing whole []) [] first
-  pub steps_are : steps ≡ first ++ one_timestep (port_count (feeds_view new.feeds)) (entries_with_ids records going)
+  pub steps_are : steps ≡ first ++ one_timestep (port_count (feeds_view old.feeds)) (entries_with_ids records (filter (goes_in records old) (entry_ids_of (feeds_view old.feeds) batch)))
 
 pairs_inside : (records : List Record) (count : ℕ) (batch : List (ℕ × IdMessage)) → ((pair : ℕ × IdMessage) → Has pair batch → pair.0 < count) → (pair : Pair) → Has pair (batch_with_ids records batch) → pair.0 < count
 pairs_inside records count batch inside pair h =
     let m = Has-from_map (pair_with_id records) pair batch h in
     subst (λ (n : ℕ). n < count) (ap (λ (p : Pair). p.0) m.2) (inside m.0 m.1)
 
-module _ (records : List Record) (old mid new : Inbox) (partial : BTreeSet Record) (batch : List (ℕ × IdMessage)) (going : List EntryId) (whole : List Record) (first steps : List Sets)
-    (h : HearsBatch records old mid new partial batch going whole first steps) (i : Instance) (batches : List Batch) (s : HasHeard i records batches old)
+module _ (records : List Record) (old mid new : Inbox) (partial : BTreeSet Record) (batch : List (ℕ × IdMessage)) (whole : List Record) (first steps : List Sets)
+    (h : HearsBatch records old mid new partial batch whole first steps) (i : Instance) (batches : List Batch) (s : HasHeard i records batches old)
     (m : Keeps i records (λ entry. not (is_due i (all_pairs batches) entry)) (all_pairs batches ++ batch_with_ids records batch) mid) where
   pub whole-is : whole ≡ newly_whole i (all_pairs batches) (batch_with_ids records batch)
   whole-is = newly-is i records (all_pairs batches) (batch_with_ids records batch) (feeds_view old.feeds) (feeds_view mid.feeds) partial.keys whole s.feeds m.feeds (pairs_inside records (feed_count (feeds_view old.feeds)) batch h.inside) h.open_keys h.whole_are
@@ -187,16 +186,13 @@ module _ (records : List Record) (old mid new : Inbox) (partial : BTreeSet Recor
   same_mode : old.sealing ≡ mid.sealing
   same_mode = s.mode ∙ sym m.mode
 
-  ports_new : port_count (feeds_view new.feeds) ≡ length i.ports
-  ports_new = ap port_count h.releases.feeds ∙ count_ports i records (all_pairs batches ++ batch_with_ids records batch) (feeds_view mid.feeds) m.feeds
-
   pub steps-are : steps ≡ steps_in i.mode i (all_pairs batches) (batch_with_ids records batch)
   steps-are =
       let heard : List Pair = all_pairs batches in
       let more : Batch = batch_with_ids records batch in
-      let going_ids = ap (entries_with_ids records) h.going_are in
+      let going : List EntryId = filter (goes_in records old) (entry_ids_of (feeds_view old.feeds) batch) in
       h.steps_are
-      ∙ ap (λ (n : ℕ). first ++ one_timestep n (entries_with_ids records going)) ports_new
+      ∙ ap (λ (n : ℕ). first ++ one_timestep n (entries_with_ids records going)) (count_ports i records heard (feeds_view old.feeds) s.feeds)
       ∙ elim (cases_Bool mid.sealing) [
         | inl on ↦
             let on_old : old.sealing ≡ true = same_mode ∙ on in
@@ -207,14 +203,14 @@ module _ (records : List Record) (old mid new : Inbox) (partial : BTreeSet Recor
             ∙ ap (λ keys. first_part i keys (entries_of i (heard ++ more))) whole-is in
             ap (λ l. l ++ one_timestep (length i.ports) (entries_with_ids records going)) released
             ∙ ap (λ l. first_part i (newly_whole i heard more) (entries_of i (heard ++ more)) ++ one_timestep (length i.ports) l)
-            (going_ids ∙ going-seal i records (λ entry. not (is_due i heard entry)) heard old s h.pool batch h.inside h.given on_old)
+            (going-seal i records (λ entry. not (is_due i heard entry)) heard old s h.pool batch h.inside h.given on_old)
             ∙ sym (sealing_steps i.mode i heard more (sym m.mode ∙ on))
         | inr off ↦
             let off_old : old.sealing ≡ false = same_mode ∙ off in
             let none : first ≡ [] =
             h.releases.steps ∙ ap (λ b. steps_released records (feeds_view mid.feeds) (cond b whole []) (released_of mid.waiting (cond b whole []))) off in
             ap (λ l. l ++ one_timestep (length i.ports) (entries_with_ids records going)) none
-            ∙ ap (one_timestep (length i.ports)) (going_ids ∙ going-at_once i records (λ entry. not (is_due i heard entry)) heard old s h.pool batch h.inside h.given off_old)
+            ∙ ap (one_timestep (length i.ports)) (going-at_once i records (λ entry. not (is_due i heard entry)) heard old s h.pool batch h.inside h.given off_old)
             ∙ sym (other_steps i.mode i heard more (sym m.mode ∙ off) m.hears)
       ]
 
@@ -277,16 +273,16 @@ pub record Heard (records : List Record) (old new : Inbox) (batch : List (ℕ ×
   pub whole_as : whole ≡ newly_whole i (all_pairs batches) (batch_with_ids records batch)
   pub stands : HasHeard i records (batches ++ batch_with_ids records batch ∷ []) new
 
-pub hears_all : (records : List Record) (old mid new : Inbox) (partial : BTreeSet Record) (batch : List (ℕ × IdMessage)) (going : List EntryId) (whole : List Record) (first steps : List Sets) → HearsBatch records old mid new partial batch going whole first steps
+pub hears_all : (records : List Record) (old mid new : Inbox) (partial : BTreeSet Record) (batch : List (ℕ × IdMessage)) (whole : List Record) (first steps : List Sets) → HearsBatch records old mid new partial batch whole first steps
     → ((i : Instance) (waits : Entry → Bool) (heard : List Pair) → AllWaitWith partial i waits (batch_with_ids records batch) → Keeps i records waits heard old → Keeps i records waits (heard ++ batch_with_ids records batch) mid)
     → (i : Instance) (batches : List Batch) → HasHeard i records batches old → Heard records old new batch whole steps i batches
-hears_all records old mid new partial batch going whole first steps h keeps i batches s =
+hears_all records old mid new partial batch whole first steps h keeps i batches s =
     let wait = all_wait i records (all_pairs batches) (batch_with_ids records batch) (feeds_view old.feeds) partial s.feeds (pairs_inside records (feed_count (feeds_view old.feeds)) batch h.inside) h.open_keys in
     let m = keeps i (λ entry. not (is_due i (all_pairs batches) entry)) (all_pairs batches) wait s in
     record {
-      steps_as = steps-are records old mid new partial batch going whole first steps h i batches s m;
-      whole_as = whole-is records old mid new partial batch going whole first steps h i batches s m;
-      stands = has_heard records old mid new partial batch going whole first steps h i batches s m;
+      steps_as = steps-are records old mid new partial batch whole first steps h i batches s m;
+      whole_as = whole-is records old mid new partial batch whole first steps h i batches s m;
+      stands = has_heard records old mid new partial batch whole first steps h i batches s m;
     }
 
 -- ---- what is held

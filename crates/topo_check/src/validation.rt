@@ -1,19 +1,17 @@
 //! The validation of a topology: sizes first, then names, then the view.
-ghost use Rattle.std.specs.Prelude.{◌≡◌, ◌≤◌, length, take, map, IfOk, All};
+ghost use Rattle.std.specs.Prelude.{◌≡◌, ◌≤◌, ◌<◌, ◌+◌, length, map, IfSome, All};
 ghost use Rattle.std.specs.List.{filter_map};
 ghost use Rattle.blz_value.specs.Members.{Has};
 ghost use Rattle.bloom_ast.specs.Checks.{IsChecked};
 ghost use Rattle.bloom_ast.specs.Form.{Accepted};
 ghost use Rattle.topo_types.specs.Allowed.{IsAllowed};
-ghost use Rattle.topo_check.specs.Code.Built.{sites_seen, IsBuilt};
-ghost use Rattle.topo_check.specs.Code.OfView.{HasKnownNotes};
+ghost use Rattle.topo_check.specs.Code.Built.{sites_seen};
 ghost use Rattle.topo_check.specs.Code.Validating as code;
 ghost use Rattle.topo_types.specs.Kept.{view_kept};
 ghost use Rattle.topo_types.specs.Regions.{is_in_cycle};
 ghost use Rattle.topo_types.specs.Sites as sites_spec;
 ghost use Rattle.topo_types.specs.Valid.{needs_module};
 ghost use Rattle.topo_types.specs.Validation.{Validates};
-ghost use Rattle.topo_types.specs.Validity.{AreFew};
 ghost use Rattle.topo_types.specs.View.{component_numbers};
 
 use crate::validity::of_view::{first_mismatched, first_sealed, first_understated};
@@ -22,7 +20,7 @@ use crate::view::building::parts_of;
 use crate::view::sites::{Site, sites_of};
 use bloom_ast::Checked;
 use fd_closure::AttrNames;
-use std::alloc::{AllocError, Global};
+use std::alloc::Global;
 use topo_copy::Copied;
 use topo_graph::{found_with, regions_of};
 use topo_types::{Kept, TopoFault, TopoKind, Topology, Valid, ValidFault};
@@ -49,33 +47,30 @@ fn names_of(alloc: Global, topology: &Topology, sites: &[Site<'_>]) -> Result<At
     Ok(names)
 }
 
-// The first fault of the view, told which components are in cyclic regions.
+// The first fault of the view, told which components are in cyclic regions, and which is the first
+// that is understated.
 fn view_fault(
-    alloc: Global,
     topology: &Topology,
-    sites: &[Site<'_>],
     kept: &Kept,
     cycles: &[bool],
-) -> Result<Option<TopoFault>, AllocError>
-    requires few { AreFew topology.now (sites_seen sites.now) }
-    requires built { All IsBuilt (sites_seen sites.now) }
-    requires known { All HasKnownNotes (sites_seen sites.now) }
-    requires each { length cycles.now ≡ length sites.now }
+    understated: Option<usize>,
+) -> Option<TopoFault>
+    requires streams { length topology.now.sources + length topology.now.streams ≤ 64 }
+    requires components { length cycles.now ≤ 32 }
+    requires understated { IfSome understated (λ i. i < 32) }
     requires cycles { cycles.now ≡ map (is_in_cycle (view_kept kept.now)) (component_numbers (view_kept kept.now)) }
-    ensures { IfOk result (λ fault. fault ≡ code.view_fault topology.now (sites_seen sites.now) (view_kept kept.now)) }
+    ensures { result ≡ code.view_fault topology.now (view_kept kept.now) cycles.now understated }
 {
     let sources = topology.sources.as_slice().len();
     let mismatched = first_mismatched(kept, sources, topology.streams.as_slice());
     if mismatched.is_some() {
-        let kind = TopoKind::ReplicaMismatch;
-        return Ok(at_places(kind, None, None, mismatched, None));
+        return at_places(TopoKind::ReplicaMismatch, None, None, mismatched, None);
     }
-    let sealed = first_sealed(kept, cycles, sites);
+    let sealed = first_sealed(kept, cycles);
     if sealed.is_some() {
-        return Ok(at_places(TopoKind::SealInCycle, None, sealed, None, None));
+        return at_places(TopoKind::SealInCycle, None, sealed, None, None);
     }
-    let understated = first_understated(alloc, &kept.attributes, sites)?;
-    Ok(at_places(TopoKind::Understated, None, understated, None, None))
+    at_places(TopoKind::Understated, None, understated, None, None)
 }
 
 // What holds of each of these modules.
@@ -88,23 +83,25 @@ fn known(modules: &[Checked])
 }
 
 // The topology with its view, or the first fault of the view, where there is none of size or of
-// names, and these are the components with their bodies and the names of the attributes.
+// names, and these are the components with their bodies and the names of the attributes. The view
+// keeps the programs of the bodies.
 fn valid_of(
     alloc: Global,
     topology: &Topology,
     modules: &[Checked],
-    sites: &[Site<'_>],
+    sites: Vec<Site<'_>>,
     names: AttrNames,
 ) -> Result<Valid, ValidFault>
     requires each { length modules.now ≡ length (filter_map needs_module topology.now.components) }
     requires allowed { IsAllowed topology.now }
-    requires sites { sites_seen sites.now ≡ sites_spec.sites_of topology.now.components modules.now }
-    requires named { code.IsNamed topology.now (sites_seen sites.now) names }
+    requires sites { sites_seen sites.items ≡ sites_spec.sites_of topology.now.components modules.now }
+    requires named { code.IsNamed topology.now (sites_seen sites.items) names }
     ensures { Validates topology.now modules.now result }
 {
+    let understated = first_understated(alloc, &names, &sites)?;
     let kept = parts_of(alloc, topology, sites, names)?;
     let regions = regions_of(alloc, &kept)?;
-    let fault = view_fault(alloc, topology, sites, &kept, &regions.cycles)?;
+    let fault = view_fault(topology, &kept, &regions.cycles, understated);
     if let Some(fault) = fault {
         return Err(ValidFault::Bad(fault));
     }
@@ -128,5 +125,5 @@ pub fn validate(
 {
     let sites = sites_of(alloc, topology.components.as_slice(), modules)?;
     let names = names_of(alloc, topology, &sites)?;
-    valid_of(alloc, topology, modules, &sites, names)
+    valid_of(alloc, topology, modules, sites, names)
 }

@@ -1,9 +1,10 @@
 -- The first fault of a topology is that of size or of names, and else that of its view.
-use Rattle.std.proofs.Common.{◌≡◌, ◌+◌, ℕ, false, Option, None, Some, List, [], ◌∷◌, ◌++◌, length, refl, ap, ◌∙◌}
+use Rattle.std.proofs.Common.{◌≡◌, ◌+◌, ℕ, Bool, false, if◌then◌else◌, Option, None, Some, List, [], ◌∷◌, ◌++◌, length, refl, arith, ap, sym, ◌∙◌}
 use Rattle.std.specs.Option.{option_or}
 use Rattle.blz_value.specs.FirstPlace.{first_place}
 use Rattle.blz_value.specs.Members.{Has}
 use Rattle.bloom_ast.specs.Form.{Accepted}
+use Rattle.bloom_ast.specs.Query.{Name}
 use Rattle.topo_types.specs.declared.fault.TopoFault.{TopoFault}
 use Rattle.topo_types.specs.declared.fault.TopoKind.{TopoKind}
 use Rattle.topo_types.specs.declared.fault.TopoKind.TheVariants as kind
@@ -16,6 +17,7 @@ use Rattle.topo_check.specs.Code.Validating.{early_fault, view_fault}
 use Rattle.topo_types.specs.Sites.{Site, sites_of, attributes_in}
 use Rattle.topo_types.specs.Validity.{Written, written, at_places, kind_fault, fault_in, kinds_of_names, kinds_of_view, fault_of}
 use Rattle.topo_types.specs.Validity.OfView.{is_mismatched, seals_in_cycle, is_understated}
+use Rattle.topo_types.specs.View.{View}
 use Rattle.topo_types.specs.ViewOf.{view_of}
 use Rattle.topo_types.proofs.Faults.NoFault.{no_fault, none_in}
 
@@ -38,6 +40,24 @@ fault_in-append (k ∷ ks) ls w = ap (option_or (kind_fault k w)) (fault_in-appe
 no_place : (X : Type 0) (at : ℕ) (xs : List X) → first_place (λ i x. false) at xs ≡ None
 no_place X at [] = refl
 no_place X at (x ∷ xs) = no_place X (at + 1) xs
+
+-- a place that depends on the number alone is the same in another list of the length
+same_place : {X Y : Type 0} (test : ℕ → Bool) (at : ℕ) (xs : List X) (ys : List Y) → length xs ≡ length ys → first_place (λ i x. test i) at xs ≡ first_place (λ i y. test i) at ys
+same_place test at [] [] many = refl
+same_place test at [] (y ∷ ys) many = absurd (omega (arith, many))
+same_place test at (x ∷ xs) [] many = absurd (omega (arith, many))
+same_place test at (x ∷ xs) (y ∷ ys) many = ap (λ (o : Option ℕ). if test at then Some at else o) (same_place test (at + 1) xs ys (omega (arith, many)))
+
+-- the first component that is understated
+abbrev pub first_understated : List Name → List Site → Option ℕ
+first_understated names sites = first_place (λ i site. is_understated names site) 0 sites
+
+-- the first fault of the view, as it is said of the components
+abbrev late_fault : Topology → List Site → View → Option TopoFault
+late_fault t sites v =
+    option_or (at_places kind.ReplicaMismatch None None (first_place (λ i s. is_mismatched v (length t.sources + i)) 0 t.streams) None)
+    (option_or (at_places kind.SealInCycle None (first_place (λ i site. seals_in_cycle v i) 0 sites) None None)
+    (at_places kind.Understated None (first_understated v.attributes sites) None None))
 
 module _ (w : Written) where
   abbrev no_source : Option ℕ
@@ -66,7 +86,7 @@ module _ (w : Written) where
       ∙ ap (λ o. at_places k None components o no_fd) (no_place StreamEntry 0 w.topology.streams)
       ∙ ap (λ o. at_places k None components None o) (no_place FdEntry 0 w.topology.fds)
 
-  pub faults_of_view : fault_in kinds_of_view w ≡ view_fault w.topology w.sites w.view
+  faults_of_view : fault_in kinds_of_view w ≡ late_fault w.topology w.sites w.view
   faults_of_view =
       let m = mismatch_at (first_place (λ i s. is_mismatched w.view (length w.topology.sources + i)) 0 w.topology.streams) in
       let s = component_at kind.SealInCycle (first_place (λ i site. seals_in_cycle w.view i) 0 w.sites) in
@@ -85,7 +105,7 @@ module _ (t : Topology) (modules : List Accepted) where
   unfolding view_of
   names_look = refl
 
-  pub fault_parts : fault_of t modules ≡ option_or (early_fault t sites) (view_fault t sites (view_of t modules))
+  fault_parts : fault_of t modules ≡ option_or (early_fault t sites) (late_fault t sites (view_of t modules))
   unfolding fault_of
   fault_parts =
       let w = written t modules in
@@ -96,12 +116,18 @@ module _ (t : Topology) (modules : List Accepted) where
 
   -- what is found early is the first fault
   pub early_is : (f : TopoFault) → early_fault t sites ≡ Some f → fault_of t modules ≡ Some f
-  early_is f e = fault_parts ∙ ap (λ o. option_or o (view_fault t sites (view_of t modules))) e
+  early_is f e = fault_parts ∙ ap (λ o. option_or o (late_fault t sites (view_of t modules))) e
 
   module _ (clean : early_fault t sites ≡ None) where
     -- and else what is found of the view
-    pub late_is : fault_of t modules ≡ view_fault t sites (view_of t modules)
-    late_is = fault_parts ∙ ap (λ o. option_or o (view_fault t sites (view_of t modules))) clean
+    pub late_is : (cycles : List Bool) → length cycles ≡ length sites → fault_of t modules ≡ view_fault t (view_of t modules) cycles (first_understated (view_of t modules).attributes sites)
+    late_is cycles each =
+        let v = view_of t modules in
+        fault_parts
+        ∙ ap (λ o. option_or o (late_fault t sites v)) clean
+        ∙ ap (λ o. option_or (at_places kind.ReplicaMismatch None None (first_place (λ i s. is_mismatched v (length t.sources + i)) 0 t.streams) None)
+        (option_or (at_places kind.SealInCycle None o None None) (at_places kind.Understated None (first_understated v.attributes sites) None None)))
+        (same_place (seals_in_cycle v) 0 sites cycles (sym each))
 
     pub no_size : kind_fault kind.TooMany (written t modules) ≡ None
     no_size = (no_fault (kind_fault kind.TooMany (sized t sites)) (fault_in kinds_of_names (of_names t sites (attributes_in t.sources sites))) clean).0

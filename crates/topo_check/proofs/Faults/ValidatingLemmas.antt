@@ -1,5 +1,5 @@
 -- What a validation knows once no fault of size or of names is found.
-use Rattle.std.proofs.Common.{◌≡◌, ◌≤◌, inl, inr, refl, Option, None, Some, Result, Err, Bool, List, length, map, arith, ap, sym, subst, ◌∙◌}
+use Rattle.std.proofs.Common.{◌≡◌, ◌≤◌, ℕ, inl, inr, refl, Option, None, Some, Result, Err, Bool, List, length, map, arith, ap, sym, subst, ◌∙◌}
 use Rattle.std.specs.List.{All}
 use Rattle.std.specs.Option.{option_or}
 use Rattle.std.proofs.lemmas.List.{length-map}
@@ -28,7 +28,7 @@ use Rattle.topo_types.specs.ViewOf.{view_of, view_with, component_view}
 use Rattle.topo_check.proofs.Faults.EarlyEnds.{early_ends}
 use Rattle.topo_check.proofs.Faults.KnownNotes.{known_notes}
 use Rattle.topo_check.proofs.Faults.EarlyKinds.{all_built}
-use Rattle.topo_check.proofs.Faults.FaultParts.{early_is, late_is, no_size, no_name}
+use Rattle.topo_check.proofs.Faults.FaultParts.{early_is, first_understated, late_is, no_size, no_name}
 use Rattle.topo_types.proofs.Faults.NoFault.{length_sites}
 
 -- what is found of names once nothing is found of size
@@ -84,13 +84,24 @@ module _ (t : Topology) (modules : List Accepted) (sites : List held.Site) (is :
     each_component = ap (λ (x : View). length x.components) made ∙ length-map (sites_seen sites) (component_view names) ∙ length-map sites site_seen
 
     -- each component is told of
-    pub each_told : (cycles : List Bool) → cycles ≡ map (is_in_cycle v) (component_numbers v) → length cycles ≡ length sites
+    each_told : (cycles : List Bool) → cycles ≡ map (is_in_cycle v) (component_numbers v) → length cycles ≡ length sites
     each_told cycles told = ap length told ∙ length-map (component_numbers v) (is_in_cycle v) ∙ length-range_with_len 0 (length v.components) ∙ each_component
 
+    pub few_told : (cycles : List Bool) → cycles ≡ map (is_in_cycle v) (component_numbers v) → length cycles ≤ 32
+    few_told cycles told = omega (arith, each_told cycles told, few_sites)
+
+    attributes_are : names ≡ (view_of t modules).attributes
+    attributes_are = ap (λ (x : View). x.attributes) (sym made ∙ view_is)
+
+    as_written : (cycles : List Bool) → length cycles ≡ length sites → length cycles ≡ length (sites_of t.components modules)
+    as_written cycles each = each ∙ sym (length-map sites site_seen) ∙ ap length is
+
     -- the first fault is that of the view
-    pub fault_is : (o : Option TopoFault) → o ≡ view_fault t (sites_seen sites) v → fault_of t modules ≡ o
-    fault_is o e =
-        late_is t modules clean
-        ∙ ap (view_fault t (sites_of t.components modules)) (sym view_is)
-        ∙ ap (λ xs. view_fault t xs v) (sym is)
+    pub fault_is : (cycles : List Bool) → cycles ≡ map (is_in_cycle v) (component_numbers v) → (understated : Option ℕ) → understated ≡ first_understated names (sites_seen sites)
+        → (o : Option TopoFault) → o ≡ view_fault t v cycles understated → fault_of t modules ≡ o
+    fault_is cycles told understated u o e =
+        late_is t modules clean cycles (as_written cycles (each_told cycles told))
+        ∙ ap (λ x. view_fault t x cycles (first_understated (view_of t modules).attributes (sites_of t.components modules))) (sym view_is)
+        ∙ ap (view_fault t v cycles)
+        (ap (λ ns. first_understated ns (sites_of t.components modules)) (sym attributes_are) ∙ ap (first_understated names) (sym is) ∙ sym u)
         ∙ sym e

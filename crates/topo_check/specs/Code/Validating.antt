@@ -1,5 +1,5 @@
 -- The parts of a validation: the faults of size and of names, and those of the view.
-use Rattle.std.specs.Prelude.{◌≡◌, ◌+◌, Option, None, Some, List, Result, Ok, Err, length}
+use Rattle.std.specs.Prelude.{ℕ, ◌≡◌, ◌+◌, Bool, Option, None, Some, List, Result, Ok, Err, length}
 use Rattle.std.specs.Option.{option_or}
 use Rattle.blz_value.specs.FirstPlace.{first_place}
 use Rattle.bloom_ast.specs.Query.{Name}
@@ -11,19 +11,19 @@ use Rattle.topo_types.specs.declared.topology.Topology.{Topology}
 use Rattle.topo_check.specs.Code.Named.{of_names, sized}
 use Rattle.topo_types.specs.Sites.{Site, attributes_in}
 use Rattle.topo_types.specs.Validity.{AreFew, at_places, kind_fault, fault_in, kinds_of_names}
-use Rattle.topo_types.specs.Validity.OfView.{is_mismatched, seals_in_cycle, is_understated}
+use Rattle.topo_types.specs.Validity.OfView.{is_mismatched, seals_in_cycle}
 use Rattle.topo_types.specs.View.{View}
 
 -- the first fault of size or of names
 abbrev pub early_fault : Topology → List Site → Option TopoFault
 early_fault t sites = option_or (kind_fault kind.TooMany (sized t sites)) (fault_in kinds_of_names (of_names t sites (attributes_in t.sources sites)))
 
--- the first fault of the view
-abbrev pub view_fault : Topology → List Site → View → Option TopoFault
-view_fault t sites v =
+-- the first fault of the view, where this is told of each component, and this is the first that is understated
+abbrev pub view_fault : Topology → View → (cycles : List Bool) → (understated : Option ℕ) → Option TopoFault
+view_fault t v cycles understated =
     option_or (at_places kind.ReplicaMismatch None None (first_place (λ i s. is_mismatched v (length t.sources + i)) 0 t.streams) None)
-    (option_or (at_places kind.SealInCycle None (first_place (λ i site. seals_in_cycle v i) 0 sites) None None)
-    (at_places kind.Understated None (first_place (λ i site. is_understated v.attributes site) 0 sites) None None))
+    (option_or (at_places kind.SealInCycle None (first_place (λ i told. seals_in_cycle v i) 0 cycles) None None)
+    (at_places kind.Understated None understated None None))
 
 -- there is no fault of size or of names, and these are the names of the attributes
 pub record IsNamed (t : Topology) (sites : List Site) (names : List Name) : Type 0 where

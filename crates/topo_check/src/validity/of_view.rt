@@ -118,13 +118,12 @@ fn seals_in_cycle(kept: &Kept, cycles: &[bool], number: usize) -> bool
 
 /// The first component with the mode Pass or Seal in a cyclic region, told which components are in
 /// one.
-pub(crate) fn first_sealed(kept: &Kept, cycles: &[bool], sites: &[Site<'_>]) -> Option<usize>
-    requires each { length cycles.now ≡ length sites.now }
-    requires cycles { cycles.now ≡ map (is_in_cycle (view_kept kept.now)) (view.component_numbers (view_kept kept.now)) }
-    ensures place { result ≡ first_place (λ i site. spec.seals_in_cycle (view_kept kept.now) i) 0 (sites_seen sites.now) }
-    ensures within { IfSome result (λ i. i < length sites.now) }
+pub(crate) fn first_sealed(kept: &Kept, cycles: &[bool]) -> Option<usize>
+    requires { cycles.now ≡ map (is_in_cycle (view_kept kept.now)) (view.component_numbers (view_kept kept.now)) }
+    ensures place { result ≡ first_place (λ i told. spec.seals_in_cycle (view_kept kept.now) i) 0 cycles.now }
+    ensures within { IfSome result (λ i. i < length cycles.now) }
 {
-    for (number, _) in sites.iter().enumerate() {
+    for (number, _) in cycles.iter().enumerate() {
         if seals_in_cycle(kept, cycles, number) {
             return Some(number);
         }

@@ -14,20 +14,20 @@ use std::alloc::{AllocError, Global};
 use topo_types::{Kept, Topology};
 
 /// The parts of a topology by their numbers, of these components with their bodies and these
-/// attributes.
+/// attributes, both of which they keep.
 pub(crate) fn parts_of(
     alloc: Global,
     topology: &Topology,
-    sites: &[Site<'_>],
+    sites: Vec<Site<'_>>,
     attributes: AttrNames,
 ) -> Result<Kept, AllocError>
-    requires few { length sites.now ≤ 32 }
-    requires built { All IsBuilt (sites_seen sites.now) }
-    ensures { IfOk result (λ kept. view_kept kept ≡ view_with attributes (sites_seen sites.now) topology.now) }
+    requires few { length sites.items ≤ 32 }
+    requires built { All IsBuilt (sites_seen sites.items) }
+    ensures { IfOk result (λ kept. view_kept kept ≡ view_with attributes (sites_seen sites.entry.items) topology.now) }
 {
-    let mut streams = sources_of(alloc, &attributes, sites, topology.sources.as_slice())?;
+    let mut streams = sources_of(alloc, &attributes, &sites, topology.sources.as_slice())?;
     let entries = topology.streams.as_slice();
-    add_streams(alloc, &attributes, sites, entries, &mut streams)?;
+    add_streams(alloc, &attributes, &sites, entries, &mut streams)?;
     let components = components_of(alloc, &attributes, sites)?;
     let fds = fds_of(alloc, &attributes, topology.fds.as_slice())?;
     Ok(Kept {

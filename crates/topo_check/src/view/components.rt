@@ -11,13 +11,11 @@ ghost use Rattle.topo_check.specs.Code.Built.{site_seen, sites_seen, IsBuilt};
 
 use crate::view::numbers::{attributes_of, mode_from, note_from, numbers_of};
 use crate::view::sites::Site;
-use bloom_ast::Program;
 use blz_value::{Items, Str};
 use fd_closure::{AttrNames, Attrs};
 use path_annotate::{Note, Notes};
 use path_trace::{annotate, program_facts};
 use std::alloc::{AllocError, Global};
-use topo_copy::copy_program;
 use topo_types::{Declared, KeptComponent, KeptOutput, KeptPort, Side};
 
 // ---- what is found of bodies
@@ -256,15 +254,6 @@ fn rows_with(
 
 // ---- components
 
-fn program_of(alloc: Global, site: &Site<'_>) -> Result<Option<Program>, AllocError>
-    ensures { IfOk result (λ program. program ≡ site.now.program) }
-{
-    match &site.program {
-        Some(program) => Ok(Some(copy_program(alloc, program)?)),
-        None => Ok(None),
-    }
-}
-
 // A number of replicas, and 0 in place of a negative one.
 fn replicas_of(written: i64) -> u32
     requires { spec.count_from written ≤ 8 }
@@ -273,23 +262,24 @@ fn replicas_of(written: i64) -> u32
     if written < 0 { 0 } else { written as u32 }
 }
 
+// A component that keeps the program of its site.
 fn component_of(
     alloc: Global,
     names: &AttrNames,
-    site: &Site<'_>,
+    site: Site<'_>,
 ) -> Result<KeptComponent, AllocError>
-    requires { IsBuilt (site_seen site.now) }
-    ensures { IfOk result (λ kept. component_kept kept ≡ spec.component_view names.now (site_seen site.now)) }
+    requires { IsBuilt (site_seen site) }
+    ensures { IfOk result (λ kept. component_kept kept ≡ spec.component_view names.now (site_seen site.entry)) }
 {
     let entry = site.entry;
     let name = entry.name.copy()?;
-    let program = program_of(alloc, site)?;
     let mode = mode_from(names, entry.mode, entry.key.as_slice());
     let replicas = replicas_of(entry.replicas);
     let ports = ports_of(alloc, names, site.ports.as_slice())?;
-    let found = body_facts(alloc, names, site)?;
-    let outputs = outputs_of(alloc, names, site, &found)?;
-    let notes = rows_with(alloc, names, site, &found.notes)?;
+    let found = body_facts(alloc, names, &site)?;
+    let outputs = outputs_of(alloc, names, &site, &found)?;
+    let notes = rows_with(alloc, names, &site, &found.notes)?;
+    let Site { program, .. } = site;
     Ok(KeptComponent {
         name,
         program,
@@ -301,14 +291,14 @@ fn component_of(
     })
 }
 
-/// The components by numbers.
+/// The components by numbers, which keep the programs.
 pub(crate) fn components_of(
     alloc: Global,
     names: &AttrNames,
-    sites: &[Site<'_>],
+    sites: Vec<Site<'_>>,
 ) -> Result<Vec<KeptComponent>, AllocError>
-    requires { All IsBuilt (sites_seen sites.now) }
-    ensures { IfOk result (λ components. map component_kept components.items ≡ map (spec.component_view names.now) (sites_seen sites.now)) }
+    requires { All IsBuilt (sites_seen sites.items) }
+    ensures { IfOk result (λ components. map component_kept components.items ≡ map (spec.component_view names.now) (sites_seen sites.entry.items)) }
 {
     let mut components = Vec::new(alloc);
     for site in sites {

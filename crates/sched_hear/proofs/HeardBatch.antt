@@ -91,10 +91,10 @@ feeds_of_batch records pairs count all feed m h =
 -- ---- ears
 
 -- an ear whose inbox heard, and whose indexes are known
-pub ear_heard : (records : List Row) (pairs : List (ℕ × IdMessage)) (indexes given : List (ℕ × ℕ)) (s : SetOff) (ear : Ear) (inbox next : Inbox) (known later : List (List ℕ)) → ear ≡ Hears inbox known → given ≡ indexes → InboxHears records pairs s inbox next → KnowsMore known given later
+pub ear_heard : (records : List Row) (pairs : List (ℕ × IdMessage)) (indexes : List (ℕ × ℕ)) (s : SetOff) (ear : Ear) (inbox next : Inbox) (known later : List (List ℕ)) → ear ≡ Hears inbox known → InboxHears records pairs s inbox next → KnowsMore known indexes later
     → EarHears records pairs indexes s ear (Hears next later)
-ear_heard records pairs indexes given s ear inbox next known later is same hears more =
-    subst (λ e. EarHears records pairs indexes s e (Hears next later)) (sym is) (hears, subst (λ l. KnowsMore known l later) same more)
+ear_heard records pairs indexes s ear inbox next known later is hears more =
+    subst (λ e. EarHears records pairs indexes s e (Hears next later)) (sym is) (hears, more)
 
 pub set_same : (a b : SetOff) → a.steps ≡ b.steps → a.whole ≡ b.whole → a ≡ b
 set_same a b p q =

@@ -1,5 +1,5 @@
 -- How a hearing ends: refused, at a limit, without memory, or done; and what it leaves once a fault has ended the net.
-use Rattle.std.proofs.Common.{◌≡◌, ℕ, true, false, Option, List, [], ◌∷◌, ◌++◌, refl, ap, ◌∙◌, sym, subst}
+use Rattle.std.proofs.Common.{◌≡◌, ◌⊎◌, inl, inr, ℕ, true, false, Option, List, [], ◌∷◌, ◌++◌, refl, ap, ◌∙◌, sym, subst}
 use Rattle.std.specs.Prelude.{Result, Ok, Err}
 use Rattle.bloom_ast.specs.declared.program.Program.{Program}
 use Rattle.bloom_ast.specs.Step.{Sets}
@@ -63,6 +63,14 @@ module _ (v : View) (c r : ℕ) (loaded : List (Option Program)) (tables : List 
   leaves_same TooManyRows e of given steps stands = tt
   leaves_same TooManyMessages e of given steps stands = tt
   leaves_same NoMemory e of given steps stands = tt
+
+  leaves_memory : (next : List Sets) (new : Books) → HearingLeaves v loaded tables next old new parts c r (Err NoMemory)
+  leaves_memory next new e of given steps stands = tt
+
+  -- or memory was wanting
+  pub leaves_refused : (fault : EventFault) (new : Books) → (fault ≡ NoMemory) ⊎ (new ≡ old) → HearingLeaves v loaded tables tables old new parts c r (Err fault)
+  leaves_refused fault new (inl memory) = subst (λ f. HearingLeaves v loaded tables tables old new parts c r (Err f)) (sym memory) (leaves_memory tables new)
+  leaves_refused fault new (inr same) = subst (λ b. HearingLeaves v loaded tables tables old b parts c r (Err fault)) (sym same) (leaves_same fault)
 
   -- ---- limits
 

@@ -29,7 +29,7 @@ use Rattle.inbox.proofs.WiringLemmas.{IsFeedInto, instance-feeds, instance-wired
 use Rattle.sched_lists.specs.Lists.{Listed, read_lists, list_at}
 use Rattle.sched_hear.specs.Net.{Runs, BooksStand, BooksRun, ShowsSeat, execution_in, list_on}
 use Rattle.sched_lists.specs.Places.{instance_place, list_place}
-use Rattle.sched_hear.specs.Code.Parts.{IsReadAs, PairAnswers, PairsAnswer, StandsAt, HaveIndexes}
+use Rattle.sched_hear.specs.Code.Parts.{IsReadAs, PairAnswers, PairsAnswer, StandsAt, HaveIndexes, ArePairs}
 use Rattle.sched_hear.specs.declared.books.Books.{Books}
 use Rattle.emitted.specs.declared.fault.EventFault.{EventFault}
 use Rattle.emitted.specs.declared.fault.EventFault.TheVariants.{NoInstance, NoMessage, NothingToTake, TooManyRows, TooManyMessages, NoMemory}
@@ -208,10 +208,6 @@ indexes-more v i lists pairs indexes n index message have at = record {
 
 -- ---- what the loop over the parts knows
 
-pub record PairsSoFar (v : View) (books : Books) (c r : ℕ) (parts : List Part) (pairs : List (ℕ × IdMessage)) (indexes : List (ℕ × ℕ)) : Type 0 where
-  pub are : PairsAnswer v books c r parts (Ok pairs) (λ (ps : List (ℕ × IdMessage)). ps)
-  pub indexes_are : HaveIndexes v (instance_for v c r) (read_lists books.lists) (batch_with_ids books.lists.records pairs) indexes
-
 -- a fault of one part is that of all
 refused : {X : Type 0} (fault : EventFault) (records : List Row) (asked : Result Pair Refusal) (all : Result (List Pair) Refusal) (pairs : X → List (ℕ × IdMessage)) → IsReadAs (pair_with_id records) asked (Err fault) → ((refusal : Refusal) → asked ≡ Err refusal → all ≡ Err refusal)
     → IsReadAs (λ x. batch_with_ids records (pairs x)) all (Err fault)
@@ -222,7 +218,7 @@ refused TooManyRows records asked all pairs is on = absurd is
 refused TooManyMessages records asked all pairs is on = absurd is
 refused NoMemory records asked all pairs is on = tt
 
-module _ (v : View) (books : Books) (c r : ℕ) (parts : List Part) (k : ℕ) (part : Part) (less : k < length parts) (is : part ≡ get_or parts k part) (pairs : List (ℕ × IdMessage)) (indexes : List (ℕ × ℕ)) (before : PairsSoFar v books c r (take k parts) pairs indexes) where
+module _ (v : View) (books : Books) (c r : ℕ) (parts : List Part) (k : ℕ) (part : Part) (less : k < length parts) (is : part ≡ get_or parts k part) (pairs : List (ℕ × IdMessage)) (indexes : List (ℕ × ℕ)) (before : ArePairs v books c r (take k parts) pairs indexes) where
   pub refused_at : {X : Type 0} (of : X → List (ℕ × IdMessage)) (fault : EventFault) → PairAnswers v books c r part (Err fault) → PairsAnswer v books c r parts (Err fault) of
   refused_at of fault answer given steps stand =
       refused fault books.lists.records (pair_of (wiring_of v) given (execution_in stand) (instance_at (wiring_of v) c r) part) (pairs_of (wiring_of v) given (execution_in stand) (instance_at (wiring_of v) c r) parts) of (answer given steps stand)
@@ -230,7 +226,7 @@ module _ (v : View) (books : Books) (c r : ℕ) (parts : List Part) (k : ℕ) (p
       ∙ pairs-refused (wiring_of v) given (execution_in stand) (instance_at (wiring_of v) c r) (take k parts) part (drop (k + 1) parts) (batch_with_ids books.lists.records pairs) refusal (before.are given steps stand) e)
 
   pub pushed_at : (n : ℕ) (m : IdMessage) → PairAnswers v books c r part (Ok (n, m)) → StandsAt v (instance_for v c r) (read_lists books.lists) n part.sent.index (message_with_id books.lists.records m)
-      → PairsSoFar v books c r (take (k + 1) parts) (pairs ++ (n, m) ∷ []) (indexes ++ (n, part.sent.index) ∷ [])
+      → ArePairs v books c r (take (k + 1) parts) (pairs ++ (n, m) ∷ []) (indexes ++ (n, part.sent.index) ∷ [])
   pushed_at n m answer at =
       let longer : take (k + 1) parts ≡ take k parts ++ part ∷ [] = take_more parts k part less ∙ ap (λ p. take k parts ++ p ∷ []) (sym is) in
       let joined : batch_with_ids books.lists.records (pairs ++ (n, m) ∷ []) ≡ batch_with_ids books.lists.records pairs ++ (n, message_with_id books.lists.records m) ∷ [] = map-append (pair_with_id books.lists.records) pairs ((n, m) ∷ []) in
@@ -246,10 +242,10 @@ module _ (v : View) (books : Books) (c r : ℕ) (parts : List Part) (k : ℕ) (p
 
   -- so the lists of the loop are after a part more
   pub pushed_so_far : (n : ℕ) (m : IdMessage) (index : ℕ) (longer : List (ℕ × IdMessage)) (known : List (ℕ × ℕ)) → PairAnswers v books c r part (Ok (n, m)) → StandsAt v (instance_for v c r) (read_lists books.lists) n part.sent.index (message_with_id books.lists.records m)
-      → longer ≡ pairs ++ (n, m) ∷ [] → known ≡ indexes ++ (n, index) ∷ [] → index ≡ part.sent.index → PairsSoFar v books c r (take (k + 1) parts) longer known
+      → longer ≡ pairs ++ (n, m) ∷ [] → known ≡ indexes ++ (n, index) ∷ [] → index ≡ part.sent.index → ArePairs v books c r (take (k + 1) parts) longer known
   pushed_so_far n m index longer known answer at pairs_are indexes_are same =
-      subst (λ l. PairsSoFar v books c r (take (k + 1) parts) l known) (sym pairs_are)
-      (subst (λ l. PairsSoFar v books c r (take (k + 1) parts) (pairs ++ (n, m) ∷ []) l) (sym (indexes_are ∙ ap (λ i. indexes ++ (n, i) ∷ []) same)) (pushed_at n m answer at))
+      subst (λ l. ArePairs v books c r (take (k + 1) parts) l known) (sym pairs_are)
+      (subst (λ l. ArePairs v books c r (take (k + 1) parts) (pairs ++ (n, m) ∷ []) l) (sym (indexes_are ∙ ap (λ i. indexes ++ (n, i) ∷ []) same)) (pushed_at n m answer at))
 
 -- what holds of all holds with one more of which it holds
 pub all_pushed : {X : Type 0} (P : X → Type 0) (xs longer : List X) (x : X) → longer ≡ xs ++ x ∷ [] → All P xs → P x → All P longer
@@ -259,11 +255,35 @@ all_pushed P xs longer x is all one k d less = elim (Has-append_cases (get_or lo
 ]
 
 -- no part yet, and all parts
-pub none_so_far : (v : View) (books : Books) (c r : ℕ) (parts : List Part) → PairsSoFar v books c r (take 0 parts) [] []
+pub none_so_far : (v : View) (books : Books) (c r : ℕ) (parts : List Part) → ArePairs v books c r (take 0 parts) [] []
 none_so_far v books c r parts = record {
   are = λ given steps stand. refl;
   indexes_are = record { sound = λ feed index h. absurd h; whole = λ feed message h. absurd h };
 }
 
-pub all_so_far : (v : View) (books : Books) (c r : ℕ) (parts : List Part) (k : ℕ) (pairs : List (ℕ × IdMessage)) (indexes : List (ℕ × ℕ)) → length parts ≤ k → PairsSoFar v books c r (take k parts) pairs indexes → PairsSoFar v books c r parts pairs indexes
-all_so_far v books c r parts k pairs indexes past before = subst (λ ps. PairsSoFar v books c r ps pairs indexes) (take_all k parts past) before
+pub all_so_far : (v : View) (books : Books) (c r : ℕ) (parts : List Part) (k : ℕ) (pairs : List (ℕ × IdMessage)) (indexes : List (ℕ × ℕ)) → length parts ≤ k → ArePairs v books c r (take k parts) pairs indexes → ArePairs v books c r parts pairs indexes
+all_so_far v books c r parts k pairs indexes past before = subst (λ ps. ArePairs v books c r ps pairs indexes) (take_all k parts past) before
+
+-- a part alone
+module _ (v : View) (books : Books) (c r : ℕ) (parts : List Part) (part : Part) (some : 0 < length parts) (is : part ≡ get_or parts 0 part) where
+  pub refused_alone : {X : Type 0} (of : X → List (ℕ × IdMessage)) (fault : EventFault) → PairAnswers v books c r part (Err fault) → PairsAnswer v books c r parts (Err fault) of
+  refused_alone of fault answer = refused_at v books c r parts 0 part some is [] [] (none_so_far v books c r parts) of fault answer
+
+  pub pair_alone : (n : ℕ) (m : IdMessage) (index : ℕ) → length parts ≤ 1 → PairAnswers v books c r part (Ok (n, m)) → StandsAt v (instance_for v c r) (read_lists books.lists) n part.sent.index (message_with_id books.lists.records m) → index ≡ part.sent.index
+      → ArePairs v books c r parts ((n, m) ∷ []) ((n, index) ∷ [])
+  pair_alone n m index one answer at same =
+      all_so_far v books c r parts 1 ((n, m) ∷ []) ((n, index) ∷ []) one
+      (pushed_so_far v books c r parts 0 part some is [] [] (none_so_far v books c r parts) n m index ((n, m) ∷ []) ((n, index) ∷ []) answer at refl refl same)
+
+-- a refusal is the same, whatever the pairs would have been
+read_alike : {A B X : Type 0} (f : A → X) (g : B → X) (asked : Result X Refusal) (fault : EventFault) → IsReadAs f asked (Err fault) → IsReadAs g asked (Err fault)
+read_alike f g asked NoInstance is = is
+read_alike f g asked NoMessage is = is
+read_alike f g asked NothingToTake is = is
+read_alike f g asked TooManyRows is = is
+read_alike f g asked TooManyMessages is = is
+read_alike f g asked NoMemory is = is
+
+pub refused_alike : {A B : Type 0} (v : View) (books : Books) (c r : ℕ) (parts : List Part) (of : A → List (ℕ × IdMessage)) (by : B → List (ℕ × IdMessage)) (fault : EventFault) → PairsAnswer v books c r parts (Err fault) of → PairsAnswer v books c r parts (Err fault) by
+refused_alike v books c r parts of by fault answer given steps stand =
+    read_alike (λ x. batch_with_ids books.lists.records (of x)) (λ x. batch_with_ids books.lists.records (by x)) (pairs_of (wiring_of v) given (execution_in stand) (instance_at (wiring_of v) c r) parts) fault (answer given steps stand)

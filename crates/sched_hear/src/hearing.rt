@@ -1,5 +1,5 @@
 //! How an instance hears messages: they come to its inbox, and what they set off is emitted.
-ghost use Rattle.std.specs.Prelude.{◌≡◌, ◌<◌, ◌∷◌, true, [], Some, length, map, slice_get, slice_index_or, OnOk, IfOk};
+ghost use Rattle.std.specs.Prelude.{◌≡◌, ◌<◌, ◌⊎◌, ◌∷◌, true, [], Some, Err, length, map, slice_get, slice_index_or, OnOk, IfOk, IfErr};
 ghost use Rattle.std.specs.List.{All};
 ghost use Rattle.topo_types.specs.View.{replicas_of};
 ghost use Rattle.inbox.specs.Events.{batch, deliver};
@@ -8,16 +8,16 @@ ghost use Rattle.inbox.specs.Wiring.{feeds_for};
 ghost use Rattle.sched_hear.specs.Net.{Runs, BooksRun, EventAnswers, EventLeaves};
 ghost use Rattle.sched_hear.specs.Numbered.{numbered_parts};
 ghost use Rattle.sched_lists.specs.Places.{instance_place};
-ghost use Rattle.sched_hear.specs.Code.Parts.{hears_itself};
-ghost use Rattle.sched_hear.specs.Code.Hearing.{EarCanHear, EarHears, KnowsMore, OneHears, HearingAnswers, HearingLeaves};
+ghost use Rattle.emitted.specs.declared.fault.EventFault.TheVariants.{NoMemory};
+ghost use Rattle.sched_hear.specs.Code.Parts.{hears_itself, PairsAnswer};
+ghost use Rattle.sched_hear.specs.Code.Hearing.{EarCanHear, EarHears, KnowsMore, OneHears, HearsParts, HearingAnswers, HearingLeaves};
 
 use crate::books::Books;
 use crate::numbered::{NumberedPart, part_of};
-use crate::parts::Pairs;
 use crate::seated::{Ear, Seated};
 use blz_boxes::Component;
 use blz_pool::Pool;
-use inbox::Timesteps;
+use inbox::{Message, Timesteps};
 use messages::Known;
 use sched_lists::{EventFault, emit_at};
 use sched_text::Part;
@@ -35,16 +35,20 @@ fn know_all(known: &mut Known, indexes: &[(u32, u32)]) -> Result<(), AllocError>
 }
 
 // Hears messages at once, and knows their indexes.
-fn hear_by(ear: &mut Ear, pool: &Pool, heard: Pairs) -> Result<Timesteps, AllocError>
-    requires { EarCanHear pool.now heard.pairs.items ear.old }
-    ensures { IfOk result (λ set. EarHears pool.now heard.pairs.items heard.indexes.items (record { steps = set.steps; whole = set.whole }) ear.old ear.new) }
+fn hear_by(
+    ear: &mut Ear,
+    pool: &Pool,
+    pairs: &[(u32, Message)],
+    indexes: &[(u32, u32)],
+) -> Result<Timesteps, AllocError>
+    requires { EarCanHear pool.now pairs.now ear.old }
+    ensures { IfOk result (λ set. EarHears pool.now pairs.now indexes.now (record { steps = set.steps; whole = set.whole }) ear.old ear.new) }
 {
     let Ear::Hears(inbox, known) = ear else {
         unreachable!()
     };
-    let Pairs { pairs, indexes } = heard;
-    let set = inbox.hear(pool, pairs)?;
-    know_all(known, indexes.as_slice())?;
+    let set = inbox.hear_batch(pool, pairs)?;
+    know_all(known, indexes)?;
     Ok(set)
 }
 
@@ -53,13 +57,14 @@ fn hear_at(
     seats: &mut Vec<Seated>,
     place: usize,
     pool: &Pool,
-    heard: Pairs,
+    pairs: &[(u32, Message)],
+    indexes: &[(u32, u32)],
 ) -> Result<Timesteps, AllocError>
     requires place { place < length seats.old.items }
-    requires can { (was : _) → slice_get seats.old.items place ≡ Some was → EarCanHear pool.now heard.pairs.items was.ear }
-    ensures { IfOk result (λ set. OneHears pool.now heard.pairs.items heard.indexes.items (record { steps = set.steps; whole = set.whole }) place seats.old.items seats.new.items) }
+    requires can { (was : _) → slice_get seats.old.items place ≡ Some was → EarCanHear pool.now pairs.now was.ear }
+    ensures { IfOk result (λ set. OneHears pool.now pairs.now indexes.now (record { steps = set.steps; whole = set.whole }) place seats.old.items seats.new.items) }
 {
-    hear_by(&mut seats[place].ear, pool, heard)
+    hear_by(&mut seats[place].ear, pool, pairs, indexes)
 }
 
 // Whether an instance is there and hears messages itself.
@@ -89,25 +94,55 @@ fn parts_of(
 
 impl Books {
     // An instance hears messages; all but its own books stay.
-    fn hear(
+    fn hear_pairs(
         &mut self,
         valid: &Valid,
         component: u32,
         replica: u32,
-        heard: Pairs,
+        pairs: &[(u32, Message)],
+        indexes: &[(u32, u32)],
     ) -> Result<Timesteps, AllocError>
         requires runs { BooksRun valid.now.view self.old }
         requires hears { hears_itself valid.now.view component replica ≡ true }
-        requires feeds { All (λ pair. pair.0 < length (feeds_for valid.now.view component replica)) heard.pairs.items }
-        requires given { All (λ pair. IsGiven self.old.lists.records pair.1) heard.pairs.items }
-        ensures seats { IfOk result (λ set. OneHears self.old.lists.records heard.pairs.items heard.indexes.items (record { steps = set.steps; whole = set.whole }) (instance_place valid.now.view component replica) self.old.seats.items self.new.seats.items) }
+        requires feeds { All (λ pair. pair.0 < length (feeds_for valid.now.view component replica)) pairs.now }
+        requires given { All (λ pair. IsGiven self.old.lists.records pair.1) pairs.now }
+        ensures seats { IfOk result (λ set. OneHears self.old.lists.records pairs.now indexes.now (record { steps = set.steps; whole = set.whole }) (instance_place valid.now.view component replica) self.old.seats.items self.new.seats.items) }
         ensures lists { self.new.lists ≡ self.old.lists }
         ensures places { self.new.places ≡ self.old.places }
         ensures logs { self.new.logs ≡ self.old.logs }
         ensures ended { self.new.ended ≡ self.old.ended }
     {
         let place = self.places.instance(valid, component, replica);
-        hear_at(&mut self.seats, place, self.lists.pool(), heard)
+        hear_at(&mut self.seats, place, self.lists.pool(), pairs, indexes)
+    }
+
+    // An instance hears parts; all but its own books stay, and where a part is refused, those too.
+    // One part alone makes no list.
+    fn hear(
+        &mut self,
+        alloc: Global,
+        valid: &Valid,
+        component: u32,
+        replica: u32,
+        parts: &[NumberedPart],
+    ) -> Result<Timesteps, EventFault>
+        requires runs { BooksRun valid.now.view self.old }
+        requires hears { hears_itself valid.now.view component replica ≡ true }
+        ensures heard { IfOk result (λ set. HearsParts valid.now.view self.old component replica parts.now (record { steps = set.steps; whole = set.whole }) self.new.seats.items) }
+        ensures refused { IfErr result (λ fault. PairsAnswer valid.now.view self.old component replica parts.now (Err fault) (λ pairs. pairs)) }
+        ensures stays { IfErr result (λ fault. fault ≡ NoMemory ⊎ (self.new ≡ self.old)) }
+        ensures lists { self.new.lists ≡ self.old.lists }
+        ensures places { self.new.places ≡ self.old.places }
+        ensures logs { self.new.logs ≡ self.old.logs }
+        ensures ended { self.new.ended ≡ self.old.ended }
+    {
+        if let [part] = parts {
+            let pair = self.pair_of(valid, component, replica, *part)?;
+            let indexes = [(pair.0, part.index)];
+            return Ok(self.hear_pairs(valid, component, replica, &[pair], &indexes)?);
+        }
+        let heard = self.pairs_of(alloc, valid, component, replica, parts)?;
+        Ok(self.hear_pairs(valid, component, replica, &heard.pairs, &heard.indexes)?)
     }
 }
 
@@ -132,8 +167,7 @@ impl Books {
     {
         valid.known();
         let place = self.places.instance(valid, component, replica);
-        let heard = self.pairs_of(alloc, valid, component, replica, parts)?;
-        let set = self.hear(valid, component, replica, heard)?;
+        let set = self.hear(alloc, valid, component, replica, parts)?;
         emit_at(
             alloc,
             shells,

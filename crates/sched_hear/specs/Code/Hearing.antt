@@ -1,5 +1,5 @@
 -- What changes where an instance hears a batch, and what is emitted by it.
-use Rattle.std.specs.Prelude.{◌≡◌, ◌<◌, ◌↔◌, true, ◌⊎◌, ◌++◌, ◌∷◌, [], ℕ, Option, Some, Result, Ok, Err, List, slice_get, slice_set}
+use Rattle.std.specs.Prelude.{◌≡◌, ◌<◌, ◌↔◌, true, ◌⊎◌, ◌++◌, ◌∷◌, [], ℕ, Option, Some, Result, Ok, Err, List, length, slice_get, slice_set}
 use Rattle.std.specs.List.{All}
 use Rattle.blz_value.specs.Members.{Has}
 use Rattle.blz_value.specs.Record.{Row}
@@ -12,14 +12,16 @@ use Rattle.inbox.specs.Instances.{Instance}
 use Rattle.inbox.specs.Timesteps.{SetOff, set_off}
 use Rattle.inbox.specs.Ids.{IsGiven, batch_with_ids}
 use Rattle.inbox.specs.Inbox.{HasHeard, IsFrom, feeds_in}
-use Rattle.inbox.specs.Wiring.{Wiring}
+use Rattle.inbox.specs.Wiring.{Wiring, feeds_for}
 use Rattle.inbox.specs.Executions.{Execution, after_event, after_hearing}
 use Rattle.inbox.specs.Events.{Part, Event, event, Step}
 use Rattle.inbox.specs.declared.inbox.Inbox.{Inbox}
 use Rattle.messages.specs.declared.message.Message.{Message as IdMessage}
 use Rattle.sched_lists.specs.Limits.{limit_of_event, limit_of_hearing}
 use Rattle.messages.specs.Known.{is_known}
+use Rattle.sched_lists.specs.Places.{instance_place}
 use Rattle.sched_hear.specs.Net.{Stands, EventAnswers}
+use Rattle.sched_hear.specs.Code.Parts.{ArePairs}
 use Rattle.sched_hear.specs.declared.books.Books.{Books}
 use Rattle.emitted.specs.declared.fault.EventFault.{EventFault}
 use Rattle.emitted.specs.declared.fault.EventFault.TheVariants.{NoInstance, NoMessage, NothingToTake, TooManyRows, TooManyMessages, NoMemory}
@@ -68,7 +70,13 @@ pub record OneHears (records : List Row) (batch : List (ℕ × IdMessage)) (inde
   pub changed : new ≡ slice_set old place seat
   pub hears : (was : Seated) → slice_get old place ≡ Some was → SeatHears records batch indexes s was seat
 
--- ---- what is emitted
+-- an instance heard some parts: their pairs, by their indexes, on feeds that it has
+pub record HearsParts (v : View) (old : Books) (c r : ℕ) (parts : List Part) (s : SetOff) (now : List Seated) : Type 0 where
+  pub pairs : List (ℕ × IdMessage)
+  pub indexes : List (ℕ × ℕ)
+  pub are : ArePairs v old c r parts pairs indexes
+  pub feeds : All (λ pair. pair.0 < length (feeds_for v c r)) pairs
+  pub heard : OneHears old.lists.records pairs indexes s (instance_place v c r) old.seats.items now
 
 -- ---- what an event leaves before a fault ends the net
 

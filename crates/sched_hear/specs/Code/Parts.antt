@@ -12,11 +12,12 @@ use Rattle.topo_types.specs.View.{View, replicas_of, is_order}
 use Rattle.inbox.specs.Messages.{Pair}
 use Rattle.inbox.specs.Instances.{Instance}
 use Rattle.inbox.specs.Ids.{pair_with_id, batch_with_ids}
-use Rattle.inbox.specs.Wiring.{wiring_of, instance_at}
+use Rattle.inbox.specs.Wiring.{wiring_of, instance_at, instance_for}
 use Rattle.inbox.specs.Growth.{feed_numbered}
 use Rattle.inbox.specs.Executions.{pair_of, pairs_of}
 use Rattle.inbox.specs.Events.{Part, Step, Refusal, no_instance, no_message}
 use Rattle.messages.specs.declared.message.Message.{Message as IdMessage}
+use Rattle.sched_lists.specs.Lists.{read_lists}
 use Rattle.sched_hear.specs.Net.{BooksStand, execution_in, list_on}
 use Rattle.sched_hear.specs.declared.books.Books.{Books}
 use Rattle.emitted.specs.declared.fault.EventFault.{EventFault}
@@ -58,6 +59,11 @@ StandsAt v i lists feed index message = slice_get (list_on v lists (feed_numbere
 pub record HaveIndexes (v : View) (i : Instance) (lists : List (List Message)) (pairs : List Pair) (indexes : List (ℕ × ℕ)) : Type 0 where
   pub sound : (feed index : ℕ) → Has (feed, index) indexes → (message : Message) × StandsAt v i lists feed index message × Has (feed, message) pairs
   pub whole : (feed : ℕ) (message : Message) → Has (feed, message) pairs → (index : ℕ) × StandsAt v i lists feed index message × Has (feed, index) indexes
+
+-- these are the pairs of some parts, and these their indexes
+pub record ArePairs (v : View) (books : Books) (c r : ℕ) (parts : List Part) (pairs : List (ℕ × IdMessage)) (indexes : List (ℕ × ℕ)) : Type 0 where
+  pub are : PairsAnswer v books c r parts (Ok pairs) (λ (ps : List (ℕ × IdMessage)). ps)
+  pub indexes_are : HaveIndexes v (instance_for v c r) (read_lists books.lists) (batch_with_ids books.lists.records pairs) indexes
 
 -- the instance is there and hears messages itself
 abbrev pub hears_itself : View → (component replica : ℕ) → Bool

@@ -4,6 +4,7 @@
 //! data and steps for which its books stand.
 ghost use Rattle.std.specs.Prelude.{◌≡◌, ◌<◌, ◌++◌, IfOk, OnOk, [], ◌∷◌, false, length};
 ghost use Rattle.std.specs.List.{flat_map};
+ghost use Rattle.blz_set.specs.References.{shown};
 ghost use Rattle.blz_value.specs.Text.{record_text};
 ghost use Rattle.topo_types.specs.View.{component_numbers, stream_numbers, stream_replicas};
 ghost use Rattle.inbox.specs.Completeness.{held_count_at, left_count};
@@ -15,7 +16,6 @@ ghost use Rattle.report_runs.specs.RunText as spec;
 ghost use Rattle.report_print.specs.Words.{inner_line};
 ghost use Rattle.report_runs.specs.Code.Runs.{IsNetOf};
 
-use blz_set::RecordSet;
 use blz_value::Record;
 use report_print::{Word, push_inner_line, push_line};
 use sched_run::Net;
@@ -31,13 +31,13 @@ pub(crate) struct Ran<'a> {
 }
 
 impl Ran<'_> {
-    /// The records of a sending replica of a stream.
-    pub(crate) fn contents(&self, stream: u32, replica: u32) -> Result<RecordSet, AllocError>
+    // The records of a sending replica of a stream, in record order.
+    fn sorted_rows(&self, stream: u32, replica: u32) -> Result<Vec<&Record>, AllocError>
         requires ran { IsNetOf self.now.valid.now.view self.now.net.now.valid.now.view self.now.net.now.books }
         requires within { replica < stream_replicas self.now.valid.now.view stream }
-        ensures { IfOk result (IsRead self.now.valid.now.view self.now.net.now.books (λ given x. contents (wiring_of self.now.valid.now.view) given x stream replica)) }
+        ensures { IfOk result (λ rows. IsRead self.now.valid.now.view self.now.net.now.books (λ given x. contents (wiring_of self.now.valid.now.view) given x stream replica) (shown rows.items)) }
     {
-        self.net.contents(stream, replica)
+        self.net.sorted_rows(stream, replica)
     }
 
     fn held(&self, component: u32, replica: u32) -> u64
@@ -61,11 +61,11 @@ impl Ran<'_> {
         self.net.is_complete()
     }
 
-    fn push_rows(&self, rows: &[Record], text: &mut Vec<u8>) -> Result<(), AllocError>
-        ensures { OnOk result (text.new.items ≡ text.old.items ++ flat_map (λ row. inner_line (record_text row ∷ [])) rows.now) }
+    fn push_rows(&self, rows: &[&Record], text: &mut Vec<u8>) -> Result<(), AllocError>
+        ensures { OnOk result (text.new.items ≡ text.old.items ++ flat_map (λ row. inner_line (record_text row ∷ [])) (shown rows.now)) }
     {
         for row in rows {
-            push_inner_line(self.alloc, &[Word::Row(row)], text)?;
+            push_inner_line(self.alloc, &[Word::Row(*row)], text)?;
         }
         Ok(())
     }
@@ -74,11 +74,11 @@ impl Ran<'_> {
         &self,
         stream: u32,
         replica: u32,
-        rows: &[Record],
+        rows: &[&Record],
         text: &mut Vec<u8>,
     ) -> Result<(), AllocError>
         requires { stream < length self.now.valid.now.view.streams }
-        ensures { OnOk result (text.new.items ≡ text.old.items ++ spec.rows_lines self.now.valid.now.view stream replica rows.now) }
+        ensures { OnOk result (text.new.items ≡ text.old.items ++ spec.rows_lines self.now.valid.now.view stream replica (shown rows.now)) }
     {
         let words = [
             Word::Plain(self.valid.stream_name(stream).as_str()),
@@ -95,8 +95,8 @@ impl Ran<'_> {
         requires replica { replica < stream_replicas self.now.valid.now.view stream }
         ensures { OnOk result (IsRead self.now.valid.now.view self.now.net.now.books (λ given x. text.old.items ++ spec.contents_lines self.now.valid.now.view given x stream replica) text.new.items) }
     {
-        let contents = self.contents(stream, replica)?;
-        self.push_rows_of(stream, replica, contents.rows(), text)?;
+        let rows = self.sorted_rows(stream, replica)?;
+        self.push_rows_of(stream, replica, &rows, text)?;
         Ok(())
     }
 

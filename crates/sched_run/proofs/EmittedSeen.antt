@@ -1,8 +1,9 @@
 -- What a net finds of an emitted list is the list that the execution has for which its books stand.
-use Rattle.std.proofs.Common.{◌≡◌, ◌<◌, ◌≤◌, ◌+◌, ◌++◌, ◌&&◌, ℕ, suc, Bool, true, false, Option, None, Some, List, [], ◌∷◌, length, map, get_or, slice_get, nat_lt, refl, ap, ◌∙◌, sym, subst, inl, inr, arith, take}
+use Rattle.std.proofs.Common.{◌≡◌, ◌<◌, ◌≤◌, ◌+◌, ◌++◌, ◌&&◌, ℕ, suc, Bool, true, false, Option, None, Some, List, [], ◌∷◌, Bor, length, map, get_or, slice_get, nat_lt, refl, ap, ◌∙◌, sym, subst, inl, inr, arith, take}
 use Rattle.std.specs.Prelude.{Result, Ok, Err, IfOk, if◌then◌else◌}
 use Rattle.std.specs.List.{All, cons_option}
-use Rattle.std.specs.Option.{option_map, option_map_or, option_and_then}
+use Rattle.std.specs.List.Sorted.{IsPermutation, IsSorted}
+use Rattle.std.specs.Option.{option_copied, option_map, option_map_or, option_and_then}
 use Rattle.std.proofs.lemmas.Bool.{cases_lt}
 use Rattle.std.proofs.lemmas.List.{length-map, get_or_past, map-append, take_more}
 use Rattle.std.proofs.lemmas.List.Elements.{filter_map-append}
@@ -10,8 +11,9 @@ use Rattle.std.proofs.lemmas.List.Sums.{get_or-le-sum_by}
 use Rattle.std.proofs.lemmas.Option.{slice_get-map, slice_get_past}
 use Rattle.blz_pool.specs.Pool.{IsPool}
 use Rattle.blz_set.specs.RecordSet.{row_limit}
+use Rattle.blz_set.specs.References.{shown}
 use Rattle.blz_value.specs.Members.{Has}
-use Rattle.blz_value.specs.Record.{Row as Record}
+use Rattle.blz_value.specs.Record.{Row as Record, record_cmp}
 use Rattle.blz_value.specs.Sets.{set_of}
 use Rattle.blz_value.proofs.Membership.{Has-get_or}
 use Rattle.blz_value.proofs.RowSets.{length-set_of-le}
@@ -42,10 +44,11 @@ use Rattle.sched_lists.specs.Places.{list_place, list_count}
 use Rattle.sched_run.specs.Reading.{AreEmitted, IsOrdered}
 use Rattle.sched_hear.specs.declared.books.Books.{Books}
 use Rattle.sched_hear.specs.Seen.{list_seen}
-use Rattle.sched_hear.proofs.Found.{list_there, no_stream_there, number_of_place}
+use Rattle.sched_hear.proofs.Found.{list_there, lt-not, no_stream_there, number_of_place}
 use Rattle.emitted.proofs.ListsLemmas.{given-list, length-read_lists, read-at}
 use Rattle.sched_hear.proofs.Showing.{emitted_shown}
 use Rattle.sched_run.proofs.RecordsCounted.{length-set_of-rows}
+use Rattle.sched_run.proofs.SortedRows.{set_of-shown}
 
 -- ---- rows of messages by ids
 
@@ -63,13 +66,27 @@ row_given records (Row id ∷ list) r given (inr h) = row_given records list r (
 row_given records (Seal key count ∷ list) r given h = row_given records list r (λ k d within. given (suc k) d (omega (arith, within))) h
 
 -- one message more
-pub rows_more : (records : List Record) (messages : List IdMessage) (i : ℕ) (m : IdMessage) → i < length messages → m ≡ get_or messages i m
+rows_more : (records : List Record) (messages : List IdMessage) (i : ℕ) (m : IdMessage) → i < length messages → m ≡ get_or messages i m
     → rows_in (read_list records (take (i + 1) messages)) ≡ rows_in (read_list records (take i messages)) ++ cons_option (row_in (message_with_id records m)) []
 rows_more records messages i m within at =
     ap (λ l. rows_in (read_list records l)) (take_more messages i m within)
     ∙ ap (λ z. rows_in (read_list records (take i messages ++ z ∷ []))) (sym at)
     ∙ ap rows_in (map-append (message_with_id records) (take i messages) (m ∷ []))
     ∙ filter_map-append row_in (read_list records (take i messages)) (message_with_id records m ∷ [])
+
+-- and what is lent of it
+pub lent_more : (records : List Record) (messages : List IdMessage) (i : ℕ) (m : IdMessage) (refs : List (Bor Record)) (o : Option (Bor Record)) → i < length messages → m ≡ get_or messages i m
+    → option_copied o ≡ row_in (message_with_id records m) → shown refs ≡ rows_in (read_list records (take i messages)) → shown (refs ++ cons_option o []) ≡ rows_in (read_list records (take (i + 1) messages))
+lent_more records messages i m refs o within at lent before =
+    map-append (λ (z : Bor Record). z.now) refs (cons_option o [])
+    ∙ ap (λ l. shown refs ++ l) (copied o)
+    ∙ ap (λ l. l ++ cons_option (option_copied o) []) before
+    ∙ ap (λ r. rows_in (read_list records (take i messages)) ++ cons_option r []) lent
+    ∙ sym (rows_more records messages i m within at)
+  where
+    copied : (o : Option (Bor Record)) → shown (cons_option o []) ≡ cons_option (option_copied o) []
+    copied None = refl
+    copied (Some r) = refl
 
 -- what follows of a value without a fault
 pub if_ok_so : {A E : Type 0} (r : Result A E) (P Q : A → Type 0) → ((a : A) → P a → Q a) → IfOk r P → IfOk r Q
@@ -99,6 +116,16 @@ pub few_read_rows : (l : Listed) (list : List IdMessage) (rows : List Record) �
 few_read_rows l list rows are inside few =
     omega (arith, length-set_of-le rows, ap (λ (z : List Record). length z) are, few_rows_in (read_list l.records list), length-map list (message_with_id l.records), inside, few)
 
+-- and none of a replica that doesn't send
+pub none_past : (v : View) (lists : List (List IdMessage)) (s r : ℕ) → stream_replicas v s ≤ r → list_seen v lists s r ≡ []
+none_past v lists s r past =
+    ap (λ t. if nat_lt s (length v.streams) && t then list_at lists (list_place v s r) else []) (lt-not r (stream_replicas v s) past)
+    ∙ by_test (nat_lt s (length v.streams))
+  where
+    by_test : (b : Bool) → (if b && false then list_at lists (list_place v s r) else []) ≡ []
+    by_test true = refl
+    by_test false = refl
+
 -- ---- an emitted list
 
 no_list : (v : View) (given : Data) (x : Execution) (s r : ℕ) → length v.streams ≤ s → emitted_list (wiring_of v) given x s r ≡ []
@@ -106,15 +133,15 @@ unfolding wiring_of
 no_list v given x s r past = ap (λ (o : Option Stream). option_map_or (λ (line : Stream). list_from line.origin (wiring_of v) given x line s r) o []) (slice_get_past v.streams s past)
 
 module _ (v : View) (given : Data) (steps : List Step) (b : Books) (stand : BooksStand v given steps b) (valid : IsValid v) where
-  shown : (s r : ℕ) → s < length v.streams → r < stream_replicas v s → list_at (read_lists b.lists) (list_place v s r) ≡ emitted_list (wiring_of v) given (execution_in stand) s r
-  shown s r there sends = emitted_shown v given (execution_in stand) stand.seats stand.tables (read_lists b.lists) valid stand.stands.stands stand.shows s r there sends
+  shown_list : (s r : ℕ) → s < length v.streams → r < stream_replicas v s → list_at (read_lists b.lists) (list_place v s r) ≡ emitted_list (wiring_of v) given (execution_in stand) s r
+  shown_list s r there sends = emitted_shown v given (execution_in stand) stand.seats stand.tables (read_lists b.lists) valid stand.stands.stands stand.shows s r there sends
 
   pub seen_emitted : (s r : ℕ) → r < stream_replicas v s → read_list b.lists.records (list_seen v b.lists.lists s r) ≡ emitted_list (wiring_of v) given (execution_in stand) s r
   seen_emitted s r sends = elim (cases_lt s (length v.streams)) [
     | inl there ↦
         ap (read_list b.lists.records) (list_there v b.lists.lists s r there sends)
         ∙ read-at b.lists.records b.lists.lists (list_place v s r)
-        ∙ shown s r there sends
+        ∙ shown_list s r there sends
     | inr past ↦
         ap (read_list b.lists.records) (no_stream_there v b.lists.lists s r past)
         ∙ sym (no_list v given (execution_in stand) s r past)
@@ -149,6 +176,14 @@ module _ (v : View) (given : Data) (steps : List Step) (b : Books) (stand : Book
     pub seen_contents : (rows : List Record) → rows ≡ rows_in (read_list b.lists.records list) → set_of rows ≡ contents (wiring_of v) given (execution_in stand) s r
     seen_contents rows read = ap set_of read ∙ ap (λ (l : List Message). set_of (rows_in l)) found
 
+    -- each record once
+    pub seen_once : (rows : List Record) → rows ≡ rows_in (read_list b.lists.records list) → length (set_of rows) ≡ length rows
+    seen_once rows read = ap (λ (l : List Record). length l) (seen_contents rows read) ∙ sym seen_count ∙ sym (ap (λ (l : List Record). length l) read)
+
+    -- so sorted they are their set
+    pub seen_sorted : (refs sorted : List (Bor Record)) → shown refs ≡ rows_in (read_list b.lists.records list) → IsPermutation refs sorted → IsSorted (λ x y. record_cmp x.now y.now) sorted → shown sorted ≡ set_of (shown refs)
+    seen_sorted refs sorted read moved up = set_of-shown refs sorted moved up (seen_once (shown refs) read)
+
 module _ (v : View) (given : Data) (steps : List Step) (b : Books) (stand : BooksStand v given steps b) (valid : IsValid v) (s r : ℕ) (sends : r < stream_replicas v s) where
   -- the record of a message that is found
   pub seen_record : (index : ℕ) (o : Option IdMessage) → o ≡ slice_get (list_seen v b.lists.lists s r) index → option_and_then (λ m. row_in (message_with_id b.lists.records m)) o ≡ option_and_then row_in (slice_get (emitted_list (wiring_of v) given (execution_in stand) s r) index)
@@ -176,11 +211,14 @@ is_order_output v s r c o program valid is =
     }
 
 module _ (v : View) (given : Data) (steps : List Step) (b : Books) (stand : BooksStand v given steps b) (valid : IsValid v) where
+  -- the replica sends
+  pub ordered_sends : (s r c o : ℕ) (program : Program) → IsOrdered v s r c o program → r < stream_replicas v s
+  ordered_sends s r c o program is = subst (λ n. r < n) (sym (ap (senders_of v) is.origin)) is.sends
+
   pub seen_in_order : (s r c o : ℕ) (program : Program) (list : List IdMessage) (rows : List Record) → IsOrdered v s r c o program → list ≡ list_seen v b.lists.lists s r → rows ≡ rows_in (read_list b.lists.records list)
       → set_of rows ≡ fold_rows program (take (most_taken ((execution_in stand).lives c r)) ((execution_in stand).logs c)) o
   seen_in_order s r c o program list rows is are read =
-      let sends : r < stream_replicas v s = subst (λ n. r < n) (sym (ap (senders_of v) is.origin)) is.sends in
-      seen_contents v given steps b stand valid s r sends list are rows read
+      seen_contents v given steps b stand valid s r (ordered_sends s r c o program is) list are rows read
       ∙ sequencer_law (wiring_of v) given (execution_in stand) s c o r program (is_order_output v s r c o program valid is)
 
   -- ---- all records
@@ -197,10 +235,10 @@ module _ (v : View) (given : Data) (steps : List Step) (b : Books) (stand : Book
           replica = at.1;
           there = at.2;
           sends = at.3;
-          row = subst (λ l. Has r (rows_in l)) (shown v given steps b stand valid at.0 at.1 at.2 at.3) (subst (λ n. Has r (rows_in (list_at (read_lists b.lists) n))) (sym at.4) m.2);
+          row = subst (λ l. Has r (rows_in l)) (shown_list v given steps b stand valid at.0 at.1 at.2 at.3) (subst (λ n. Has r (rows_in (list_at (read_lists b.lists) n))) (sym at.4) m.2);
         };
     whole = λ r e.
         let at : ℕ = list_place v e.stream e.replica in
         row_given b.lists.records (list_at b.lists.lists at) r (given-list b.lists at all)
-        (subst (λ l. Has r (rows_in l)) (sym (read-at b.lists.records b.lists.lists at ∙ shown v given steps b stand valid e.stream e.replica e.there e.sends)) e.row);
+        (subst (λ l. Has r (rows_in l)) (sym (read-at b.lists.records b.lists.lists at ∙ shown_list v given steps b stand valid e.stream e.replica e.there e.sends)) e.row);
   }

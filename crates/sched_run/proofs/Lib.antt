@@ -2,6 +2,7 @@ pub mod ForgettingLemmas
 pub mod FirstSeats
 pub mod FirstBooks
 pub mod RecordsCounted
+pub mod SortedRows
 pub mod EmittedSeen
 pub mod HeldSeen
 pub mod Counting

@@ -1,8 +1,9 @@
 //! What is read of a net: its emitted lists, their records, and what is held.
-ghost use Rattle.std.specs.Prelude.{◌≡◌, ◌<◌, ◌≤◌, ◌++◌, [], length, slice_get, IfOk, IfSome, OnOk, Some, None, option_copied};
-ghost use Rattle.std.specs.List.{All, cons_option, count_by};
+ghost use Rattle.std.specs.Prelude.{◌≡◌, ◌<◌, ◌≤◌, [], length, slice_get, IfOk, IfSome, Some, None, option_copied};
+ghost use Rattle.std.specs.List.{All, count_by};
 ghost use Rattle.std.specs.Option.{option_and_then};
 ghost use Rattle.blz_set.specs.RecordSet.{row_limit};
+ghost use Rattle.blz_set.specs.References.{shown};
 ghost use Rattle.blz_value.specs.Sets.{set_of};
 ghost use Rattle.topo_types.specs.Messages.{row_in, rows_in};
 ghost use Rattle.topo_types.specs.View.{replicas_of, stream_replicas};
@@ -23,7 +24,18 @@ use blz_set::{RecordSet, SetFault};
 use blz_value::Record;
 use inbox::Message;
 use sched_hear::{Ear, Seated};
-use std::alloc::AllocError;
+use std::alloc::{AllocError, Global};
+
+// Copies of the rows behind references.
+fn copies_of(alloc: Global, refs: &[&Record]) -> Result<Vec<Record>, AllocError>
+    ensures { IfOk result (λ rows. rows.items ≡ shown refs.now) }
+{
+    let mut rows = Vec::with_capacity(alloc, refs.len())?;
+    for row in refs {
+        rows.push(row.copy()?)?;
+    }
+    Ok(rows)
+}
 
 // The set of some rows, of which not too many are distinct.
 fn set_within(rows: Vec<Record>) -> Result<RecordSet, AllocError>
@@ -89,25 +101,16 @@ impl Net<'_> {
         }
     }
 
-    // Adds a copy of the record of a message, where it is one.
-    fn push_row(&self, message: &Message, rows: &mut Vec<Record>) -> Result<(), AllocError>
-        requires { IsGiven self.now.books.lists.records message.now }
-        ensures { OnOk result (rows.new.items ≡ rows.old.items ++ cons_option (row_in (message_with_id self.now.books.lists.records message.now)) []) }
-    {
-        if let Some(row) = self.row_of(message) {
-            rows.push(row.copy()?)?;
-        }
-        Ok(())
-    }
-
-    // Copies of the records of some messages, in their order.
-    fn rows_of(&self, messages: &[Message]) -> Result<Vec<Record>, AllocError>
+    // The records of some messages, in their order.
+    fn rows_of(&self, messages: &[Message]) -> Result<Vec<&Record>, AllocError>
         requires { All (IsGiven self.now.books.lists.records) messages.now }
-        ensures { IfOk result (λ rows. rows.items ≡ rows_in (read_list self.now.books.lists.records messages.now)) }
+        ensures { IfOk result (λ rows. shown rows.items ≡ rows_in (read_list self.now.books.lists.records messages.now)) }
     {
-        let mut rows = Vec::new(self.alloc);
+        let mut rows = Vec::with_capacity(self.alloc, messages.len())?;
         for message in messages {
-            self.push_row(message, &mut rows)?;
+            if let Some(row) = self.row_of(message) {
+                rows.push(row)?;
+            }
         }
         Ok(rows)
     }
@@ -159,9 +162,23 @@ impl Net<'_> {
         }
     }
 
-    /// The records of the emitted list of a sending replica of a stream; none where it isn't there. Of
-    /// a replica of an Order component they are what its program puts out over the first entries of
-    /// the log (`ordered`). It takes a copy of each. The error is want of memory.
+    /// The records of the emitted list of a sending replica of a stream, lent, each once and in record
+    /// order; none where it isn't there. Of a replica of an Order component they are what its program
+    /// puts out over the first entries of the log (`ordered`). It takes the time of a sort, and memory
+    /// for a reference to each message. The error is want of memory.
+    pub fn sorted_rows(&self, stream: u32, replica: u32) -> Result<Vec<&Record>, AllocError>
+        requires runs { BooksRun self.now.valid.now.view self.now.books }
+        ensures contents { replica < stream_replicas self.now.valid.now.view stream → IfOk result (λ rows. IsRead self.now.valid.now.view self.now.books (λ given x. contents (wiring_of self.now.valid.now.view) given x stream replica) (shown rows.items)) }
+        ensures ordered { IfOk result (λ rows. ReadInOrder self.now.valid.now.view self.now.books stream replica (shown rows.items)) }
+        ensures past { stream_replicas self.now.valid.now.view stream ≤ replica → IfOk result (λ rows. shown rows.items ≡ []) }
+    {
+        self.valid.known();
+        let mut rows = self.rows_of(self.books.messages(self.valid, stream, replica))?;
+        rows.sort_unstable();
+        Ok(rows)
+    }
+
+    /// The same records as a set of copies, which outlives the net. The error is want of memory.
     pub fn contents(&self, stream: u32, replica: u32) -> Result<RecordSet, AllocError>
         requires runs { BooksRun self.now.valid.now.view self.now.books }
         ensures contents { replica < stream_replicas self.now.valid.now.view stream → IfOk result (IsRead self.now.valid.now.view self.now.books (λ given x. contents (wiring_of self.now.valid.now.view) given x stream replica)) }
@@ -170,7 +187,8 @@ impl Net<'_> {
     {
         self.valid.known();
         self.books.lists.known();
-        set_within(self.rows_of(self.books.messages(self.valid, stream, replica))?)
+        let rows = self.rows_of(self.books.messages(self.valid, stream, replica))?;
+        set_within(copies_of(self.alloc, &rows)?)
     }
 
     /// How many records the emitted list of a sending replica of a stream has; 0 where it isn't there.

@@ -1,14 +1,14 @@
 -- A trial answers whether its lines yield the record.
-use Rattle.std.proofs.Common.{◌≡◌, ◌∙◌, ◌++◌, ◌↔◌, ◌<◌, ◌≤◌, ◌&&◌, Bool, true, false, IsTrue, nat_lt, OnOk, List, [], Option, Result, Ok, Err, inl, inr, refl, sym, subst, ap, arith}
+use Rattle.std.proofs.Common.{◌≡◌, ◌∙◌, ◌++◌, ◌<◌, ◌≤◌, ◌&&◌, ◌||◌, Bool, true, false, nat_lt, OnOk, List, [], ◌∷◌, Bor, Option, Result, Ok, Err, inl, inr, refl, sym, subst, ap, arith}
+use Rattle.std.specs.Cmp.{eq_by_cmp_equiv}
 use Rattle.std.specs.List.{list_any}
 use Rattle.std.proofs.lemmas.Bool.{cases_Bool}
 use Rattle.std.proofs.lemmas.Bool.Decides.{nat_tests}
-use Rattle.blz_value.specs.Members.{Has}
+use Rattle.blz_set.specs.References.{shown}
 use Rattle.blz_value.specs.Record.{Row}
-use Rattle.blz_value.proofs.Membership.{any_from_Has, Has-from_any}
+use Rattle.blz_value.specs.RecordOrder.{record_cmp_total}
 use Rattle.bloom_ast.specs.declared.program.Program.{Program}
 use Rattle.bloom_ast.specs.Step.{Sets}
-use Rattle.messages.proofs.MessagesLemmas.{is_same_row-is, is_same_row-itself}
 use Rattle.topo_types.specs.Data.{Data}
 use Rattle.topo_types.specs.Messages.{is_same_row}
 use Rattle.topo_types.specs.View.{View, stream_replicas}
@@ -26,30 +26,26 @@ use Rattle.why_trace.specs.Code.Trials.{Sought, is_yielded_by, TellsFound}
 
 -- ---- the record among the contents
 
--- what tells whether a list has a row is the test by which the definition asks
-any_told : (r : Row) (rows : List Row) (found : Bool) → IsTrue found ↔ Has r rows → found ≡ list_any (is_same_row r) rows
-any_told r rows true tells = sym (any_from_Has (is_same_row r) r rows (tells.0 refl) (is_same_row-itself r))
-any_told r rows false tells = elim (cases_Bool (list_any (is_same_row r) rows)) [
-  | inl e ↦
-      let m = Has-from_any (is_same_row r) rows e in
-      let is : false ≡ true = tells.1 (subst (λ (q : Row). Has q rows) (sym (is_same_row-is r m.0 m.2)) m.1) in
-      cc
-  | inr e ↦ sym e
-]
+-- a test of the rows behind references is the test by which the definition asks
+any_shown : (r : Row) (refs : List (Bor Row)) → list_any (λ (y : Bor Row). is_same_row y.now r) refs ≡ list_any (is_same_row r) (shown refs)
+any_shown r [] = refl
+any_shown r (y ∷ refs) =
+    ap (λ t. t || list_any (λ (z : Bor Row). is_same_row z.now r) refs) ((eq_by_cmp_equiv record_cmp_total).symm y.now r)
+    ∙ ap (λ t. is_same_row r y.now || t) (any_shown r refs)
 
-module _ (v : View) (b : Books) (sought : Wanted) (rows : List Row) (found : Bool) (tells : IsTrue found ↔ Has sought.row rows) where
+module _ (v : View) (b : Books) (sought : Wanted) (rows : List Row) (found : Bool) (tells : found ≡ list_any (is_same_row sought.row) rows) where
   -- where the replica sends the stream
   record_sent : nat_lt sought.replica (stream_replicas v sought.stream) ≡ true → IsRead v b (λ given x. contents (wiring_of v) given x sought.stream sought.replica) rows
       → IsRead v b (λ given x. has_record v given sought x) found
   record_sent sends read given steps stand =
-      any_told sought.row rows found tells
+      tells
       ∙ ap (λ (l : List Row). list_any (is_same_row sought.row) l) (read given steps stand)
       ∙ ap (λ t. t && list_any (is_same_row sought.row) (contents (wiring_of v) given (execution_in stand) sought.stream sought.replica)) (sym sends)
 
   -- and where it doesn't
   record_unsent : nat_lt sought.replica (stream_replicas v sought.stream) ≡ false → rows ≡ [] → IsRead v b (λ given x. has_record v given sought x) found
   record_unsent sends none given steps stand =
-      any_told sought.row rows found tells
+      tells
       ∙ ap (λ (l : List Row). list_any (is_same_row sought.row) l) none
       ∙ ap (λ t. t && list_any (is_same_row sought.row) (contents (wiring_of v) given (execution_in stand) sought.stream sought.replica)) (sym sends)
 
@@ -61,13 +57,13 @@ module _ (v : View) (b : Books) (sought : Wanted) (rows : List Row) (found : Boo
   ]
 
 -- as a net of an equal topology says it
-pub record_in : (v w : View) (b : Books) (sought : Wanted) (rows : List Row) (found : Bool) → IsTrue found ↔ Has sought.row rows → w ≡ v
-    → (sought.replica < stream_replicas w sought.stream → IsRead w b (λ given x. contents (wiring_of w) given x sought.stream sought.replica) rows) → (stream_replicas w sought.stream ≤ sought.replica → rows ≡ [])
+pub record_in : (v w : View) (b : Books) (sought : Wanted) (refs : List (Bor Row)) (found : Bool) → found ≡ list_any (λ (y : Bor Row). is_same_row y.now sought.row) refs → w ≡ v
+    → (sought.replica < stream_replicas w sought.stream → IsRead w b (λ given x. contents (wiring_of w) given x sought.stream sought.replica) (shown refs)) → (stream_replicas w sought.stream ≤ sought.replica → shown refs ≡ [])
     → IsRead v b (λ given x. has_record v given sought x) found
-record_in v w b sought rows found tells same read none =
-    record_told v b sought rows found tells
-    (subst (λ (u : View). sought.replica < stream_replicas u sought.stream → IsRead u b (λ given x. contents (wiring_of u) given x sought.stream sought.replica) rows) same read)
-    (subst (λ (u : View). stream_replicas u sought.stream ≤ sought.replica → rows ≡ []) same none)
+record_in v w b sought refs found tells same read none =
+    record_told v b sought (shown refs) found (tells ∙ any_shown sought.row refs)
+    (subst (λ (u : View). sought.replica < stream_replicas u sought.stream → IsRead u b (λ given x. contents (wiring_of u) given x sought.stream sought.replica) (shown refs)) same read)
+    (subst (λ (u : View). stream_replicas u sought.stream ≤ sought.replica → shown refs ≡ []) same none)
 
 -- ---- lines that were applied
 

@@ -80,7 +80,7 @@ impl Trial<'_> {
 /// error is want of memory, after which nothing is said of the bench.
 ///
 /// Each line of each pass takes a trial: a copy of the data, the events up to the first that is
-/// refused, and a copy of the records that the replica has sent.
+/// refused, and references to the records that the replica has sent.
 pub fn trace(
     alloc: Global,
     valid: &Valid,

@@ -69,8 +69,8 @@ impl Trial<'_> {
         requires runs { BooksRun self.now.valid.now.view net.now.books }
         ensures { IfOk result (IsRead self.now.valid.now.view net.now.books (λ given x. has_record self.now.valid.now.view given (sought_of self.now).wanted x)) }
     {
-        let contents = net.contents(self.stream, self.replica)?;
-        Ok(contents.contains(self.row))
+        let rows = net.sorted_rows(self.stream, self.replica)?;
+        Ok(rows.contains(&self.row))
     }
 
     // The same where all lines were applied; where one was refused nothing is found.
@@ -87,7 +87,7 @@ impl Trial<'_> {
 
     /// Whether some lines yield the record: they happen on a net of their own with shells of the bench,
     /// which go back behind the others. Takes a copy of the data, the events up to the first that is
-    /// refused, and a copy of the records that the replica has sent. The error is want of memory.
+    /// refused, and references to the records that the replica has sent. The error is want of memory.
     pub(crate) fn is_yielded_by(
         &self,
         lines: &[(u32, Event)],

@@ -1,13 +1,24 @@
-use Rattle.std.proofs.Common.{◌∙◌, ◌++◌, ap, sym, []}
+use Rattle.std.proofs.Common.{◌≡◌, ◌∙◌, ◌++◌, [], None, Some, Option, Bor, ap, sym, append-nil, rules}
 use Rattle.std.specs.List.{cons_option}
-use Rattle.topo_types.specs.Messages.{row_in}
-use Rattle.inbox.specs.Ids.{message_with_id}
-use Rattle.sched_run.proofs.EmittedSeen.{rows_more}
+use Rattle.blz_set.specs.References.{shown}
+use Rattle.blz_value.specs.Record.{Row}
+use Rattle.sched_run.proofs.EmittedSeen.{lent_more}
 use Rattle.sched_run.proofs.net.Net.rows_of.Goals as goal
+use Rattle.sched_run.proofs.net.Net.rows_of.Goals.{in-Some+in_ok-push, in_default}
 
 pub loop-message-preserved : goal.loop-message-preserved
 loop-message-preserved g c =
-    let records = c.args.self.now.books.lists.records in
-    c.in_ok-push_row.ensures
-    ∙ ap (λ rows. rows ++ cons_option (row_in (message_with_id records c.message-item.result)) []) c.loop-message.invariant
-    ∙ sym (rows_more records c.args.messages.now c.loop-message.message-index c.message-item.result c.loop-message-test.true c.message-item.is)
+    let refs = c.loop-message.rows.items in
+    let more = lent_more c.args.self.now.books.lists.records c.args.messages.now c.loop-message.message-index c.message-item.result refs c.row_of.result c.loop-message-test.true c.message-item.is c.row_of.ensures c.loop-message.invariant in
+    elim c.match-row_of.branch [
+      | in-Some+in_ok-push w ↦
+          let lent : c.row_of.result ≡ Some w.in-Some.row = search rules in
+          ap shown (ap (λ v. v.items) w.rows-is ∙ w.in_ok-push.ensures.items)
+          ∙ ap (λ (o : Option (Bor Row)). shown (refs ++ cons_option o [])) (sym lent)
+          ∙ more
+      | in_default w ↦
+          let none : c.row_of.result ≡ None = search rules in
+          ap shown (ap (λ v. v.items) w.rows-is ∙ sym (append-nil refs))
+          ∙ ap (λ (o : Option (Bor Row)). shown (refs ++ cons_option o [])) (sym none)
+          ∙ more
+    ]

@@ -81,8 +81,8 @@ impl Hash for Value {
     fn hash<H: Hasher>(&self, state: &mut H) {
         match self {
             Value::Int(n) => {
-                state.write_u8(0xfe);
-                state.write_i64(*n);
+                let bits = u128::from(n.cast_unsigned());
+                state.write_u128(bits * 0x1_0000_0000_0000_0000 + 0xfe);
             }
             Value::Text(s) => s.hash(state),
         }

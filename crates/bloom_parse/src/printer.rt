@@ -44,29 +44,23 @@ fn push_op(op: Op, into: &mut Vec<u8>) -> Result<(), AllocError>
     }
 }
 
-fn push_term(alloc: Global, term: &Term, into: &mut Vec<u8>) -> Result<(), AllocError>
+fn push_term(term: &Term, into: &mut Vec<u8>) -> Result<(), AllocError>
     ensures { OnOk result (into.new.items ≡ into.old.items ++ spelling.spelled (trees.term_token term.now)) }
 {
     match term {
         Term::Column(name) => push_name(name, into),
-        Term::Literal(value) => write_value(alloc, value, into),
+        Term::Literal(value) => write_value(value, into),
     }
 }
 
-fn push_comparison(
-    alloc: Global,
-    left: &Term,
-    op: Op,
-    right: &Term,
-    into: &mut Vec<u8>,
-) -> Result<(), AllocError>
+fn push_comparison(left: &Term, op: Op, right: &Term, into: &mut Vec<u8>) -> Result<(), AllocError>
     ensures { OnOk result (into.new.items ≡ into.old.items ++ spec.text_of (trees.term_token left.now ∷ terminals.Sign op ∷ trees.term_token right.now ∷ [])) }
 {
-    push_term(alloc, left, into)?;
+    push_term(left, into)?;
     into.push(b' ')?;
     push_op(op, into)?;
     into.push(b' ')?;
-    push_term(alloc, right, into)
+    push_term(right, into)
 }
 
 impl Place {
@@ -98,32 +92,27 @@ fn push_if(needed: bool, byte: u8, into: &mut Vec<u8>) -> Result<(), AllocError>
     Ok(())
 }
 
-pub(crate) fn push_pred(
-    alloc: Global,
-    pred: &Pred,
-    place: Place,
-    into: &mut Vec<u8>,
-) -> Result<(), AllocError>
+pub(crate) fn push_pred(pred: &Pred, place: Place, into: &mut Vec<u8>) -> Result<(), AllocError>
     ensures { OnOk result (into.new.items ≡ into.old.items ++ spec.text_of (printing.placed place (spec.levels (formula_of pred.now)))) }
 {
     match pred {
-        Pred::Compare { left, op, right } => push_comparison(alloc, left, *op, right, into),
+        Pred::Compare { left, op, right } => push_comparison(left, *op, right, into),
         Pred::Not(part) => {
             into.extend_from_slice(b"not ")?;
-            push_pred(alloc, part, Place::Single, into)
+            push_pred(part, Place::Single, into)
         }
         Pred::And(left, right) => {
             push_if(place.encloses_and(), b'(', into)?;
-            push_pred(alloc, left, Place::Side, into)?;
+            push_pred(left, Place::Side, into)?;
             into.extend_from_slice(b" and ")?;
-            push_pred(alloc, right, Place::Single, into)?;
+            push_pred(right, Place::Single, into)?;
             push_if(place.encloses_and(), b')', into)
         }
         Pred::Or(left, right) => {
             push_if(place.encloses_or(), b'(', into)?;
-            push_pred(alloc, left, Place::Whole, into)?;
+            push_pred(left, Place::Whole, into)?;
             into.extend_from_slice(b" or ")?;
-            push_pred(alloc, right, Place::Side, into)?;
+            push_pred(right, Place::Side, into)?;
             push_if(place.encloses_or(), b')', into)
         }
     }
@@ -249,61 +238,61 @@ fn push_named_agg(
 }
 
 // The end of an atleast, behind its part.
-fn push_bound(alloc: Global, keys: &[Str], bound: i64, into: &mut Vec<u8>) -> Result<(), AllocError>
+fn push_bound(keys: &[Str], bound: i64, into: &mut Vec<u8>) -> Result<(), AllocError>
     ensures { OnOk result (into.new.items ≡ into.old.items ++ spec.text_of (printing.bound_text keys.now bound)) }
 {
     push_keys(keys, into)?;
     into.extend_from_slice(b", ")?;
-    into.extend_from_slice(bound.to_string(alloc)?.as_bytes())?;
+    write_value(&Value::Int(bound), into)?;
     Ok(into.push(b')')?)
 }
 
-pub(crate) fn push_expr(alloc: Global, expr: &Expr, into: &mut Vec<u8>) -> Result<(), AllocError>
+pub(crate) fn push_expr(expr: &Expr, into: &mut Vec<u8>) -> Result<(), AllocError>
     ensures { OnOk result (into.new.items ≡ into.old.items ++ spec.text_of (trees.expr_text (spec.tree_of (query_of expr.now)))) }
 {
     match expr {
         Expr::Base(name) => push_name(name, into),
         Expr::Select(part, pred) => {
             into.extend_from_slice(b"select(")?;
-            push_expr(alloc, part, into)?;
+            push_expr(part, into)?;
             into.extend_from_slice(b", ")?;
-            push_pred(alloc, pred, Place::Whole, into)?;
+            push_pred(pred, Place::Whole, into)?;
             Ok(into.push(b')')?)
         }
         Expr::Project(part, items) => {
             into.extend_from_slice(b"project(")?;
-            push_expr(alloc, part, into)?;
+            push_expr(part, into)?;
             into.extend_from_slice(b", ")?;
             push_items(items.as_slice(), into)?;
             Ok(into.push(b')')?)
         }
         Expr::Join(left, right, pairs) => {
             into.extend_from_slice(b"join(")?;
-            push_expr(alloc, left, into)?;
+            push_expr(left, into)?;
             into.extend_from_slice(b", ")?;
-            push_expr(alloc, right, into)?;
+            push_expr(right, into)?;
             push_pairs(pairs.as_slice(), into)?;
             Ok(into.push(b')')?)
         }
         Expr::NotIn(left, right, pairs) => {
             into.extend_from_slice(b"notin(")?;
-            push_expr(alloc, left, into)?;
+            push_expr(left, into)?;
             into.extend_from_slice(b", ")?;
-            push_expr(alloc, right, into)?;
+            push_expr(right, into)?;
             push_pairs(pairs.as_slice(), into)?;
             Ok(into.push(b')')?)
         }
         Expr::Group(part, keys, agg, name) => {
             into.extend_from_slice(b"group(")?;
-            push_expr(alloc, part, into)?;
+            push_expr(part, into)?;
             into.extend_from_slice(b", ")?;
             push_named_agg(keys.as_slice(), agg, name, into)
         }
         Expr::AtLeast(part, keys, bound) => {
             into.extend_from_slice(b"atleast(")?;
-            push_expr(alloc, part, into)?;
+            push_expr(part, into)?;
             into.extend_from_slice(b", ")?;
-            push_bound(alloc, keys.as_slice(), *bound, into)
+            push_bound(keys.as_slice(), *bound, into)
         }
     }
 }
@@ -332,12 +321,12 @@ fn push_collection(collection: &Collection, into: &mut Vec<u8>) -> Result<(), Al
     into.extend_from_slice(b");\n")
 }
 
-fn push_rule(alloc: Global, rule: &Rule, into: &mut Vec<u8>) -> Result<(), AllocError>
+fn push_rule(rule: &Rule, into: &mut Vec<u8>) -> Result<(), AllocError>
     ensures { OnOk result (into.new.items ≡ into.old.items ++ spec.text_of (trees.rule_text (spec.rule_tree (rule_form rule.now)))) }
 {
     push_name(&rule.head, into)?;
     into.extend_from_slice(b" <= ")?;
-    push_expr(alloc, &rule.body, into)?;
+    push_expr(&rule.body, into)?;
     into.extend_from_slice(b";\n")
 }
 
@@ -350,11 +339,11 @@ fn push_collections(collections: &[Collection], into: &mut Vec<u8>) -> Result<()
     Ok(())
 }
 
-fn push_rules(alloc: Global, rules: &[Rule], into: &mut Vec<u8>) -> Result<(), AllocError>
+fn push_rules(rules: &[Rule], into: &mut Vec<u8>) -> Result<(), AllocError>
     ensures { OnOk result (into.new.items ≡ into.old.items ++ spec.text_of (flat_map trees.rule_text (map spec.rule_tree (rule_forms rules.now)))) }
 {
     for rule in rules {
-        push_rule(alloc, rule, into)?;
+        push_rule(rule, into)?;
     }
     Ok(())
 }
@@ -371,6 +360,6 @@ pub fn print(alloc: Global, module: &Checked) -> Result<Vec<u8>, AllocError>
     push_name(&module.name, &mut text)?;
     text.extend_from_slice(b";\n")?;
     push_collections(module.collections.as_slice(), &mut text)?;
-    push_rules(alloc, module.rules.as_slice(), &mut text)?;
+    push_rules(module.rules.as_slice(), &mut text)?;
     Ok(text)
 }

@@ -1,5 +1,5 @@
 -- The text of values and records.
-use Rattle.std.specs.Prelude.{ℕ, ◌+◌, ◌-◌, ◌/◌, ◌%◌, ◌==◌, ◌||◌, nat_lt, if◌then◌else◌, List, [], ◌∷◌, ◌++◌, codes}
+use Rattle.std.specs.Prelude.{ℕ, ◌+◌, ◌-◌, ◌/◌, ◌%◌, ◌==◌, ◌||◌, nat_lt, if◌then◌else◌, List, [], ◌∷◌, ◌++◌, ◌≡◌, length, take, codes}
 use Rattle.std.specs.List.{flat_map, join_by}
 use Rattle.std.specs.Fmt.{signed_decimal}
 use Rattle.blz_value.specs.declared.value.Value.{Value}
@@ -30,3 +30,7 @@ value_text (Text bytes) = codes "\"" ++ escaped bytes ++ codes "\""
 -- the values between parentheses, joined by a comma and a space
 abbrev pub record_text : Row → List ℕ
 record_text row = codes "(" ++ join_by value_text (codes ", ") row ++ codes ")"
+
+-- the longer text begins with the other
+abbrev pub BeginsWith : List ℕ → List ℕ → Type 0
+BeginsWith begin longer = take (length begin) longer ≡ begin

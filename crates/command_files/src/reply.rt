@@ -38,7 +38,7 @@ fn name_line(alloc: Global, words: &str, name: &str) -> Result<Vec<u8>, AllocErr
     ensures { IfOk result (λ line. line.items ≡ words.now ++ escaped name.now ++ codes "\n") }
 {
     let mut line = Vec::from_slice(alloc, words.as_bytes())?;
-    write_escaped(alloc, name, &mut line)?;
+    write_escaped(name, &mut line)?;
     line.push(b'\n')?;
     Ok(line)
 }

@@ -26,7 +26,7 @@ fn module_words(alloc: Global, name: &Str) -> Result<Vec<u8>, AllocError>
     ensures { IfOk result (λ words. words.items ≡ codes "module " ++ escaped name.now) }
 {
     let mut words = Vec::from_slice(alloc, b"module ")?;
-    write_escaped(alloc, name.as_str(), &mut words)?;
+    write_escaped(name.as_str(), &mut words)?;
     Ok(words)
 }
 

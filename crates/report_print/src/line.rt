@@ -120,7 +120,7 @@ fn push_word(alloc: Global, word: &Word<'_>, into: &mut Vec<u8>) -> Result<(), A
 {
     match word {
         Word::Plain(text) => into.extend_from_slice(text.as_bytes()),
-        Word::Escaped(text) => write_escaped(alloc, text.as_str(), into),
+        Word::Escaped(text) => write_escaped(text.as_str(), into),
         Word::Number(number) => push_number(alloc, *number, into),
         Word::Large(number) => push_large(alloc, *number, into),
         Word::Numbered(text, number) => {
@@ -128,7 +128,7 @@ fn push_word(alloc: Global, word: &Word<'_>, into: &mut Vec<u8>) -> Result<(), A
             into.push(b' ')?;
             push_number(alloc, *number, into)
         }
-        Word::Row(row) => write_record(alloc, row, into),
+        Word::Row(row) => write_record(row, into),
         Word::Names(names) => push_names(&texts(alloc, names)?, into),
         Word::Marked(text, names, set) => {
             into.extend_from_slice(text.as_bytes())?;

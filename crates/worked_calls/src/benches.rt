@@ -17,7 +17,7 @@ fn keeps_second_put(alloc: Global, shell: &LatestShell) -> Result<bool, AllocErr
     shell.kept_rows(0, &mut rows)?;
     let mut text = Vec::new(alloc);
     for row in rows.rows() {
-        write_record(alloc, row, &mut text)?;
+        write_record(row, &mut text)?;
     }
     Ok(text.as_slice() == b"(\"a\", 2)".as_slice())
 }

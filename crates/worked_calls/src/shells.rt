@@ -56,7 +56,7 @@ fn puts_shown(
 {
     let now = puts_and_question(alloc)?;
     let outs = stepped(alloc, shell, program, &now)?;
-    show_sets(alloc, "puts out", outs.sets(), shown)?;
+    show_sets("puts out", outs.sets(), shown)?;
     kept_and_cleared(alloc, shell, program, shown)
 }
 
@@ -78,7 +78,7 @@ fn seven_shown(
     requires loaded { loaded shell.old ≡ Some program.now }
 {
     let outs = stepped(alloc, shell, program, &seven(alloc)?)?;
-    show_sets(alloc, "puts out", outs.sets(), shown)?;
+    show_sets("puts out", outs.sets(), shown)?;
     kept_and_cleared(alloc, shell, program, shown)
 }
 
@@ -111,9 +111,9 @@ fn clicks_shown(
     requires loaded { loaded shell.old ≡ Some program.now }
 {
     let outs = stepped(alloc, shell, program, &click(alloc, program, 10)?)?;
-    show_sets(alloc, "puts out", outs.sets(), shown)?;
+    show_sets("puts out", outs.sets(), shown)?;
     let outs = stepped(alloc, shell, program, &click(alloc, program, 11)?)?;
-    show_sets(alloc, "puts out", outs.sets(), shown)?;
+    show_sets("puts out", outs.sets(), shown)?;
     kept_and_cleared(alloc, shell, program, shown)
 }
 
@@ -169,13 +169,12 @@ fn show_kept(alloc: Global, shell: &Box<dyn Component>, shown: &mut Vec<u8>) -> 
 {
     let mut rows = RecordSet::new(alloc);
     shell.kept_rows(0, &mut rows)?;
-    show_sets(alloc, "keeps", &[rows], shown)?;
+    show_sets("keeps", &[rows], shown)?;
     Ok(())
 }
 
 // Adds a line with a word and the records of some sets.
 pub(crate) fn show_sets(
-    alloc: Global,
     word: &str,
     sets: &[RecordSet],
     shown: &mut Vec<u8>,
@@ -184,7 +183,7 @@ pub(crate) fn show_sets(
     for rows in sets {
         for row in rows.rows() {
             shown.push(b' ')?;
-            write_record(alloc, row, shown)?;
+            write_record(row, shown)?;
         }
     }
     shown.push(b'\n')?;

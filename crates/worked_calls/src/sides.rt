@@ -73,16 +73,16 @@ fn lent_shown(alloc: Global, program: &Program, shown: &mut Vec<u8>) -> Result<(
     shell.step(&now, &mut outs)?;
     ensure!(shell.sides() == 2, "the module has two sides");
     let key = pair(alloc, Value::Int(1), 5)?;
-    show_rows(alloc, "side 0", shell.side(0, &key).rows(), shown)?;
-    show_rows(alloc, "side 1", shell.side(1, &key).rows(), shown)
+    show_rows("side 0", shell.side(0, &key).rows(), shown)?;
+    show_rows("side 1", shell.side(1, &key).rows(), shown)
 }
 
 // Adds a line with a word and some records.
-fn show_rows(alloc: Global, word: &str, rows: &[Record], shown: &mut Vec<u8>) -> Result<()> {
+fn show_rows(word: &str, rows: &[Record], shown: &mut Vec<u8>) -> Result<()> {
     shown.extend_from_slice(word.as_bytes())?;
     for row in rows {
         shown.push(b' ')?;
-        write_record(alloc, row, shown)?;
+        write_record(row, shown)?;
     }
     shown.push(b'\n')?;
     Ok(())
@@ -188,11 +188,11 @@ fn state_after(
 {
     let mut state = Vec::new(alloc);
     let outs = stepped(alloc, shell, program, now)?;
-    show_sets(alloc, "puts out", outs.sets(), &mut state)?;
+    show_sets("puts out", outs.sets(), &mut state)?;
     let mut rows = RecordSet::new(alloc);
     shell.kept_rows(0, &mut rows)?;
-    show_rows(alloc, "keeps", rows.rows(), &mut state)?;
+    show_rows("keeps", rows.rows(), &mut state)?;
     shell.kept_rows(1, &mut rows)?;
-    show_rows(alloc, "keeps", rows.rows(), &mut state)?;
+    show_rows("keeps", rows.rows(), &mut state)?;
     Ok(state)
 }

@@ -36,7 +36,7 @@ impl Lines {
     /// A line that shows a number.
     pub(crate) fn number(&mut self, name: &str, number: i64) -> Result<(), AllocError> {
         let mut shown = Vec::new(self.alloc);
-        write_value(self.alloc, &Value::Int(number), &mut shown)?;
+        write_value(&Value::Int(number), &mut shown)?;
         self.push(name, &shown)
     }
 

@@ -39,7 +39,7 @@ fn show_placed(lines: &mut Lines, pool: &mut Pool, number: i64) -> Result<(), Al
 fn show_kept(lines: &mut Lines, pool: &mut Pool, number: i64) -> Result<(), AllocError> {
     let mut shown = Vec::new(lines.alloc());
     if let Some(id) = placed(lines.alloc(), pool, number)? {
-        write_record(lines.alloc(), pool.get(id), &mut shown)?;
+        write_record(pool.get(id), &mut shown)?;
     }
     lines.push("kept", &shown)
 }

@@ -68,7 +68,7 @@ fn show_row(lines: &mut Lines, row: &Record) -> Result<(), AllocError> {
     let alloc = lines.alloc();
     let copy = row.copy()?;
     let mut shown = Vec::new(alloc);
-    write_record(alloc, &copy, &mut shown)?;
+    write_record(&copy, &mut shown)?;
     lines.push("ascending", &shown)
 }
 
@@ -129,17 +129,17 @@ fn show_tests(lines: &mut Lines) -> Result<(), AllocError> {
     Ok(())
 }
 
-fn push_texts(alloc: Global, row: &Record, into: &mut Vec<u8>) -> Result<(), AllocError> {
-    write_record(alloc, row, into)?;
-    write_value(alloc, &Value::Int(0), into)?;
-    write_escaped(alloc, "x\ty", into)
+fn push_texts(row: &Record, into: &mut Vec<u8>) -> Result<(), AllocError> {
+    write_record(row, into)?;
+    write_value(&Value::Int(0), into)?;
+    write_escaped("x\ty", into)
 }
 
 fn show_texts(lines: &mut Lines) -> Result<(), AllocError> {
     let odd = Cell::Text("a\"b\\c\n\u{1f}\u{7f}\u{e9}");
     let row = record_of(lines.alloc(), &[Cell::Number(i64::MIN), odd])?;
     let mut shown = Vec::new(lines.alloc());
-    push_texts(lines.alloc(), &row, &mut shown)?;
+    push_texts(&row, &mut shown)?;
     lines.push("escaped", &shown)
 }
 

@@ -112,7 +112,7 @@ fn given(operator: Operator, pairs: &RecordSet, numbers: &RecordSet) -> Result<R
 fn show_rows(lines: &mut Lines, name: &str, set: &RecordSet) -> Result<(), AllocError> {
     let mut shown = Vec::new(lines.alloc());
     for row in set.rows() {
-        write_record(lines.alloc(), row, &mut shown)?;
+        write_record(row, &mut shown)?;
     }
     lines.push(name, &shown)
 }
@@ -203,7 +203,7 @@ fn show_contains(lines: &mut Lines, set: &RecordSet, number: i64) -> Result<(), 
 fn show_at(lines: &mut Lines, set: &RecordSet, index: usize) -> Result<(), AllocError> {
     let mut shown = Vec::new(lines.alloc());
     if let Some(row) = set.at(index) {
-        write_record(lines.alloc(), row, &mut shown)?;
+        write_record(row, &mut shown)?;
     }
     lines.push("at", &shown)
 }

@@ -1,7 +1,8 @@
-use Rattle.std.proofs.Common.{rules, ◌≡◌, ◌<◌, ◌≤◌, ◌∷◌, [], ◌++◌, ℕ, ◌+◌, ◌-◌, length, take, drop, get_or, List, arith, append_assoc, append-nil, ap, sym, ◌∙◌}
+use Rattle.std.proofs.Common.{rules, ◌≡◌, ◌<◌, ◌≤◌, ◌∷◌, [], ◌++◌, ℕ, ◌+◌, ◌-◌, length, take, drop, get_or, List, arith, append_assoc, append-nil, ap, refl, sym, ◌∙◌}
 use Rattle.std.proofs.lemmas.List.{take_more, drop_all, drop-append-le, drop-take, length-take-le}
 use Rattle.std.proofs.lemmas.Grind.{flat_map-append}
-use Rattle.blz_value.specs.Text.{escaped_byte, escaped}
+use Rattle.blz_value.specs.Text.{escaped_byte, escaped, BeginsWith}
+use Rattle.blz_value.proofs.Beginnings.{begins_on, begins_behind}
 use Rattle.blz_value.proofs.write.push_escaped.Goals as goal
 use Rattle.blz_value.proofs.write.push_escaped.Goals.{then-is_escaped+in_ok-extend_from_slice+in_ok-push_escaped_byte, else-is_escaped}
 
@@ -34,14 +35,27 @@ loop-i-preserved c = elim c.if-is_escaped.branch [
       let into : w.extend_from_slice.new.self.items ≡ c.args.into.now.items ++ escaped (take c.loop-i.i c.as_bytes-bytes.result.now) =
       w.in_ok-extend_from_slice.ensures.items ∙ ap (λ z. c.loop-i.into.items ++ z) run ∙ c.loop-i.invariant.written in
       let items : c.if-is_escaped.into.items ≡ w.extend_from_slice.new.self.items ++ escaped_byte (get_or c.as_bytes-bytes.result.now c.loop-i.i 0) = search rules in
+      let old = c.args.into.now.items in
+      let escape = escaped_byte (get_or c.as_bytes-bytes.result.now c.loop-i.i 0) in
+      let begun : BeginsWith old w.extend_from_slice.new.self.items =
+      begins_behind old c.loop-i.into.items w.extend_from_slice.new.self.items (take (c.loop-i.i - c.loop-i.start) (drop c.loop-i.start c.as_bytes-bytes.result.now)) c.loop-i.invariant.begins w.in_ok-extend_from_slice.ensures.items in
       rw (items, w.start-is) (record {
         before = omega arith;
         written = run-ended c.as_bytes-bytes.result.now w.extend_from_slice.new.self.items c.args.into.now.items c.loop-i.i (omega arith) into;
+        begins = begins_behind old w.extend_from_slice.new.self.items (w.extend_from_slice.new.self.items ++ escape) escape begun refl;
       }))
   | else-is_escaped w ↦ (
       let plain : escaped_byte (get_or c.as_bytes-bytes.result.now c.loop-i.i 0) ≡ get_or c.as_bytes-bytes.result.now c.loop-i.i 0 ∷ [] = search rules in
       rw (w.into-is, w.start-is) (record {
         before = omega arith;
         written = run-longer c.as_bytes-bytes.result.now c.loop-i.into.items c.args.into.now.items c.loop-i.start c.loop-i.i (omega arith) (omega arith) plain c.loop-i.invariant.written;
+        begins = c.loop-i.invariant.begins;
       }))
 ]
+
+pub returns-in_err-push_escaped_byte-clause-begins : goal.returns-in_err-push_escaped_byte-clause-begins
+returns-in_err-push_escaped_byte-clause-begins c =
+    let old = c.args.into.now.items in
+    let begun : BeginsWith old c.extend_from_slice.new.self.items =
+    begins_behind old c.loop-i.into.items c.extend_from_slice.new.self.items (take (c.loop-i.i - c.loop-i.start) (drop c.loop-i.start c.as_bytes-bytes.result.now)) c.loop-i.invariant.begins c.in_ok-extend_from_slice.ensures.items in
+    begins_on old c.extend_from_slice.new.self.items c.push_escaped_byte.new.into.items begun c.push_escaped_byte.ensures.begins

@@ -6,6 +6,7 @@ ghost use Rattle.sched_text.specs.Reading.{LineReading, GivesEntries};
 ghost use Rattle.sched_text.specs.Code.Given.{GivesLine};
 
 use crate::fault::{LineFault, ScheduleFault};
+use memchr::memchr;
 use std::alloc::Global;
 use std::marker::Model;
 
@@ -16,7 +17,10 @@ fn line_size(text: &[u8]) -> usize
     ensures value { result ≡ prefix_len (λ byte. not (spec.is_line_feed byte)) text.now }
     ensures within { result ≤ length text.now }
 {
-    text.iter().take_while(|byte| **byte != b'\n').count()
+    match memchr(b'\n', text) {
+        Some(size) => size,
+        None => text.len(),
+    }
 }
 
 // What is left of a text behind its first byte.

@@ -377,11 +377,14 @@ impl Inbox {
         Ok(())
     }
 
-    // Those of some partitions that are whole.
+    // Those of some partitions that are whole. Mostly there are none, and then nothing is walked.
     fn whole_among(&self, partial: &BTreeSet<Record>) -> Result<Vec<Record>, AllocError>
         ensures { IfOk result (λ whole. whole.items ≡ filter (is_whole_in (feeds_view self.now.feeds)) partial.now.keys) }
     {
         let mut whole = Vec::new(self.alloc);
+        if partial.is_empty() {
+            return Ok(whole);
+        }
         for key in partial {
             if self.feeds.is_whole(key) {
                 whole.push(key.copy()?)?;

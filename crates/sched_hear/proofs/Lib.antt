@@ -18,3 +18,4 @@ pub mod HearingStands
 pub mod HearingEnds
 pub mod HearingCalls
 pub mod Found
+pub mod NamesNumbered

@@ -13,7 +13,7 @@ ghost use Rattle.sched_hear.specs.Code.Parts.{hears_itself, PairsAnswer};
 ghost use Rattle.sched_hear.specs.Code.Hearing.{EarCanHear, EarHears, KnowsMore, OneHears, HearsParts, HearingAnswers, HearingLeaves};
 
 use crate::books::Books;
-use crate::numbered::{NumberedPart, part_of};
+use crate::numbered::{Nearby, NumberedPart};
 use crate::seated::{Ear, Seated};
 use blz_boxes::Component;
 use blz_pool::Pool;
@@ -85,9 +85,10 @@ fn parts_of(
 ) -> Result<Vec<NumberedPart>, AllocError>
     ensures { IfOk result (λ numbers. numbers.items ≡ numbered_parts valid.now.view component parts.now) }
 {
+    let mut nearby = Nearby::default();
     let mut numbers = Vec::new(alloc);
     for part in parts {
-        numbers.push(part_of(valid, component, &part.sent, &part.port))?;
+        numbers.push(nearby.part(valid, component, &part.sent, &part.port))?;
     }
     Ok(numbers)
 }

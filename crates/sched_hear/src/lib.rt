@@ -11,6 +11,6 @@ mod seated;
 
 pub use books::Books;
 pub use messages::Known;
-pub use numbered::{NumberedEvent, NumberedPart, component_of, part_of};
+pub use numbered::{Nearby, NumberedEvent, NumberedPart, component_of};
 pub use ordering::is_order;
 pub use seated::{Ear, Seated};

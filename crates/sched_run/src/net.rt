@@ -5,7 +5,7 @@ ghost use Rattle.sched_hear.specs.Net.{Runs, EventAnswers, EventLeaves};
 ghost use Rattle.sched_hear.specs.Numbered.{numbered, event_by_numbers};
 
 use blz_boxes::Component;
-use sched_hear::{Books, NumberedEvent, component_of, part_of};
+use sched_hear::{Books, Nearby, NumberedEvent};
 use sched_lists::EventFault;
 use sched_text::Event;
 use std::alloc::Global;
@@ -19,6 +19,7 @@ pub struct Net<'a> {
     pub(crate) valid: &'a Valid,
     pub(crate) books: Books,
     pub(crate) shells: Vec<Box<dyn Component>>,
+    pub(crate) nearby: Nearby,
 }
 
 impl<'a> Net<'a> {
@@ -81,8 +82,8 @@ impl<'a> Net<'a> {
                 port,
                 replica,
             } => {
-                let number = component_of(self.valid, component);
-                let part = part_of(self.valid, number, sent, port);
+                let number = self.nearby.component(self.valid, component);
+                let part = self.nearby.part(self.valid, number, sent, port);
                 self.numbered_event(&NumberedEvent::Deliver {
                     part,
                     component: number,
@@ -94,7 +95,7 @@ impl<'a> Net<'a> {
                 replica,
                 parts,
             } => {
-                let number = component_of(self.valid, component);
+                let number = self.nearby.component(self.valid, component);
                 self.books.deliver_all(
                     self.alloc,
                     self.valid,
@@ -109,15 +110,15 @@ impl<'a> Net<'a> {
                 component,
                 port,
             } => {
-                let number = component_of(self.valid, component);
-                let part = part_of(self.valid, number, sent, port);
+                let number = self.nearby.component(self.valid, component);
+                let part = self.nearby.part(self.valid, number, sent, port);
                 self.numbered_event(&NumberedEvent::Order {
                     part,
                     component: number,
                 })
             }
             Event::Take { component, replica } => {
-                let number = component_of(self.valid, component);
+                let number = self.nearby.component(self.valid, component);
                 self.numbered_event(&NumberedEvent::Take {
                     component: number,
                     replica: *replica,

@@ -13,7 +13,7 @@ use blz_boxes::Component;
 use data_read::Data;
 use inbox::Log;
 use sched_bench::{OpenFault, open_shells};
-use sched_hear::Books;
+use sched_hear::{Books, Nearby};
 use sched_lists::{Places, first_lists};
 use std::alloc::{AllocError, Global};
 use topo_types::Valid;
@@ -85,6 +85,7 @@ impl<'a> Net<'a> {
             valid,
             books,
             shells,
+            nearby: Nearby::default(),
         })
     }
 }

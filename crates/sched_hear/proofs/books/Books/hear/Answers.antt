@@ -1,9 +1,8 @@
-use Rattle.std.proofs.Common.{◌<◌, [], ◌∷◌, ℕ, List, length, refl, subst, ap, sym, arith}
+use Rattle.std.proofs.Common.{◌<◌, [], ◌∷◌, ℕ, List, length, refl, subst, ap, arith}
 use Rattle.std.specs.Prelude.{Result, Ok, Err, IfErr}
 use Rattle.inbox.specs.Events.{Part}
 use Rattle.inbox.specs.Ids.{message_with_id}
 use Rattle.inbox.specs.Wiring.{instance_for, feeds_for}
-use Rattle.std.specs.List.{All}
 use Rattle.inbox.specs.declared.inbox.Timesteps.{Timesteps}
 use Rattle.messages.specs.declared.message.Message.{Message}
 use Rattle.sched_lists.specs.Lists.{read_lists}

@@ -1,5 +1,4 @@
-use Rattle.std.proofs.Common.{◌∙◌, ap, length, List}
-use Rattle.messages.specs.declared.message.Message.{Message}
+use Rattle.std.proofs.Common.{◌∙◌}
 use Rattle.sched_run.proofs.EmittedSeen.{seen_count}
 use Rattle.sched_run.proofs.RecordsCounted.{count-is_record}
 use Rattle.sched_run.proofs.net.Net.record_count.Goals as goal

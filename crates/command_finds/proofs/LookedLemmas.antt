@@ -17,8 +17,9 @@ use Rattle.sched_bench.specs.Bench.{fault_of_opening}
 use Rattle.sched_hear.specs.Net.{execution_in}
 use Rattle.sched_hear.specs.declared.books.Books.{Books}
 use Rattle.sched_run.specs.Making.{Line, steps_of}
-use Rattle.replay_run.specs.Applying.{after_lines, Applied}
-use Rattle.replay_run.specs.declared.applying.EventRefusal.{EventRefusal}
+use Rattle.replay_run.specs.Steps.{after_lines, Applied}
+use Rattle.replay_run.specs.declared.running.StepRefusal.{StepRefusal}
+use Rattle.replay_run.specs.declared.step.Step.TheVariants as named
 use Rattle.topo_types.specs.Data.{Data}
 use Rattle.topo_types.specs.View.{View, find_stream, stream_replicas}
 use Rattle.why_trace.specs.Trim as trim
@@ -132,8 +133,8 @@ module _ (kinds : List ProgramKind) (v : View) (given : Data) (lines : List Line
   memory_looks result is s = stop_handed wanted_shown (files_states s s) (looking kinds v given lines words) result NoMemory is tt
 
   -- where it is, and its lines are applied or one is refused
-  pub net_looks : (loaded : List (Option Program)) (next : List Sets) (new : Books) (applied : Result (Unit {0}) EventRefusal) (outcome : Result Wanted Stop) → check.opened v (fault_of_opening v (λ k. k) kinds) ≡ Ok tt
-      → Applied v given [] loaded next new lines (after_lines v given lines first_execution) applied → IsLookedIn v new words applied outcome → RanAtOnce wanted_shown outcome (looking kinds v given lines words)
+  pub net_looks : (loaded : List (Option Program)) (next : List Sets) (new : Books) (applied : Result (Unit {0}) StepRefusal) (outcome : Result Wanted Stop) → check.opened v (fault_of_opening v (λ k. k) kinds) ≡ Ok tt
+      → Applied named.Event v given [] loaded next new lines (after_lines named.Event v given lines first_execution) applied → IsLookedIn v new words applied outcome → RanAtOnce wanted_shown outcome (looking kinds v given lines words)
   net_looks loaded next new (Ok done) outcome opens reaches said s =
       let x = execution_in reaches.stands.books in
       then_ran wanted_shown s s s (run_of kinds v given lines) on_run x outcome (run_came First kinds v given lines opens s x reaches.reached) (said given ([] ++ steps_of v lines) reaches.stands.books s)

@@ -1,9 +1,7 @@
 -- A net of an opened bench comes to the execution of its lines, or the check of events refuses what it refuses.
-use Rattle.std.proofs.Common.{◌≡◌, ◌≢◌, ◌∙◌, ◌++◌, List, [], ◌∷◌, Option, None, Some, OnOk, Result, Ok, Err, map, refl, sym, subst, ap}
+use Rattle.std.proofs.Common.{◌≡◌, ◌≢◌, ◌∙◌, List, [], ◌∷◌, Option, None, Some, Result, Ok, Err, map, refl, sym, subst, ap}
 use Rattle.std.specs.List.{fold}
 use Rattle.std.proofs.lemmas.Simd.{map-map}
-use Rattle.bloom_ast.specs.declared.program.Program.{Program}
-use Rattle.bloom_ast.specs.Step.{Sets}
 use Rattle.blz_boxes.specs.declared.kind.ProgramKind.{ProgramKind}
 use Rattle.confluence.specs.Complete.{IsRun}
 use Rattle.emitted.specs.declared.fault.EventFault.TheVariants.{NoMemory}
@@ -11,16 +9,15 @@ use Rattle.inbox.specs.Completeness.{IsComplete}
 use Rattle.inbox.specs.Events.{event, Refusal}
 use Rattle.inbox.specs.Executions.{Execution, after_event, after_step, execution_of, first_execution, result_and_then}
 use Rattle.inbox.specs.Wiring.{wiring_of}
-use Rattle.inbox.proofs.Executions.Results.{Ok_same, and_then_Ok}
+use Rattle.inbox.proofs.Executions.Results.{and_then_Ok}
 use Rattle.sched_bench.specs.Bench.{fault_of_opening}
 use Rattle.sched_bench.specs.declared.fault.OpenFault.{OpenFault}
-use Rattle.sched_hear.specs.Net.{Stands, BooksRun, execution_in}
 use Rattle.sched_hear.specs.Numbered.{numbered}
-use Rattle.sched_hear.specs.declared.books.Books.{Books}
 use Rattle.sched_lists.specs.Limits.{Limit, limit_of_event}
 use Rattle.sched_run.specs.Making.{Line, steps_of}
-use Rattle.replay_run.specs.Applying.{after_line, after_lines, in_line, made_by, Applied, AppliesLines}
-use Rattle.replay_run.specs.declared.applying.EventRefusal.{EventRefusal}
+use Rattle.replay_run.specs.Steps.{after_line, after_lines, in_line, made_by}
+use Rattle.replay_run.specs.declared.running.StepRefusal.{StepRefusal}
+use Rattle.replay_run.specs.declared.step.Step.TheVariants as named
 use Rattle.topo_types.specs.Data.{Data}
 use Rattle.topo_types.specs.View.{View}
 use Rattle.witness_check.specs.declared.difference.Which.{Which}
@@ -40,7 +37,7 @@ use Rattle.command_finds.proofs.ScriptsLemmas.{checked_gave, stops_at, then_gave
 -- ---- lines that were all legal
 
 -- the result of one line, where it has one
-line_legal : (v : View) (given : Data) (line : Line) (x y : Execution) → after_line v given line x ≡ Ok y → after_step (wiring_of v) given (event (numbered v line.1)) x ≡ Ok y
+line_legal : (v : View) (given : Data) (line : Line) (x y : Execution) → after_line named.Event v given line x ≡ Ok y → after_step (wiring_of v) given (event (numbered v line.1)) x ≡ Ok y
 line_legal v given line x y is = from (after_event (wiring_of v) given (numbered v line.1) x) (limit_of_event (wiring_of v) given (numbered v line.1) x) is
   where
     from : (after : Result Execution Refusal) (limit : Option Limit) → in_line line.0 (made_by after limit) ≡ Ok y → after ≡ Ok y
@@ -49,23 +46,23 @@ line_legal v given line x y is = from (after_event (wiring_of v) given (numbered
     from (Err refusal) limit is = absurd (cc)
 
 -- lines over an execution that steps have reached
-legal_from : (v : View) (given : Data) (lines : List Line) (after : Result Execution EventRefusal) (reached : Result Execution Refusal) (y : Execution) → ((x : Execution) → after ≡ Ok x → reached ≡ Ok x)
-    → fold (λ result line. result_and_then result (after_line v given line)) after lines ≡ Ok y → fold (λ result step. result_and_then result (after_step (wiring_of v) given step)) reached (steps_of v lines) ≡ Ok y
+legal_from : (v : View) (given : Data) (lines : List Line) (after : Result Execution StepRefusal) (reached : Result Execution Refusal) (y : Execution) → ((x : Execution) → after ≡ Ok x → reached ≡ Ok x)
+    → fold (λ result line. result_and_then result (after_line named.Event v given line)) after lines ≡ Ok y → fold (λ result step. result_and_then result (after_step (wiring_of v) given step)) reached (steps_of v lines) ≡ Ok y
 legal_from v given [] after reached y legal is = legal y is
 legal_from v given (line ∷ lines) after reached y legal is =
-    legal_from v given lines (result_and_then after (after_line v given line)) (result_and_then reached (after_step (wiring_of v) given (event (numbered v line.1)))) y
+    legal_from v given lines (result_and_then after (after_line named.Event v given line)) (result_and_then reached (after_step (wiring_of v) given (event (numbered v line.1)))) y
     (λ z made.
-    let before = and_then_Ok after (after_line v given line) z made in
+    let before = and_then_Ok after (after_line named.Event v given line) z made in
     ap (λ (r : Result Execution Refusal). result_and_then r (after_step (wiring_of v) given (event (numbered v line.1)))) (legal before.0 before.1)
     ∙ line_legal v given line before.0 z before.2)
     is
 
-pub lines_legal : (v : View) (given : Data) (lines : List Line) (x : Execution) → after_lines v given lines first_execution ≡ Ok x → execution_of (wiring_of v) given (steps_of v lines) ≡ Ok x
+pub lines_legal : (v : View) (given : Data) (lines : List Line) (x : Execution) → after_lines named.Event v given lines first_execution ≡ Ok x → execution_of (wiring_of v) given (steps_of v lines) ≡ Ok x
 lines_legal v given lines x is =
     legal_from v given lines (Ok first_execution) (Ok first_execution) x (λ y same. let is : first_execution ≡ y = cc in ap (λ (z : Execution). Ok z) is) is
 
 -- a complete execution of lines is one of events
-pub lines_run : (v : View) (given : Data) (lines : List Line) (x : Execution) → after_lines v given lines first_execution ≡ Ok x → IsComplete (wiring_of v) given x → IsRun (wiring_of v) given x
+pub lines_run : (v : View) (given : Data) (lines : List Line) (x : Execution) → after_lines named.Event v given lines first_execution ≡ Ok x → IsComplete (wiring_of v) given x → IsRun (wiring_of v) given x
 lines_run v given lines x is complete = record {
   events = map (λ line. numbered v line.1) lines;
   legal = ap (execution_of (wiring_of v) given) (map-map event (λ (line : Line). numbered v line.1) lines) ∙ lines_legal v given lines x is;
@@ -74,22 +71,22 @@ lines_run v given lines x is complete = record {
 
 -- ---- what the checks let through
 
-executed_is : (which : Which) (after : Result Execution EventRefusal) (x : Execution) → executed_of which after ≡ Ok x → after ≡ Ok x
+executed_is : (which : Which) (after : Result Execution StepRefusal) (x : Execution) → executed_of which after ≡ Ok x → after ≡ Ok x
 executed_is First (Ok y) x is = let same : y ≡ x = cc in ap (λ (z : Execution). Ok z) same
 executed_is First (Err refused) x is = absurd (cc)
 executed_is Second (Ok y) x is = let same : y ≡ x = cc in ap (λ (z : Execution). Ok z) same
 executed_is Second (Err refused) x is = absurd (cc)
 
-executed_so : (which : Which) (after : Result Execution EventRefusal) (x : Execution) → after ≡ Ok x → executed_of which after ≡ Ok x
+executed_so : (which : Which) (after : Result Execution StepRefusal) (x : Execution) → after ≡ Ok x → executed_of which after ≡ Ok x
 executed_so First after x is = ap check.executed is
 executed_so Second after x is = ap check.second_executed is
 
-executed_not : (which : Which) (after : Result Execution EventRefusal) (refused : EventRefusal) → after ≡ Err refused → executed_of which after ≡ Err (line_of (refusal_of which refused))
+executed_not : (which : Which) (after : Result Execution StepRefusal) (refused : StepRefusal) → after ≡ Err refused → executed_of which after ≡ Err (line_of (refusal_of which refused))
 executed_not First after refused is = ap check.executed is
 executed_not Second after refused is = ap check.second_executed is
 
 -- only want of memory is no refusal
-some_refusal : (which : Which) (refused : EventRefusal) → refusal_of which refused ≢ None → refused.fault ≢ NoMemory
+some_refusal : (which : Which) (refused : StepRefusal) → refusal_of which refused ≢ None → refused.fault ≢ NoMemory
 some_refusal First refused some is = some (ap (event_refusal refused.line) is)
 some_refusal Second refused some is = some (ap (check.second_event_refusal refused.line) is)
 
@@ -101,8 +98,8 @@ module _ (which : Which) (kinds : List ProgramKind) (v : View) (given : Data) (l
   abbrev faults : Option OpenFault
   faults = fault_of_opening v (λ kind. kind) kinds
 
-  abbrev after : Result Execution EventRefusal
-  after = after_lines v given lines first_execution
+  abbrev after : Result Execution StepRefusal
+  after = after_lines named.Event v given lines first_execution
 
   abbrev events : Script Execution
   events = check.checked (executed_of which after)
@@ -130,23 +127,7 @@ module _ (which : Which) (kinds : List ProgramKind) (v : View) (given : Data) (l
     run_came x is = opened_run (λ run. Came (files_states s s) run (gave x)) (no_fault v faults tt opens) (came_checked s (executed_of which after) x (executed_so which after x is))
 
     -- an event that was refused
-    pub run_stops : (refused : EventRefusal) (stop : Stop) → (refused.fault ≢ NoMemory → after ≡ Err refused) → IsStopAt (refusal_of which refused) stop → Stopped (files_states s s) stop (run_in which kinds v given lines)
+    pub run_stops : (refused : StepRefusal) (stop : Stop) → (refused.fault ≢ NoMemory → after ≡ Err refused) → IsStopAt (refusal_of which refused) stop → Stopped (files_states s s) stop (run_in which kinds v given lines)
     run_stops refused stop is said =
         opened_run (λ run. Stopped (files_states s s) stop run) (no_fault v faults tt opens)
         (stops_at s (executed_of which after) (refusal_of which refused) stop (λ some. executed_not which after refused (is (some_refusal which refused some))) said)
-
--- ---- the net
-
-module _ (v w : View) (given : Data) (lines : List Line) (loaded : List (Option Program)) (tables next : List Sets) (old new : Books) (applied : Result (Unit {0}) EventRefusal) (same : w ≡ v) (stands : Stands v given [] loaded tables old) where
-  -- what was applied to a new net goes on from the first execution
-  pub applied_first : AppliesLines w loaded tables next old new lines applied → Applied v given [] loaded next new lines (after_lines v given lines first_execution) applied
-  applied_first applies =
-      subst (λ (x : Execution). Applied v given [] loaded next new lines (after_lines v given lines x) applied)
-      (Ok_same (execution_of (wiring_of v) given []) (execution_in stands.books) first_execution stands.books.stands.run refl)
-      (subst (λ (u : View). AppliesLines u loaded tables next old new lines applied) same applies given [] stands)
-
--- a net to which all events were applied runs
-pub applied_runs : (v : View) (given : Data) (lines : List Line) (loaded : List (Option Program)) (next : List Sets) (new : Books) (reached : Result Execution EventRefusal) (applied : Result (Unit {0}) EventRefusal)
-    → Applied v given [] loaded next new lines reached applied → OnOk applied (BooksRun v new)
-applied_runs v given lines loaded next new reached (Ok done) reaches = record { given = given; steps = [] ++ steps_of v lines; stand = reaches.stands.books }
-applied_runs v given lines loaded next new reached (Err refused) stops = tt

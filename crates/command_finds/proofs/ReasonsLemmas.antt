@@ -19,7 +19,8 @@ use Rattle.inbox.proofs.TimestepLemmas.Entries.{Has-rows_in}
 use Rattle.messages.proofs.MessagesLemmas.{is_same_row-itself}
 use Rattle.sched_bench.specs.Bench.{fault_of_opening}
 use Rattle.sched_run.specs.Making.{Line}
-use Rattle.replay_run.specs.Applying.{after_lines}
+use Rattle.replay_run.specs.Steps.{after_lines}
+use Rattle.replay_run.specs.declared.step.Step.TheVariants as named
 use Rattle.sched_text.specs.Text.{IsPrintable, is_printable}
 use Rattle.topo_types.specs.Data.{Data}
 use Rattle.topo_types.specs.Messages.{Message, row, seal, is_same_row, row_in, rows_in}
@@ -71,7 +72,7 @@ record_has v given x s r n q sends is =
     (Has-set_of q (rows_in messages) (Has-rows_in q messages (emitted_has messages n (row q) (row_of (slice_get messages n) q is))))
     (is_same_row-itself q))
 
-record_yielded : (v : View) (given : Data) (lines : List Line) (sought : trim.Wanted) (x : Execution) → after_lines v given lines first_execution ≡ Ok x → has_record v given sought x ≡ true → yields v given sought lines ≡ true
+record_yielded : (v : View) (given : Data) (lines : List Line) (sought : trim.Wanted) (x : Execution) → after_lines named.Event v given lines first_execution ≡ Ok x → has_record v given sought x ≡ true → yields v given sought lines ≡ true
 unfolding yields
 record_yielded v given lines sought x is has = ap (has_at_end v given sought) is ∙ has
 

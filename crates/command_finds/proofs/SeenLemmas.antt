@@ -8,8 +8,9 @@ use Rattle.sched_bench.specs.Bench.{fault_of_opening}
 use Rattle.sched_hear.specs.Net.{execution_in}
 use Rattle.sched_hear.specs.declared.books.Books.{Books}
 use Rattle.sched_run.specs.Making.{Line, steps_of}
-use Rattle.replay_run.specs.Applying.{after_lines, Applied}
-use Rattle.replay_run.specs.declared.applying.EventRefusal.{EventRefusal}
+use Rattle.replay_run.specs.Steps.{after_lines, Applied}
+use Rattle.replay_run.specs.declared.running.StepRefusal.{StepRefusal}
+use Rattle.replay_run.specs.declared.step.Step.TheVariants as named
 use Rattle.inbox.specs.Executions.{Execution, first_execution}
 use Rattle.topo_types.specs.Data.{Data}
 use Rattle.topo_types.specs.View.{View}
@@ -40,8 +41,8 @@ module _ (which : Which) (kinds : List ProgramKind) (v : View) (given : Data) (l
   memory_sees result is = stop_sees v given (run_in which kinds v given lines) result NoMemory is (λ s. tt)
 
   -- where it is, and its lines are applied or one is refused
-  pub net_sees : (loaded : List (Option Program)) (next : List Sets) (new : Books) (applied : Result (Unit {0}) EventRefusal) (outcome : Result Seen Stop) → check.opened v (fault_of_opening v (λ k. k) kinds) ≡ Ok tt
-      → Applied v given [] loaded next new lines (after_lines v given lines first_execution) applied → IsSeenOf which v new applied outcome → Sees v given (run_in which kinds v given lines) outcome
+  pub net_sees : (loaded : List (Option Program)) (next : List Sets) (new : Books) (applied : Result (Unit {0}) StepRefusal) (outcome : Result Seen Stop) → check.opened v (fault_of_opening v (λ k. k) kinds) ≡ Ok tt
+      → Applied named.Event v given [] loaded next new lines (after_lines named.Event v given lines first_execution) applied → IsSeenOf which v new applied outcome → Sees v given (run_in which kinds v given lines) outcome
   net_sees loaded next new (Ok done) (Ok seen) opens reaches said = record {
     execution = execution_in reaches.stands.books;
     came = λ s. run_came which kinds v given lines opens s (execution_in reaches.stands.books) reaches.reached;

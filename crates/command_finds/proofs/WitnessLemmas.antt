@@ -7,7 +7,8 @@ use Rattle.confluence.specs.Laws.{RegionLaw}
 use Rattle.inbox.specs.Executions.{Execution, contents, first_execution}
 use Rattle.sched_bench.specs.Bench.{fault_of_opening}
 use Rattle.sched_run.specs.Making.{Line}
-use Rattle.replay_run.specs.Applying.{after_lines}
+use Rattle.replay_run.specs.Steps.{after_lines}
+use Rattle.replay_run.specs.declared.step.Step.TheVariants as named
 use Rattle.sched_run.specs.Reading.{is_complete}
 use Rattle.sched_run.proofs.LeftSeen.{tells_complete}
 use Rattle.topo_types.specs.Data.{Data, Holds, IsData}
@@ -56,7 +57,7 @@ module _ (v : View) (given : Data) (one other : Seen) (run last : Script Executi
 -- ---- what the labels promise
 
 module _ (v : View) (given : Data) (valid : IsValid v) (fits : IsData v given) (holds : Holds v given) (law : RegionLaw) (first second : List Line) (x y : Execution)
-    (reached : after_lines v given first first_execution ≡ Ok x) (also : after_lines v given second first_execution ≡ Ok y) where
+    (reached : after_lines named.Event v given first first_execution ≡ Ok x) (also : after_lines named.Event v given second first_execution ≡ Ok y) where
   spares : (found : Option Difference) → difference (snapshot v given x) (snapshot v given y) ≡ found → SparesSteady v given x y found
   spares None is = tt
   spares (Some d) is = λ complete too labels are bodied steady.

@@ -9,8 +9,9 @@ use Rattle.inbox.specs.Executions.{Execution, emitted_list, first_execution}
 use Rattle.inbox.specs.Wiring.{wiring_of}
 use Rattle.sched_text.specs.Reading.{bad_line, entries_of, event_reading}
 use Rattle.sched_run.specs.Making.{Line}
-use Rattle.replay_run.specs.Applying.{after_lines}
-use Rattle.replay_run.specs.declared.applying.EventRefusal.{EventRefusal}
+use Rattle.replay_run.specs.Steps.{after_lines}
+use Rattle.replay_run.specs.declared.running.StepRefusal.{StepRefusal}
+use Rattle.replay_run.specs.declared.step.Step.TheVariants as named
 use Rattle.emitted.specs.declared.fault.EventFault.{EventFault}
 use Rattle.emitted.specs.declared.fault.EventFault.TheVariants as event_faults
 use Rattle.why_trace.specs.Trim.{Wanted}
@@ -48,13 +49,13 @@ second_event_refusal line event_faults.TooManyRows = Some (refusal.SecondEvent l
 second_event_refusal line event_faults.TooManyMessages = Some (refusal.SecondEvent line event_kinds.TooManyMessages)
 second_event_refusal line event_faults.NoMemory = None
 
-abbrev pub second_executed : Result Execution EventRefusal → Result Execution Bytes
+abbrev pub second_executed : Result Execution StepRefusal → Result Execution Bytes
 second_executed (Ok x) = Ok x
 second_executed (Err refused) = Err (line_of (second_event_refusal refused.line refused.fault))
 
 -- its events in order, up to the first that is refused
 abbrev pub second_execution : View → Data → List Line → Script Execution
-second_execution v given lines = checked (second_executed (after_lines v given lines first_execution))
+second_execution v given lines = checked (second_executed (after_lines named.Event v given lines first_execution))
 
 -- ---- a record that is looked for
 

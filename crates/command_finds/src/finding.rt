@@ -16,7 +16,7 @@ use blz_value::{Record, Str};
 use command_files::{Stop, refused, stop_at};
 use command_runs::{event_refusal, opened};
 use data_read::Data;
-use replay_run::{EventRefusal, apply};
+use replay_run::{StepRefusal, run};
 use report_print::{Refusal, WhyKind};
 use sched_run::Net;
 use sched_text::Event;
@@ -90,7 +90,7 @@ fn outcome_of(
     valid: &Valid,
     net: &Net<'_>,
     words: &WhyWords<'_>,
-    applied: Result<(), EventRefusal>,
+    applied: Result<(), StepRefusal>,
 ) -> Result<Wanted, Stop>
     requires same { net.now.valid.now.view ≡ valid.now.view }
     requires runs { OnOk applied (BooksRun valid.now.view net.now.books) }
@@ -117,7 +117,7 @@ pub(crate) fn wanted_after(
     ensures kinds { LosesNone (map (λ b. kind b) bench.old.items) (map (λ b. kind b) bench.new.items) result }
 {
     let mut net = opened(alloc, valid, given, bench)?;
-    let applied = apply(&mut net, lines);
+    let applied = run(&mut net, lines);
     let outcome = outcome_of(alloc, valid, &net, words, applied);
     net.close(bench)?;
     outcome

@@ -11,7 +11,7 @@ use blz_boxes::Component;
 use command_files::{Stop, stop_at};
 use command_runs::{event_refusal, opened};
 use data_read::Data;
-use replay_run::{EventRefusal, apply};
+use replay_run::{StepRefusal, run};
 use report_print::Refusal;
 use sched_run::Net;
 use sched_text::Event;
@@ -39,7 +39,7 @@ fn seen_of(alloc: Global, valid: &Valid, net: &Net<'_>) -> Result<Seen, AllocErr
 }
 
 // The refusal of an event of one of two schedules; want of memory is none.
-fn refusal_of(which: &Which, refused: &EventRefusal) -> Option<Refusal>
+fn refusal_of(which: &Which, refused: &StepRefusal) -> Option<Refusal>
     ensures { result ≡ spec.refusal_of which.now refused.now }
 {
     match which {
@@ -54,7 +54,7 @@ fn outcome_of(
     valid: &Valid,
     net: &Net<'_>,
     which: &Which,
-    applied: Result<(), EventRefusal>,
+    applied: Result<(), StepRefusal>,
 ) -> Result<Seen, Stop>
     requires same { net.now.valid.now.view ≡ valid.now.view }
     requires runs { OnOk applied (BooksRun valid.now.view net.now.books) }
@@ -81,7 +81,7 @@ pub(crate) fn seen_after(
     ensures kinds { LosesNone (map (λ b. kind b) bench.old.items) (map (λ b. kind b) bench.new.items) result }
 {
     let mut net = opened(alloc, valid, given, bench)?;
-    let applied = apply(&mut net, lines);
+    let applied = run(&mut net, lines);
     let outcome = outcome_of(alloc, valid, &net, which, applied);
     net.close(bench)?;
     outcome

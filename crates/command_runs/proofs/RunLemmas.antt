@@ -1,5 +1,5 @@
--- A run replies as its script says: the net is opened, the events or steps make an execution, and the shells go back.
-use Rattle.std.proofs.Common.{◌≡◌, ◌≢◌, ◌∙◌, ◌++◌, ℕ, OnOk, List, [], Option, Result, Ok, Err, map, refl, sym, subst, ap}
+-- A run replies as its script says: the net is opened, the steps make an execution, and the shells go back.
+use Rattle.std.proofs.Common.{◌≡◌, ◌≢◌, ◌∙◌, ◌++◌, ℕ, List, [], Option, Result, Ok, Err, map, ap}
 use Rattle.std.specs.List.Sorted.{IsPermutation}
 use Rattle.bloom_ast.specs.declared.program.Program.{Program}
 use Rattle.bloom_ast.specs.Step.{Sets}
@@ -7,19 +7,16 @@ use Rattle.blz_boxes.specs.declared.kind.ProgramKind.{ProgramKind}
 use Rattle.emitted.specs.declared.fault.EventFault.{EventFault}
 use Rattle.emitted.specs.declared.fault.EventFault.TheVariants as event_faults
 use Rattle.inbox.specs.Events.{Step}
-use Rattle.inbox.specs.Executions.{Execution, first_execution, execution_of}
-use Rattle.inbox.specs.Wiring.{wiring_of}
-use Rattle.inbox.proofs.Executions.Results.{Ok_same}
-use Rattle.replay_run.specs.Steps.{AppliedSteps, AppliesSteps, StepLine, after_step_lines, steps_in}
-use Rattle.replay_run.specs.declared.running.StepRefusal.{StepRefusal}
+use Rattle.inbox.specs.Executions.{Execution, first_execution}
 use Rattle.report_print.specs.declared.refusal.Refusal.TheVariants as refusal
 use Rattle.report_print.specs.declared.refusal.EventKind.TheVariants as event_kinds
 use Rattle.sched_bench.specs.Bench.{fault_of_opening}
-use Rattle.sched_hear.specs.Net.{Stands, BooksRun, execution_in}
+use Rattle.sched_hear.specs.Net.{Stands, execution_in}
 use Rattle.sched_hear.specs.declared.books.Books.{Books}
-use Rattle.sched_run.specs.Making.{Line, steps_of}
-use Rattle.replay_run.specs.Applying.{after_lines, Applied, AppliesLines}
-use Rattle.replay_run.specs.declared.applying.EventRefusal.{EventRefusal}
+use Rattle.replay_run.specs.Steps.{Applied, Applies, after_lines, steps_in}
+use Rattle.replay_run.specs.declared.running.StepRefusal.{StepRefusal}
+use Rattle.replay_run.specs.declared.step.Step.{Step as NamedStep}
+use Rattle.replay_run.proofs.FirstLemmas.{applied_first}
 use Rattle.sched_run.proofs.TablesLemmas.{tables_are_last}
 use Rattle.topo_types.specs.Data.{Data}
 use Rattle.topo_types.specs.View.{View}
@@ -34,14 +31,14 @@ use Rattle.command_files.proofs.RefusedLemmas.{memory_gives, refused_gives}
 use Rattle.command_files.proofs.ScriptLemmas.{came_checked, gives_ran, memory_stops, stop_then}
 use Rattle.command_runs.specs.Bench.{BenchStates, bench_states, HasInstances, HasSameKinds}
 use Rattle.command_runs.specs.Checks as check
-use Rattle.command_runs.specs.Code.Ran.{IsOutcomeOf, as_events}
+use Rattle.command_runs.specs.Code.Ran.{IsOutcomeOf}
 use Rattle.command_runs.specs.Replies.{RepliesWith}
 use Rattle.command_runs.specs.Runs.{RunWork, SaysRun, run_work, running_by}
 use Rattle.command_runs.proofs.BenchLemmas.{has_instances, same_kinds}
 use Rattle.command_runs.proofs.OpeningLemmas.{opened_then}
 use Rattle.command_runs.proofs.RepliesLemmas.{followed}
 
--- ---- what became of a net, beside what the check of its events or steps tells
+-- ---- what became of a net, beside what the check of its steps tells
 
 -- the net stands for some steps, and the check gives their execution
 pub record HasReached (v : View) (given : Data) (loaded : List (Option Program)) (tables : List Sets) (b : Books) (told : Result Execution Bytes) : Type 0 where
@@ -50,50 +47,23 @@ pub record HasReached (v : View) (given : Data) (loaded : List (Option Program))
   pub tells : told ≡ Ok (execution_in stands.books)
 
 -- so it is where all was applied; else the check refuses the line that was refused, unless memory ran out
-abbrev pub IsAppliedAs : View → Data → (loaded : List (Option Program)) → (tables : List Sets) → Books → (told : Result Execution Bytes) → Result (Unit {0}) EventRefusal → Type 0
+abbrev pub IsAppliedAs : View → Data → (loaded : List (Option Program)) → (tables : List Sets) → Books → (told : Result Execution Bytes) → Result (Unit {0}) StepRefusal → Type 0
 IsAppliedAs v given loaded tables b told (Ok done) = HasReached v given loaded tables b told
 IsAppliedAs v given loaded tables b told (Err refused) = refused.fault ≢ event_faults.NoMemory → told ≡ Err (line_of (check.event_refusal refused.line refused.fault))
 
--- a net to which all was applied runs
-pub applied_runs : (v : View) (given : Data) (loaded : List (Option Program)) (tables : List Sets) (b : Books) (told : Result Execution Bytes) (applied : Result (Unit {0}) EventRefusal)
-    → IsAppliedAs v given loaded tables b told applied → OnOk applied (BooksRun v b)
-applied_runs v given loaded tables b told (Ok done) reached = record { given = given; steps = reached.steps; stand = reached.stands.books }
-applied_runs v given loaded tables b told (Err refused) refuses = tt
-
--- the books of a new net stand for the first execution
-first_books : (v : View) (given : Data) (loaded : List (Option Program)) (tables : List Sets) (b : Books) (stands : Stands v given [] loaded tables b) → execution_in stands.books ≡ first_execution
-first_books v given loaded tables b stands = Ok_same (execution_of (wiring_of v) given []) (execution_in stands.books) first_execution stands.books.stands.run refl
-
-module _ (v w : View) (given : Data) (loaded : List (Option Program)) (tables next : List Sets) (old new : Books) (same : w ≡ v) (stands : Stands v given [] loaded tables old) where
-  -- under events
-  module _ (lines : List Line) where
-    by_events : (after : Result Execution EventRefusal) (applied : Result (Unit {0}) EventRefusal) → Applied v given [] loaded next new lines after applied → IsAppliedAs v given loaded next new (check.executed after) applied
-    by_events after (Ok done) reaches = record { steps = [] ++ steps_of v lines; stands = reaches.stands; tells = ap check.executed reaches.reached }
-    by_events after (Err refused) stops = λ some. ap check.executed (stops.0 some)
-
-    pub events_applied : (applied : Result (Unit {0}) EventRefusal) → AppliesLines w loaded tables next old new lines applied → IsAppliedAs v given loaded next new (check.executed (after_lines v given lines first_execution)) applied
-    events_applied applied applies =
-        by_events (after_lines v given lines first_execution) applied
-        (subst (λ (x : Execution). Applied v given [] loaded next new lines (after_lines v given lines x) applied) (first_books v given loaded tables old stands)
-        (subst (λ (u : View). AppliesLines u loaded tables next old new lines applied) same applies given [] stands))
-
-  -- under steps
-  module _ (lines : List StepLine) where
-    by_steps : (after : Result Execution StepRefusal) (replayed : Result (Unit {0}) StepRefusal) → AppliedSteps v given [] loaded next new lines after replayed → IsAppliedAs v given loaded next new (check.replayed after) (as_events replayed)
-    by_steps after (Ok done) reaches = record { steps = [] ++ steps_in v lines; stands = reaches.stands; tells = ap check.replayed reaches.reached }
-    by_steps after (Err refused) stops = λ some. ap check.replayed (stops.0 some)
-
-    pub steps_applied : (replayed : Result (Unit {0}) StepRefusal) (applied : Result (Unit {0}) EventRefusal) → AppliesSteps w loaded tables next old new lines replayed → applied ≡ as_events replayed
-        → IsAppliedAs v given loaded next new (check.replayed (after_step_lines v given lines first_execution)) applied
-    steps_applied replayed applied applies is =
-        subst (IsAppliedAs v given loaded next new (check.replayed (after_step_lines v given lines first_execution))) (sym is)
-        (by_steps (after_step_lines v given lines first_execution) replayed
-        (subst (λ (x : Execution). AppliedSteps v given [] loaded next new lines (after_step_lines v given lines x) replayed) (first_books v given loaded tables old stands)
-        (subst (λ (u : View). AppliesSteps u loaded tables next old new lines replayed) same applies given [] stands)))
+module _ {X : Type 0} (step : X → NamedStep) (v w : View) (given : Data) (lines : List (ℕ × X)) (loaded : List (Option Program)) (tables next : List Sets) (old new : Books) (applied : Result (Unit {0}) StepRefusal) (same : w ≡ v)
+    (stands : Stands v given [] loaded tables old) (applies : Applies step w loaded tables next old new lines applied) where
+  -- so it is after the steps of lines
+  pub lines_applied : IsAppliedAs v given loaded next new (check.executed (after_lines step v given lines first_execution)) applied
+  lines_applied = from (after_lines step v given lines first_execution) applied (applied_first step v w given lines loaded tables next old new applied same stands applies)
+    where
+      from : (after : Result Execution StepRefusal) (applied : Result (Unit {0}) StepRefusal) → Applied step v given [] loaded next new lines after applied → IsAppliedAs v given loaded next new (check.executed after) applied
+      from after (Ok done) reaches = record { steps = [] ++ steps_in step v lines; stands = reaches.stands; tells = ap check.executed reaches.reached }
+      from after (Err refused) stops = λ some. ap check.executed (stops.0 some)
 
 -- ---- the command
 
--- the stop at an event or a step that is refused
+-- the stop at a step that is refused
 pub event_gives : (told : Result Execution Bytes) (line : ℕ) (fault : EventFault) (stop : Stop) → (fault ≢ event_faults.NoMemory → told ≡ Err (line_of (check.event_refusal line fault))) → IsStopAt (check.event_refusal line fault) stop
     → Gives (λ (x : Execution). x) (Err stop) told
 event_gives told line event_faults.NoInstance stop is said = refused_gives (λ (x : Execution). x) told (refusal.Event line event_kinds.NoInstance) stop (is (λ bad. cc)) said
@@ -107,8 +77,8 @@ module _ (v : View) (given : Data) (told : Result Execution Bytes) (bench : Benc
   abbrev happening : Script RunWork
   happening = check.checked told >>= λ x. gives (run_work v given x)
 
-  -- what becomes of the events or steps
-  happening_replies : (applied : Result (Unit {0}) EventRefusal) (outcome : Result Reply Stop) → IsOutcomeOf v b applied outcome → IsAppliedAs v given loaded tables b told applied
+  -- what becomes of the steps
+  happening_replies : (applied : Result (Unit {0}) StepRefusal) (outcome : Result Reply Stop) → IsOutcomeOf v b applied outcome → IsAppliedAs v given loaded tables b told applied
       → ((r : HasReached v given loaded tables b told) → HasInstances v (execution_in r.stands.books) bench)
       → RepliesWith SaysRun (files_states s s) bench outcome happening
   happening_replies (Ok done) (Ok reply) said reached instances =
@@ -122,7 +92,7 @@ module _ (v : View) (given : Data) (told : Result Execution Bytes) (bench : Benc
       (gives_ran (λ (x : Execution). x) s (Err stop) told (event_gives told refused.line refused.fault stop refuses said))
 
   -- the net is opened, and then they happen
-  pub net_replies : (applied : Result (Unit {0}) EventRefusal) (outcome : Result Reply Stop) → check.opened v (fault_of_opening v (λ kind. kind) bench.kinds) ≡ Ok tt → IsAppliedAs v given loaded tables b told applied
+  pub net_replies : (applied : Result (Unit {0}) StepRefusal) (outcome : Result Reply Stop) → check.opened v (fault_of_opening v (λ kind. kind) bench.kinds) ≡ Ok tt → IsAppliedAs v given loaded tables b told applied
       → IsOutcomeOf v b applied outcome → ((r : HasReached v given loaded tables b told) → HasInstances v (execution_in r.stands.books) bench)
       → RepliesWith SaysRun (files_states s s) bench outcome (running_by (check.checked told) bench.kinds v given)
   net_replies applied outcome opens is said instances = opened_then SaysRun v bench happening outcome s opens (happening_replies applied outcome said is instances)
@@ -136,7 +106,7 @@ module _ {X : Type 0} (v : View) (given : Data) (told : Result Execution Bytes) 
 
   module _ (others opened shells all : List X) (put : all ≡ others ++ shells) where
     -- the net is opened with shells of the bench, all is applied or not, and the shells go back
-    pub bench_replies : (b : Books) (applied : Result (Unit {0}) EventRefusal) (outcome : Result Reply Stop)
+    pub bench_replies : (b : Books) (applied : Result (Unit {0}) StepRefusal) (outcome : Result Reply Stop)
         → check.opened v (fault_of_opening v (λ k. k) (map kind before)) ≡ Ok tt → map loaded shells ≡ map loaded opened → IsAppliedAs v given (map loaded opened) (map kept shells) b told applied
         → IsOutcomeOf v b applied outcome → (s : Source) → RepliesWith SaysRun (files_states s s) (states all) outcome (running_by (check.checked told) (map kind before) v given)
     bench_replies b applied outcome opens programs is said s =

@@ -5,8 +5,7 @@ use Rattle.emitted.specs.declared.fault.EventFault.{EventFault}
 use Rattle.emitted.specs.declared.fault.EventFault.TheVariants as event_faults
 use Rattle.inbox.specs.Executions.{Execution, first_execution}
 use Rattle.replay_run.specs.Reading.{step_reading}
-use Rattle.replay_run.specs.Steps.{StepLine, after_step_lines}
-use Rattle.replay_run.specs.declared.running.StepRefusal.{StepRefusal}
+use Rattle.replay_run.specs.Steps.{StepLine, after_lines, itself}
 use Rattle.report_print.specs.declared.refusal.Refusal.{Refusal}
 use Rattle.report_print.specs.declared.refusal.Refusal.TheVariants as refusal
 use Rattle.report_print.specs.declared.refusal.EventKind.TheVariants as event_kinds
@@ -15,8 +14,9 @@ use Rattle.sched_bench.specs.Bench.{fault_of_opening}
 use Rattle.sched_bench.specs.declared.fault.OpenFault.{OpenFault}
 use Rattle.sched_bench.specs.declared.fault.OpenFault.TheVariants as open_faults
 use Rattle.sched_run.specs.Making.{Line}
-use Rattle.replay_run.specs.Applying.{after_lines}
-use Rattle.replay_run.specs.declared.applying.EventRefusal.{EventRefusal}
+use Rattle.replay_run.specs.declared.running.StepRefusal.{StepRefusal}
+use Rattle.replay_run.specs.declared.step.Step.{Step as NamedStep}
+use Rattle.replay_run.specs.declared.step.Step.TheVariants.{Event}
 use Rattle.sched_text.specs.Reading.{bad_line, entries_of}
 use Rattle.topo_types.specs.Data.{Data}
 use Rattle.topo_types.specs.View.{View, component_at}
@@ -69,18 +69,18 @@ event_refusal line event_faults.TooManyRows = Some (refusal.Event line event_kin
 event_refusal line event_faults.TooManyMessages = Some (refusal.Event line event_kinds.TooManyMessages)
 event_refusal line event_faults.NoMemory = None
 
-abbrev pub executed : Result Execution EventRefusal → Result Execution Bytes
+abbrev pub executed : Result Execution StepRefusal → Result Execution Bytes
 executed (Ok x) = Ok x
 executed (Err refused) = Err (line_of (event_refusal refused.line refused.fault))
 
--- the events in order, up to the first that is refused
+-- the steps of lines in order, up to the first that is refused
+abbrev pub happening : {X : Type 0} → (step : X → NamedStep) → View → Data → List (ℕ × X) → Script Execution
+happening step v given lines = checked (executed (after_lines step v given lines first_execution))
+
+-- so events
 abbrev pub execution : View → Data → List Line → Script Execution
-execution v given lines = checked (executed (after_lines v given lines first_execution))
+execution v given lines = happening Event v given lines
 
-abbrev pub replayed : Result Execution StepRefusal → Result Execution Bytes
-replayed (Ok x) = Ok x
-replayed (Err refused) = Err (line_of (event_refusal refused.line refused.fault))
-
--- the steps in order, up to the first that is refused
+-- and steps
 abbrev pub restarted : View → Data → List StepLine → Script Execution
-restarted v given lines = checked (replayed (after_step_lines v given lines first_execution))
+restarted v given lines = happening itself v given lines

@@ -8,7 +8,7 @@ ghost use Rattle.command_runs.specs.Code.Ran.{IsOutcomeOf, ReportsBooks};
 ghost use Rattle.command_runs.specs.Contents.{TellsStatus};
 
 use command_files::{Reply, Status, Stop, stop_at};
-use replay_run::EventRefusal;
+use replay_run::StepRefusal;
 use report_print::{EventKind, Refusal};
 use report_runs::run_text;
 use sched_run::{EventFault, Net};
@@ -66,7 +66,7 @@ pub(crate) fn outcome_of(
     alloc: Global,
     valid: &Valid,
     net: &Net<'_>,
-    applied: Result<(), EventRefusal>,
+    applied: Result<(), StepRefusal>,
 ) -> Result<Reply, Stop>
     requires same { net.now.valid.now.view ≡ valid.now.view }
     requires runs { OnOk applied (BooksRun valid.now.view net.now.books) }

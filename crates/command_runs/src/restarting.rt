@@ -1,16 +1,14 @@
 //! The command that runs a schedule in which instances may lose all that they have.
-ghost use Rattle.std.specs.Prelude.{◌≡◌, map};
+ghost use Rattle.std.specs.Prelude.{map};
 ghost use Rattle.topo_types.specs.Data.{IsData};
 ghost use Rattle.blazes_words.specs.Requests.{files_shown};
 ghost use Rattle.command_files.specs.Ends.{files_states, source};
 ghost use Rattle.command_runs.specs.Bench.{bench_states};
 ghost use Rattle.command_runs.specs.Code.Ran.{restarting_file};
-ghost use Rattle.command_runs.specs.Code.Ran as spec;
-ghost use Rattle.command_runs.specs.Replies.{KeepsKinds, RepliesAtOnce, RepliesWith};
-ghost use Rattle.command_runs.specs.Runs.{SaysRun, restarting, restarts};
+ghost use Rattle.command_runs.specs.Replies.{KeepsKinds, RepliesWith};
+ghost use Rattle.command_runs.specs.Runs.{SaysRun, restarts};
 
-use crate::opening::opened;
-use crate::reporting::outcome_of;
+use crate::running::run_lines;
 use crate::steps::steps_file;
 use blazes_words::RunFiles;
 use blz_boxes::Component;
@@ -18,48 +16,10 @@ use blz_outside::Files;
 use command_checks::{data_file, valid_topology};
 use command_files::{Reply, Stop};
 use data_read::Data;
-use replay_run::{EventRefusal, Step, StepRefusal};
 use std::alloc::Global;
 use topo_types::Valid;
 
-// The answer to steps as one to events, so that both are reported alike.
-fn as_events(replayed: Result<(), StepRefusal>) -> Result<(), EventRefusal>
-    ensures { result ≡ spec.as_events replayed }
-{
-    match replayed {
-        Ok(()) => Ok(()),
-        Err(StepRefusal { line, fault }) => Err(EventRefusal { line, fault }),
-    }
-}
-
-// Opens a net over the data with shells of the bench, makes the steps in order and says what they
-// made; then the shells go back to the bench.
-fn restart_lines(
-    alloc: Global,
-    valid: &Valid,
-    given: Data,
-    lines: &[(u32, Step)],
-    bench: &mut Vec<Box<dyn Component>>,
-) -> Result<Reply, Stop>
-    requires { IsData valid.now.view given }
-    ensures replies { RepliesAtOnce SaysRun
-        (bench_states (map (λ b. kind b) bench.old.items) (map (λ b. kind b) bench.new.items)
-        (map (λ b. loaded b) bench.new.items) (map (λ b. kept b) bench.new.items))
-        result (restarting (map (λ b. kind b) bench.old.items) valid.now.view given lines.now) }
-    ensures kinds { KeepsKinds
-        (bench_states (map (λ b. kind b) bench.old.items) (map (λ b. kind b) bench.new.items)
-        (map (λ b. loaded b) bench.new.items) (map (λ b. kept b) bench.new.items))
-        result }
-{
-    let mut net = opened(alloc, valid, given, bench)?;
-    let replayed = replay_run::run(&mut net, lines);
-    let applied = as_events(replayed);
-    let outcome = outcome_of(alloc, valid, &net, applied);
-    net.close(bench)?;
-    outcome
-}
-
-// The same under the steps in the file of this name.
+// What the steps in the file of this name make of a net that is opened over the data.
 fn restart_file<F: Files>(
     alloc: Global,
     valid: &Valid,
@@ -81,7 +41,7 @@ fn restart_file<F: Files>(
         result }
 {
     let steps = steps_file(alloc, name, files)?;
-    restart_lines(alloc, valid, given, &steps, bench)
+    run_lines(alloc, valid, given, &steps, bench)
 }
 
 /// What the instances of the topology in one of these files emit over the data in another under the

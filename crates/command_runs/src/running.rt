@@ -4,9 +4,10 @@ ghost use Rattle.topo_types.specs.Data.{IsData};
 ghost use Rattle.blazes_words.specs.Requests.{files_shown};
 ghost use Rattle.command_files.specs.Ends.{files_states, source};
 ghost use Rattle.command_runs.specs.Bench.{bench_states};
+ghost use Rattle.command_runs.specs.Checks as check;
 ghost use Rattle.command_runs.specs.Code.Ran.{running_file};
 ghost use Rattle.command_runs.specs.Replies.{KeepsKinds, RepliesAtOnce, RepliesWith};
-ghost use Rattle.command_runs.specs.Runs.{SaysRun, running, runs};
+ghost use Rattle.command_runs.specs.Runs.{SaysRun, running_by, runs};
 
 use crate::opening::opened;
 use crate::reporting::outcome_of;
@@ -16,32 +17,31 @@ use blz_outside::Files;
 use command_checks::{data_file, valid_topology};
 use command_files::{Reply, Stop, schedule_file};
 use data_read::Data;
-use replay_run::apply;
-use sched_text::Event;
+use replay_run::AsStep;
 use std::alloc::Global;
 use topo_types::Valid;
 
-// Opens a net over the data with shells of the bench, applies the events in order and says what
-// they made; then the shells go back to the bench.
-fn run_lines(
+// Opens a net over the data with shells of the bench, applies the steps or events in order and says
+// what they made; then the shells go back to the bench.
+pub(crate) fn run_lines<S: AsStep>(
     alloc: Global,
     valid: &Valid,
     given: Data,
-    lines: &[(u32, Event)],
+    lines: &[(u32, S)],
     bench: &mut Vec<Box<dyn Component>>,
 ) -> Result<Reply, Stop>
     requires { IsData valid.now.view given }
     ensures replies { RepliesAtOnce SaysRun
         (bench_states (map (λ b. kind b) bench.old.items) (map (λ b. kind b) bench.new.items)
         (map (λ b. loaded b) bench.new.items) (map (λ b. kept b) bench.new.items))
-        result (running (map (λ b. kind b) bench.old.items) valid.now.view given lines.now) }
+        result (running_by (check.happening S.step valid.now.view given lines.now) (map (λ b. kind b) bench.old.items) valid.now.view given) }
     ensures kinds { KeepsKinds
         (bench_states (map (λ b. kind b) bench.old.items) (map (λ b. kind b) bench.new.items)
         (map (λ b. loaded b) bench.new.items) (map (λ b. kept b) bench.new.items))
         result }
 {
     let mut net = opened(alloc, valid, given, bench)?;
-    let applied = apply(&mut net, lines);
+    let applied = replay_run::run(&mut net, lines);
     let outcome = outcome_of(alloc, valid, &net, applied);
     net.close(bench)?;
     outcome

@@ -1,4 +1,4 @@
-pub mod ApplyingLemmas
+pub mod FirstLemmas
 pub mod StepsLemmas
 pub mod WorkedLines
 pub mod WorkedReplay

@@ -17,7 +17,7 @@ use Rattle.inbox.specs.Wiring.{wiring_of}
 use Rattle.emitted.specs.declared.fault.EventFault.TheVariants.{NoInstance}
 use Rattle.sched_text.specs.Reading.{entries_of}
 use Rattle.replay_run.specs.Reading.{step_reading}
-use Rattle.replay_run.specs.Steps.{after_step_lines}
+use Rattle.replay_run.specs.Steps.{after_lines, itself}
 use Rattle.replay_run.specs.declared.running.StepRefusal.{StepRefusal}
 
 -- the latest record of each word, as it was put; the attributes are word 0 and n 1
@@ -51,7 +51,7 @@ given = record { rows = record_of 1 ∷ record_of 2 ∷ []; parts = [] } ∷ rec
 
 -- what the cache answered after a text
 abbrev answered : List ℕ → Result (List Row) StepRefusal
-answered text = result_and_then (after_step_lines cached given (entries_of step_reading text) first_execution) (λ (x : Execution). Ok (contents (wiring_of cached) given x 2 0))
+answered text = result_and_then (after_lines itself cached given (entries_of step_reading text) first_execution) (λ (x : Execution). Ok (contents (wiring_of cached) given x 2 0))
 
 abbrev first_put : List ℕ
 first_put = codes "deliver puts 0 0 to cache.put 0\n"

@@ -1,4 +1,4 @@
-pub mod Applying
+pub mod Lent
 pub mod Reading
 pub mod Steps
 pub mod Code

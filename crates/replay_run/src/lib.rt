@@ -2,12 +2,12 @@
 //! steps and the text of these.
 #![tactic(auto)]
 
-mod applying;
+mod as_step;
 mod reading;
 mod running;
 mod step;
 
-pub use applying::{EventRefusal, apply};
+pub use as_step::{AsStep, StepRef};
 pub use reading::read;
 pub use running::{StepRefusal, run};
 pub use step::Step;

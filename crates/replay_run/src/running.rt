@@ -2,11 +2,12 @@
 //!
 //! No signature here has a box, so in a clause a word of a shell takes the two parts of its box.
 ghost use Rattle.std.specs.Prelude.{◌≡◌, map};
-ghost use Rattle.replay_run.specs.Steps.{AppliesSteps, numbered_step};
+ghost use Rattle.replay_run.specs.Lent.{step_of};
+ghost use Rattle.replay_run.specs.Steps.{Applies, numbered_step};
 ghost use Rattle.replay_run.specs.Code.Stepping.{StepAnswers, StepLeaves};
 ghost use Rattle.sched_hear.specs.Net.{Runs};
 
-use crate::step::Step;
+use crate::as_step::{AsStep, StepRef};
 use sched_run::{EventFault, ForgetFault, Net};
 
 /// A step that is refused.
@@ -19,37 +20,37 @@ pub struct StepRefusal {
 }
 
 // Applies one step.
-fn take_step(net: &mut Net<'_>, step: &Step) -> Result<(), EventFault>
+fn take_step(net: &mut Net<'_>, step: &StepRef<'_>) -> Result<(), EventFault>
     requires runs { Runs net.old.valid.now.view (map (λ b. loaded (b.vtable, b.value)) net.old.shells.items) (map (λ b. kept (b.vtable, b.value)) net.old.shells.items) net.old.books }
-    ensures answer { StepAnswers net.old.valid.now.view (map (λ b. loaded (b.vtable, b.value)) net.old.shells.items) (map (λ b. kept (b.vtable, b.value)) net.old.shells.items) net.old.books (numbered_step net.old.valid.now.view step.now) result }
-    ensures leaves { StepLeaves net.old.valid.now.view (map (λ b. loaded (b.vtable, b.value)) net.old.shells.items) (map (λ b. kept (b.vtable, b.value)) net.old.shells.items) (map (λ b. kept (b.vtable, b.value)) net.new.shells.items) net.old.books net.new.books (numbered_step net.old.valid.now.view step.now) result }
+    ensures answer { StepAnswers net.old.valid.now.view (map (λ b. loaded (b.vtable, b.value)) net.old.shells.items) (map (λ b. kept (b.vtable, b.value)) net.old.shells.items) net.old.books (numbered_step net.old.valid.now.view (step_of step.now)) result }
+    ensures leaves { StepLeaves net.old.valid.now.view (map (λ b. loaded (b.vtable, b.value)) net.old.shells.items) (map (λ b. kept (b.vtable, b.value)) net.old.shells.items) (map (λ b. kept (b.vtable, b.value)) net.new.shells.items) net.old.books net.new.books (numbered_step net.old.valid.now.view (step_of step.now)) result }
     ensures valid { net.new.valid ≡ net.old.valid }
     ensures kinds { map (λ b. kind (b.vtable, b.value)) net.new.shells.items ≡ map (λ b. kind (b.vtable, b.value)) net.old.shells.items }
     ensures loaded { map (λ b. loaded (b.vtable, b.value)) net.new.shells.items ≡ map (λ b. loaded (b.vtable, b.value)) net.old.shells.items }
 {
     match step {
-        Step::Event(event) => net.event(event),
-        Step::Forget { component, replica } => match net.forget(component, *replica) {
+        StepRef::Event(event) => net.event(event),
+        StepRef::Forget { component, replica } => match net.forget(component, *replica) {
             Ok(()) => Ok(()),
             Err(ForgetFault::NoInstance) => Err(EventFault::NoInstance),
         },
     }
 }
 
-/// Applies steps in order, each with the number of its line, up to the first that is refused. Those
-/// before it were applied, and the net is as `event` or `forget` leaves it.
-pub fn run(net: &mut Net<'_>, steps: &[(u32, Step)]) -> Result<(), StepRefusal>
+/// Applies steps, or events alone, in order, each with the number of its line, up to the first that is
+/// refused. Those before it were applied, and the net is as `event` or `forget` leaves it.
+pub fn run<S: AsStep>(net: &mut Net<'_>, steps: &[(u32, S)]) -> Result<(), StepRefusal>
     requires runs { Runs net.old.valid.now.view (map (λ b. loaded (b.vtable, b.value)) net.old.shells.items) (map (λ b. kept (b.vtable, b.value)) net.old.shells.items) net.old.books }
 
     // Of all steps for which the net stood: what these make of their execution, and of the net.
-    ensures applies { AppliesSteps net.old.valid.now.view (map (λ b. loaded (b.vtable, b.value)) net.old.shells.items) (map (λ b. kept (b.vtable, b.value)) net.old.shells.items) (map (λ b. kept (b.vtable, b.value)) net.new.shells.items) net.old.books net.new.books steps.now result }
+    ensures applies { Applies S.step net.old.valid.now.view (map (λ b. loaded (b.vtable, b.value)) net.old.shells.items) (map (λ b. kept (b.vtable, b.value)) net.old.shells.items) (map (λ b. kept (b.vtable, b.value)) net.new.shells.items) net.old.books net.new.books steps.now result }
 
     ensures valid { net.new.valid ≡ net.old.valid }
     ensures kinds { map (λ b. kind (b.vtable, b.value)) net.new.shells.items ≡ map (λ b. kind (b.vtable, b.value)) net.old.shells.items }
     ensures loaded { map (λ b. loaded (b.vtable, b.value)) net.new.shells.items ≡ map (λ b. loaded (b.vtable, b.value)) net.old.shells.items }
 {
     for (line, step) in steps {
-        if let Err(fault) = take_step(net, step) {
+        if let Err(fault) = take_step(net, &step.as_step()) {
             return Err(StepRefusal { line: *line, fault });
         }
     }

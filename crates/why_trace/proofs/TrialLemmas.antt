@@ -1,5 +1,5 @@
 -- A trial answers whether its lines yield the record.
-use Rattle.std.proofs.Common.{◌≡◌, ◌∙◌, ◌++◌, ◌<◌, ◌≤◌, ◌&&◌, ◌||◌, Bool, true, false, nat_lt, OnOk, List, [], ◌∷◌, Bor, Option, Result, Ok, Err, inl, inr, refl, sym, subst, ap, arith}
+use Rattle.std.proofs.Common.{◌≡◌, ◌∙◌, ◌++◌, ◌<◌, ◌≤◌, ◌&&◌, ◌||◌, Bool, true, false, nat_lt, List, [], ◌∷◌, Bor, Option, Result, Ok, Err, inl, inr, refl, sym, subst, ap, arith}
 use Rattle.std.specs.Cmp.{eq_by_cmp_equiv}
 use Rattle.std.specs.List.{list_any}
 use Rattle.std.proofs.lemmas.Bool.{cases_Bool}
@@ -9,18 +9,18 @@ use Rattle.blz_value.specs.Record.{Row}
 use Rattle.blz_value.specs.RecordOrder.{record_cmp_total}
 use Rattle.bloom_ast.specs.declared.program.Program.{Program}
 use Rattle.bloom_ast.specs.Step.{Sets}
-use Rattle.topo_types.specs.Data.{Data}
 use Rattle.topo_types.specs.Messages.{is_same_row}
 use Rattle.topo_types.specs.View.{View, stream_replicas}
-use Rattle.inbox.specs.Executions.{Execution, first_execution, execution_of, contents}
+use Rattle.inbox.specs.Executions.{Execution, first_execution, contents}
 use Rattle.inbox.specs.Wiring.{wiring_of}
-use Rattle.inbox.proofs.Executions.Results.{Ok_same}
-use Rattle.sched_hear.specs.Net.{Stands, BooksRun, execution_in}
+use Rattle.sched_hear.specs.Net.{Stands, execution_in}
 use Rattle.sched_hear.specs.declared.books.Books.{Books}
 use Rattle.sched_run.specs.Making.{Line, steps_of}
-use Rattle.replay_run.specs.Applying.{after_lines, Applied, AppliesLines}
+use Rattle.replay_run.specs.Steps.{after_lines, Applied, Applies}
 use Rattle.sched_run.specs.Reading.{IsRead}
-use Rattle.replay_run.specs.declared.applying.EventRefusal.{EventRefusal}
+use Rattle.replay_run.specs.declared.running.StepRefusal.{StepRefusal}
+use Rattle.replay_run.specs.declared.step.Step.TheVariants as named
+use Rattle.replay_run.proofs.FirstLemmas.{applied_first}
 use Rattle.why_trace.specs.Trim.{Wanted, has_record, has_at_end, yields}
 use Rattle.why_trace.specs.Code.Trials.{Sought, is_yielded_by, TellsFound}
 
@@ -67,39 +67,16 @@ record_in v w b sought refs found tells same read none =
 
 -- ---- lines that were applied
 
--- the books of a new net stand for the first execution
-first_books : (v : View) (given : Data) (loaded : List (Option Program)) (tables : List Sets) (b : Books) (stands : Stands v given [] loaded tables b) → execution_in stands.books ≡ first_execution
-first_books v given loaded tables b stands = Ok_same (execution_of (wiring_of v) given []) (execution_in stands.books) first_execution stands.books.stands.run refl
-
-module _ (v w : View) (given : Data) (lines : List Line) (loaded : List (Option Program)) (tables next : List Sets) (old new : Books) (applied : Result (Unit {0}) EventRefusal) (same : w ≡ v)
-    (stands : Stands v given [] loaded tables old) (applies : AppliesLines w loaded tables next old new lines applied) where
-  -- what the lines made of a new net
-  made : Applied v given [] loaded next new lines (after_lines v given lines first_execution) applied
-  made =
-      subst (λ (x : Execution). Applied v given [] loaded next new lines (after_lines v given lines x) applied) (first_books v given loaded tables old stands)
-      (subst (λ (u : View). AppliesLines u loaded tables next old new lines applied) same applies given [] stands)
-
--- a net to which all lines were applied runs
-runs_where : (v : View) (given : Data) (lines : List Line) (loaded : List (Option Program)) (next : List Sets) (new : Books) (after : Result Execution EventRefusal) (applied : Result (Unit {0}) EventRefusal)
-    → Applied v given [] loaded next new lines after applied → OnOk applied (BooksRun v new)
-runs_where v given lines loaded next new after (Ok done) reaches = record { given = given; steps = [] ++ steps_of v lines; stand = reaches.stands.books }
-runs_where v given lines loaded next new after (Err refusal) stops = tt
-
-pub runs_after : (v w : View) (given : Data) (lines : List Line) (loaded : List (Option Program)) (tables next : List Sets) (old new : Books) (applied : Result (Unit {0}) EventRefusal) → w ≡ v
-    → Stands v given [] loaded tables old → AppliesLines w loaded tables next old new lines applied → OnOk applied (BooksRun v new)
-runs_after v w given lines loaded tables next old new applied same stands applies =
-    runs_where v given lines loaded next new (after_lines v given lines first_execution) applied (made v w given lines loaded tables next old new applied same stands applies)
-
 -- what is found in it is what the lines end with
-found_where : (sought : Sought) (lines : List Line) (loaded : List (Option Program)) (next : List Sets) (new : Books) (after : Result Execution EventRefusal) (applied : Result (Unit {0}) EventRefusal) (found : Bool)
-    → Applied sought.view sought.given [] loaded next new lines after applied → TellsFound sought new applied found → found ≡ has_at_end sought.view sought.given sought.wanted after
+found_where : (sought : Sought) (lines : List Line) (loaded : List (Option Program)) (next : List Sets) (new : Books) (after : Result Execution StepRefusal) (applied : Result (Unit {0}) StepRefusal) (found : Bool)
+    → Applied named.Event sought.view sought.given [] loaded next new lines after applied → TellsFound sought new applied found → found ≡ has_at_end sought.view sought.given sought.wanted after
 found_where sought lines loaded next new after (Ok done) found reaches tells =
     tells sought.given ([] ++ steps_of sought.view lines) reaches.stands.books ∙ ap (has_at_end sought.view sought.given sought.wanted) (sym reaches.reached)
 found_where sought lines loaded next new after (Err refusal) found stops tells =
     tells.1 ∙ ap (has_at_end sought.view sought.given sought.wanted) (sym (stops.0 tells.0))
 
-pub found_yielded : (sought : Sought) (w : View) (lines : List Line) (loaded : List (Option Program)) (tables next : List Sets) (old new : Books) (applied : Result (Unit {0}) EventRefusal) (found : Bool) → w ≡ sought.view
-    → Stands sought.view sought.given [] loaded tables old → AppliesLines w loaded tables next old new lines applied → TellsFound sought new applied found → found ≡ is_yielded_by sought lines
+pub found_yielded : (sought : Sought) (w : View) (lines : List Line) (loaded : List (Option Program)) (tables next : List Sets) (old new : Books) (applied : Result (Unit {0}) StepRefusal) (found : Bool) → w ≡ sought.view
+    → Stands sought.view sought.given [] loaded tables old → Applies named.Event w loaded tables next old new lines applied → TellsFound sought new applied found → found ≡ is_yielded_by sought lines
 unfolding yields
 found_yielded sought w lines loaded tables next old new applied found same stands applies tells =
-    found_where sought lines loaded next new (after_lines sought.view sought.given lines first_execution) applied found (made sought.view w sought.given lines loaded tables next old new applied same stands applies) tells
+    found_where sought lines loaded next new (after_lines named.Event sought.view sought.given lines first_execution) applied found (applied_first named.Event sought.view w sought.given lines loaded tables next old new applied same stands applies) tells

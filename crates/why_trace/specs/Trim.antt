@@ -8,8 +8,9 @@ use Rattle.topo_types.specs.View.{View, stream_replicas}
 use Rattle.inbox.specs.Executions.{Execution, first_execution, contents}
 use Rattle.inbox.specs.Wiring.{wiring_of}
 use Rattle.sched_run.specs.Making.{Line}
-use Rattle.replay_run.specs.Applying.{after_lines}
-use Rattle.replay_run.specs.declared.applying.EventRefusal.{EventRefusal}
+use Rattle.replay_run.specs.Steps.{after_lines}
+use Rattle.replay_run.specs.declared.running.StepRefusal.{StepRefusal}
+use Rattle.replay_run.specs.declared.step.Step.TheVariants as named
 use Rattle.why_trace.specs.Passes.{trim_by}
 
 -- a record that is looked for, with its stream and the sending replica
@@ -26,13 +27,13 @@ abbrev pub has_record : View → Data → Wanted → Execution → Bool
 has_record v given sought x = nat_lt sought.replica (stream_replicas v sought.stream) && list_any (is_same_row sought.row) (contents (wiring_of v) given x sought.stream sought.replica)
 
 -- so it is at the end of lines of which none is refused
-abbrev pub has_at_end : View → Data → Wanted → Result Execution EventRefusal → Bool
+abbrev pub has_at_end : View → Data → Wanted → Result Execution StepRefusal → Bool
 has_at_end v given sought (Ok x) = has_record v given sought x
 has_at_end v given sought (Err refusal) = false
 
 -- lines yield the record: each event is legal when it comes and meets no limit, and the contents at the end have the record
 unfoldable pub yields : View → Data → Wanted → List Line → Bool
-yields v given sought lines = has_at_end v given sought (after_lines v given lines first_execution)
+yields v given sought lines = has_at_end v given sought (after_lines named.Event v given lines first_execution)
 
 -- the lines that are needed, with their numbers
 abbrev pub trim : View → Data → Wanted → List Line → List Line

@@ -12,7 +12,7 @@ ghost use Rattle.why_trace.specs.Code.Trials.{sought_of, is_yielded_by, TellsFou
 use blz_boxes::Component;
 use blz_value::Record;
 use data_read::Data;
-use replay_run::{EventRefusal, apply};
+use replay_run::{StepRefusal, run};
 use sched_run::{EventFault, Net, OpenFault};
 use sched_text::Event;
 use std::alloc::{AllocError, Global};
@@ -74,7 +74,7 @@ impl Trial<'_> {
     }
 
     // The same where all lines were applied; where one was refused nothing is found.
-    fn is_found(&self, net: &Net<'_>, applied: Result<(), EventRefusal>) -> Result<bool, AllocError>
+    fn is_found(&self, net: &Net<'_>, applied: Result<(), StepRefusal>) -> Result<bool, AllocError>
         requires same { net.now.valid.now.view ≡ self.now.valid.now.view }
         requires runs { OnOk applied (BooksRun self.now.valid.now.view net.now.books) }
         ensures { IfOk result (TellsFound (sought_of self.now) net.now.books applied) }
@@ -99,7 +99,7 @@ impl Trial<'_> {
         ensures kinds { OnOk result (IsPermutation (map (λ b. kind b) bench.old.items) (map (λ b. kind b) bench.new.items)) }
     {
         let mut net = opened(self.alloc, self.valid, self.given.copy()?, bench)?;
-        let applied = apply(&mut net, lines);
+        let applied = run(&mut net, lines);
         let found = self.is_found(&net, applied)?;
         net.close(bench)?;
         Ok(found)

@@ -7,7 +7,7 @@ use Rattle.inbox.specs.Events.{Step}
 use Rattle.sched_hear.specs.Net.{BooksStand, execution_in}
 use Rattle.sched_hear.specs.declared.books.Books.{Books}
 use Rattle.sched_run.specs.Making.{Line}
-use Rattle.replay_run.specs.declared.applying.EventRefusal.{EventRefusal}
+use Rattle.replay_run.specs.declared.running.StepRefusal.{StepRefusal}
 use Rattle.why_trace.specs.Trim as trim
 use Rattle.blazes_words.specs.Words.{WhyWords}
 use Rattle.command_runs.specs.Checks.{event_refusal}
@@ -27,7 +27,7 @@ abbrev pub LooksIn : View → Books → WhyWords → Result Wanted Stop → Type
 LooksIn v b words result = (given : Data) (steps : List Step) (stand : BooksStand v given steps b) → RanAtOnce wanted_shown result (check.wanted v given (execution_in stand) words)
 
 -- so it is where the events were so applied
-abbrev pub IsLookedIn : View → Books → WhyWords → Result (Unit {0}) EventRefusal → Result Wanted Stop → Type 0
+abbrev pub IsLookedIn : View → Books → WhyWords → Result (Unit {0}) StepRefusal → Result Wanted Stop → Type 0
 IsLookedIn v b words (Ok x) result = LooksIn v b words result
 IsLookedIn v b words (Err refused) (Ok wanted) = ⊥
 IsLookedIn v b words (Err refused) (Err stop) = IsStopAt (event_refusal refused.line refused.fault) stop

@@ -6,9 +6,10 @@ use Rattle.topo_types.specs.View.{View}
 use Rattle.inbox.specs.Executions.{Execution, first_execution}
 use Rattle.sched_hear.specs.declared.books.Books.{Books}
 use Rattle.sched_run.specs.Making.{Line}
-use Rattle.replay_run.specs.Applying.{after_lines}
+use Rattle.replay_run.specs.Steps.{after_lines}
 use Rattle.sched_run.specs.Reading.{IsRead, is_complete}
-use Rattle.replay_run.specs.declared.applying.EventRefusal.{EventRefusal}
+use Rattle.replay_run.specs.declared.running.StepRefusal.{StepRefusal}
+use Rattle.replay_run.specs.declared.step.Step.TheVariants as named
 use Rattle.witness_check.specs.Difference.{difference, snapshot}
 use Rattle.witness_check.specs.declared.difference.Difference.{Difference}
 use Rattle.witness_check.specs.declared.difference.Which.{Which}
@@ -31,12 +32,12 @@ abbrev pub seen_of : View → Data → Execution → Seen
 seen_of v given x = record { contents = snapshot v given x; complete = is_complete v given x }
 
 -- the refusal of an event of one of two schedules
-abbrev pub refusal_of : Which → EventRefusal → Option Refusal
+abbrev pub refusal_of : Which → StepRefusal → Option Refusal
 refusal_of First refused = event_refusal refused.line refused.fault
 refusal_of Second refused = check.second_event_refusal refused.line refused.fault
 
 -- what the events of one of two schedules make, or the line of the first that is refused
-abbrev pub executed_of : Which → Result Execution EventRefusal → Result Execution Bytes
+abbrev pub executed_of : Which → Result Execution StepRefusal → Result Execution Bytes
 executed_of First after = check.executed after
 executed_of Second after = check.second_executed after
 
@@ -44,7 +45,7 @@ executed_of Second after = check.second_executed after
 abbrev pub run_in : Which → List ProgramKind → View → Data → List Line → Script Execution
 run_in which kinds v given lines = do
   opened ← check.opening v kinds
-  check.checked (executed_of which (after_lines v given lines first_execution))
+  check.checked (executed_of which (after_lines named.Event v given lines first_execution))
 
 -- this is taken of the execution at the end of a script
 pub record IsSeen (v : View) (given : Data) (run : Script Execution) (seen : Seen) : Type 0 where
@@ -58,7 +59,7 @@ Sees v given run (Ok seen) = IsSeen v given run seen
 Sees v given run (Err stop) = (files : Source) → Stopped (files_states files files) stop run
 
 -- what is taken of a net that has these books, to which the events of one of two schedules were so applied
-abbrev pub IsSeenOf : Which → View → Books → Result (Unit {0}) EventRefusal → Result Seen Stop → Type 0
+abbrev pub IsSeenOf : Which → View → Books → Result (Unit {0}) StepRefusal → Result Seen Stop → Type 0
 IsSeenOf which v b (Ok x) (Ok seen) = IsRead v b (seen_of v) seen
 IsSeenOf which v b (Ok x) (Err stop) = stop ≡ NoMemory
 IsSeenOf which v b (Err refused) (Ok seen) = ⊥

@@ -2,10 +2,9 @@
 use Rattle.std.specs.Prelude.{◌≡◌, List, Result, Ok, Err}
 use Rattle.blz_boxes.specs.declared.kind.ProgramKind.{ProgramKind}
 use Rattle.inbox.specs.Events.{Step}
-use Rattle.replay_run.specs.declared.running.StepRefusal.{StepRefusal}
 use Rattle.sched_hear.specs.Net.{BooksStand, execution_in}
 use Rattle.sched_hear.specs.declared.books.Books.{Books}
-use Rattle.replay_run.specs.declared.applying.EventRefusal.{EventRefusal}
+use Rattle.replay_run.specs.declared.running.StepRefusal.{StepRefusal}
 use Rattle.topo_types.specs.Data.{Data}
 use Rattle.topo_types.specs.View.{View}
 use Rattle.command_files.specs.Ran.{answer_of, IsStopAt}
@@ -22,17 +21,12 @@ use Rattle.command_runs.specs.Runs.{RunWork, restarting, running}
 abbrev pub ReportsBooks : View → Books → Answer → Type 0
 ReportsBooks v b answer = (given : Data) (steps : List Step) (stand : BooksStand v given steps b) → HasContents v given (execution_in stand) answer
 
--- the outcome of a run to whose books the events were so applied
-abbrev pub IsOutcomeOf : View → Books → Result (Unit {0}) EventRefusal → Result Reply Stop → Type 0
+-- the outcome of a run to whose books the steps were so applied
+abbrev pub IsOutcomeOf : View → Books → Result (Unit {0}) StepRefusal → Result Reply Stop → Type 0
 IsOutcomeOf v b (Ok x) (Ok reply) = ReportsBooks v b (answer_of reply)
 IsOutcomeOf v b (Ok x) (Err stop) = stop ≡ NoMemory
 IsOutcomeOf v b (Err refused) (Ok reply) = ⊥
 IsOutcomeOf v b (Err refused) (Err stop) = IsStopAt (check.event_refusal refused.line refused.fault) stop
-
--- the answer to steps as one to events
-abbrev pub as_events : Result (Unit {0}) StepRefusal → Result (Unit {0}) EventRefusal
-as_events (Ok x) = Ok x
-as_events (Err refused) = Err (record { line = refused.line; fault = refused.fault })
 
 -- a run of a topology over its data, from the file of the schedule on
 abbrev pub running_file : List ProgramKind → View → Data → Bytes → Script RunWork

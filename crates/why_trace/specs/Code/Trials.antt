@@ -6,7 +6,7 @@ use Rattle.emitted.specs.declared.fault.EventFault.TheVariants.{NoMemory}
 use Rattle.sched_hear.specs.declared.books.Books.{Books}
 use Rattle.sched_run.specs.Making.{Line}
 use Rattle.sched_run.specs.Reading.{IsRead}
-use Rattle.replay_run.specs.declared.applying.EventRefusal.{EventRefusal}
+use Rattle.replay_run.specs.declared.running.StepRefusal.{StepRefusal}
 use Rattle.why_trace.specs.declared.trial.Trial.{Trial}
 use Rattle.why_trace.specs.Trim.{Wanted, wanted, has_record, yields}
 
@@ -25,6 +25,6 @@ abbrev pub is_yielded_by : Sought → List Line → Bool
 is_yielded_by sought lines = yields sought.view sought.given sought.wanted lines
 
 -- what is found in books to which lines were so applied: the record where the execution has it, and nothing after a refusal
-abbrev pub TellsFound : Sought → Books → Result (Unit {0}) EventRefusal → Bool → Type 0
+abbrev pub TellsFound : Sought → Books → Result (Unit {0}) StepRefusal → Bool → Type 0
 TellsFound sought b (Ok x) found = IsRead sought.view b (λ given x. has_record sought.view given sought.wanted x) found
 TellsFound sought b (Err refusal) found = (refusal.fault ≢ NoMemory) × (found ≡ false)

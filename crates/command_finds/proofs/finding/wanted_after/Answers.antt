@@ -1,38 +1,30 @@
-use Rattle.std.proofs.Common.{[], ap, map, subst, sym, ◌∙◌}
-use Rattle.inbox.specs.Executions.{first_execution}
-use Rattle.sched_hear.specs.Net.{Stands}
-use Rattle.replay_run.specs.Applying.{after_lines}
+use Rattle.std.proofs.Common.{ap, map, ◌∙◌}
+use Rattle.replay_run.specs.declared.step.Step.TheVariants as named
+use Rattle.replay_run.proofs.FirstLemmas.{applied_first, new_runs, runs_after}
 use Rattle.topo_types.specs.Valid.{Validated}
-use Rattle.topo_types.specs.View.{View}
 use Rattle.blazes_words.specs.Requests.{why_shown}
 use Rattle.command_runs.proofs.BenchLemmas.{same_kinds}
 use Rattle.command_finds.proofs.LookedLemmas.{net_looks, opening_looks}
-use Rattle.command_finds.proofs.NetLemmas.{applied_first, applied_runs}
 use Rattle.command_finds.proofs.RepliesLemmas.{loses_none}
 use Rattle.command_finds.proofs.finding.wanted_after.Goals as goal
 
-pub apply-applied-requires : goal.apply-applied-requires
-apply-applied-requires g c =
+pub run-applied-requires : goal.run-applied-requires
+run-applied-requires g c =
     let net = c.in_ok-net.net in
     record {
-      runs = record {
-        given = c.args.given;
-        steps = [];
-        stands = subst (λ (v : View). Stands v c.args.given [] (map (λ b. (goal.Component-dyn g (b.vtable, b.value)).loaded b.value) net.shells.items) (map (λ b. (goal.Component-dyn g (b.vtable, b.value)).kept b.value) net.shells.items) net.books)
-            (sym (ap (λ (t : Validated). t.view) c.in_ok-net.ensures.valid)) c.in_ok-net.ensures.stands;
-      };
+      runs = new_runs c.args.valid.now.view net.valid.now.view c.args.given (map (λ b. (goal.Component-dyn g (b.vtable, b.value)).loaded b.value) net.shells.items) (map (λ b. (goal.Component-dyn g (b.vtable, b.value)).kept b.value) net.shells.items) net.books
+          (ap (λ (t : Validated). t.view) c.in_ok-net.ensures.valid) c.in_ok-net.ensures.stands;
     }
 
 pub outcome_of-outcome-requires : goal.outcome_of-outcome-requires
 outcome_of-outcome-requires g c =
-    let v = c.args.valid.now.view in
     let net = c.in_ok-net.net in
-    let after = c.apply-applied.new.net in
+    let after = c.run-applied.new.net in
     let same = ap (λ (t : Validated). t.view) c.in_ok-net.ensures.valid in
     record {
-      same = ap (λ valid. valid.now.view) c.apply-applied.ensures.valid ∙ same;
-      runs = applied_runs v c.args.given c.args.lines.now (map (λ b. (goal.Component-dyn g (b.vtable, b.value)).loaded b.value) net.shells.items) (map (λ b. (goal.Component-dyn g (b.vtable, b.value)).kept b.value) after.shells.items) after.books (after_lines v c.args.given c.args.lines.now first_execution) c.apply-applied.result
-          (applied_first v net.valid.now.view c.args.given c.args.lines.now (map (λ b. (goal.Component-dyn g (b.vtable, b.value)).loaded b.value) net.shells.items) (map (λ b. (goal.Component-dyn g (b.vtable, b.value)).kept b.value) net.shells.items) (map (λ b. (goal.Component-dyn g (b.vtable, b.value)).kept b.value) after.shells.items) net.books after.books c.apply-applied.result same c.in_ok-net.ensures.stands c.apply-applied.ensures.applies);
+      same = ap (λ valid. valid.now.view) c.run-applied.ensures.valid ∙ same;
+      runs = runs_after named.Event c.args.valid.now.view net.valid.now.view c.args.given c.args.lines.now (map (λ b. (goal.Component-dyn g (b.vtable, b.value)).loaded b.value) net.shells.items) (map (λ b. (goal.Component-dyn g (b.vtable, b.value)).kept b.value) net.shells.items) (map (λ b. (goal.Component-dyn g (b.vtable, b.value)).kept b.value) after.shells.items)
+          net.books after.books c.run-applied.result same c.in_ok-net.ensures.stands c.run-applied.ensures.applies;
     }
 
 pub returns-in_err-net : goal.returns-in_err-net
@@ -45,12 +37,12 @@ pub returns : goal.returns
 returns g c =
     let v = c.args.valid.now.view in
     let net = c.in_ok-net.net in
-    let after = c.apply-applied.new.net in
+    let after = c.run-applied.new.net in
     let same = ap (λ (t : Validated). t.view) c.in_ok-net.ensures.valid in
     record {
-      looks = net_looks (map (λ b. (goal.Component-dyn g (b.vtable, b.value)).kind b.value) c.args.bench.now.items) v c.args.given c.args.lines.now (why_shown c.args.words.now) (map (λ b. (goal.Component-dyn g (b.vtable, b.value)).loaded b.value) net.shells.items) (map (λ b. (goal.Component-dyn g (b.vtable, b.value)).kept b.value) after.shells.items) after.books c.apply-applied.result c.outcome_of-outcome.result c.in_ok-net.ensures.gives
-          (applied_first v net.valid.now.view c.args.given c.args.lines.now (map (λ b. (goal.Component-dyn g (b.vtable, b.value)).loaded b.value) net.shells.items) (map (λ b. (goal.Component-dyn g (b.vtable, b.value)).kept b.value) net.shells.items) (map (λ b. (goal.Component-dyn g (b.vtable, b.value)).kept b.value) after.shells.items) net.books after.books c.apply-applied.result same c.in_ok-net.ensures.stands c.apply-applied.ensures.applies)
+      looks = net_looks (map (λ b. (goal.Component-dyn g (b.vtable, b.value)).kind b.value) c.args.bench.now.items) v c.args.given c.args.lines.now (why_shown c.args.words.now) (map (λ b. (goal.Component-dyn g (b.vtable, b.value)).loaded b.value) net.shells.items) (map (λ b. (goal.Component-dyn g (b.vtable, b.value)).kept b.value) after.shells.items) after.books c.run-applied.result c.outcome_of-outcome.result c.in_ok-net.ensures.gives
+          (applied_first named.Event v net.valid.now.view c.args.given c.args.lines.now (map (λ b. (goal.Component-dyn g (b.vtable, b.value)).loaded b.value) net.shells.items) (map (λ b. (goal.Component-dyn g (b.vtable, b.value)).kept b.value) net.shells.items) (map (λ b. (goal.Component-dyn g (b.vtable, b.value)).kept b.value) after.shells.items) net.books after.books c.run-applied.result same c.in_ok-net.ensures.stands c.run-applied.ensures.applies)
           c.outcome_of-outcome.ensures;
       kinds = loses_none (map (λ b. (goal.Component-dyn g (b.vtable, b.value)).kind b.value) c.args.bench.now.items) (map (λ b. (goal.Component-dyn g (b.vtable, b.value)).kind b.value) c.close.new.bench.items) c.outcome_of-outcome.result
-          (same_kinds (λ b. (goal.Component-dyn g (b.vtable, b.value)).kind b.value) (map (λ b. (goal.Component-dyn g (b.vtable, b.value)).kind b.value) c.args.bench.now.items) c.opened.new.bench.items net.shells.items after.shells.items c.close.new.bench.items c.in_ok-net.ensures.kinds c.apply-applied.ensures.kinds c.in_ok-close.ensures.ok);
+          (same_kinds (λ b. (goal.Component-dyn g (b.vtable, b.value)).kind b.value) (map (λ b. (goal.Component-dyn g (b.vtable, b.value)).kind b.value) c.args.bench.now.items) c.opened.new.bench.items net.shells.items after.shells.items c.close.new.bench.items c.in_ok-net.ensures.kinds c.run-applied.ensures.kinds c.in_ok-close.ensures.ok);
     }

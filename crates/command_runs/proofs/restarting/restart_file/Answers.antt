@@ -22,11 +22,11 @@ returns-in_err-steps g c =
 
 pub returns : goal.returns
 returns g c =
-    let bench = bench_states (map (λ b. (goal.Component-dyn g (b.vtable, b.value)).kind b.value) c.args.bench.now.items) (map (λ b. (goal.Component-dyn g (b.vtable, b.value)).kind b.value) c.restart_lines.new.bench.items) (map (λ b. (goal.Component-dyn g (b.vtable, b.value)).loaded b.value) c.restart_lines.new.bench.items) (map (λ b. (goal.Component-dyn g (b.vtable, b.value)).kept b.value) c.restart_lines.new.bench.items) in
+    let bench = bench_states (map (λ b. (goal.Component-dyn g (b.vtable, b.value)).kind b.value) c.args.bench.now.items) (map (λ b. (goal.Component-dyn g (b.vtable, b.value)).kind b.value) c.run_lines.new.bench.items) (map (λ b. (goal.Component-dyn g (b.vtable, b.value)).loaded b.value) c.run_lines.new.bench.items) (map (λ b. (goal.Component-dyn g (b.vtable, b.value)).kept b.value) c.run_lines.new.bench.items) in
     let a = source (g.F.Files.held c.args.files.now) (g.F.Files.steady c.args.files.now) (g.F.Files.faults c.args.files.now) in
     let b = source (g.F.Files.held c.steps_file.new.files) (g.F.Files.steady c.steps_file.new.files) (g.F.Files.faults c.steps_file.new.files) in
     record {
-      replies = then_replies SaysRun a b b bench (check.steps_file c.args.name.now) (restarting bench.kinds c.args.valid.now.view c.args.given) c.in_ok-steps.steps.items c.restart_lines.result c.in_ok-steps.ensures
-          (subst (λ (lines : List StepLine). RepliesAtOnce SaysRun bench c.restart_lines.result (restarting bench.kinds c.args.valid.now.view c.args.given lines)) c.deref.ensures.value c.restart_lines.ensures.replies b);
-      kinds = c.restart_lines.ensures.kinds;
+      replies = then_replies SaysRun a b b bench (check.steps_file c.args.name.now) (restarting bench.kinds c.args.valid.now.view c.args.given) c.in_ok-steps.steps.items c.run_lines.result c.in_ok-steps.ensures
+          (subst (λ (lines : List StepLine). RepliesAtOnce SaysRun bench c.run_lines.result (restarting bench.kinds c.args.valid.now.view c.args.given lines)) c.deref.ensures.value c.run_lines.ensures.replies b);
+      kinds = c.run_lines.ensures.kinds;
     }

@@ -1,40 +1,34 @@
-use Rattle.std.proofs.Common.{[], ap, map, subst, sym, ◌∙◌}
-use Rattle.sched_hear.specs.Net.{Stands}
+use Rattle.std.proofs.Common.{ap, map, ◌∙◌}
 use Rattle.topo_types.specs.Valid.{Validated}
-use Rattle.topo_types.specs.View.{View}
 use Rattle.inbox.specs.Executions.{first_execution}
-use Rattle.replay_run.specs.Applying.{after_lines}
+use Rattle.replay_run.specs.Steps.{after_lines}
+use Rattle.replay_run.proofs.FirstLemmas.{new_runs, runs_after}
 use Rattle.command_files.specs.Script.{Script, ◌>>=◌}
 use Rattle.command_runs.specs.Bench.{bench_states}
 use Rattle.command_runs.specs.Checks as check
 use Rattle.command_runs.specs.Runs.{SaysRun, run_work}
 use Rattle.command_runs.proofs.OpeningLemmas.{opening_stops}
 use Rattle.command_runs.proofs.RepliesLemmas.{kept_anyway}
-use Rattle.command_runs.proofs.RunLemmas.{applied_runs, bench_keeps, bench_replies, events_applied}
+use Rattle.command_runs.proofs.RunLemmas.{bench_keeps, bench_replies, lines_applied}
 use Rattle.command_runs.proofs.running.run_lines.Goals as goal
 
-pub apply-applied-requires : goal.apply-applied-requires
-apply-applied-requires g c =
+pub run-applied-requires : goal.run-applied-requires
+run-applied-requires g c =
     let net = c.in_ok-net.net in
     record {
-      runs = record {
-        given = c.args.given;
-        steps = [];
-        stands = subst (λ (v : View). Stands v c.args.given [] (map (λ b. (goal.Component-dyn g (b.vtable, b.value)).loaded b.value) net.shells.items) (map (λ b. (goal.Component-dyn g (b.vtable, b.value)).kept b.value) net.shells.items) net.books)
-            (sym (ap (λ (t : Validated). t.view) c.in_ok-net.ensures.valid)) c.in_ok-net.ensures.stands;
-      };
+      runs = new_runs c.args.valid.now.view net.valid.now.view c.args.given (map (λ b. (goal.Component-dyn g (b.vtable, b.value)).loaded b.value) net.shells.items) (map (λ b. (goal.Component-dyn g (b.vtable, b.value)).kept b.value) net.shells.items) net.books
+          (ap (λ (t : Validated). t.view) c.in_ok-net.ensures.valid) c.in_ok-net.ensures.stands;
     }
 
 pub outcome_of-outcome-requires : goal.outcome_of-outcome-requires
 outcome_of-outcome-requires g c =
     let net = c.in_ok-net.net in
-    let after = c.apply-applied.new.net in
+    let after = c.run-applied.new.net in
     let same = ap (λ (t : Validated). t.view) c.in_ok-net.ensures.valid in
     record {
-      same = ap (λ valid. valid.now.view) c.apply-applied.ensures.valid ∙ same;
-      runs = applied_runs c.args.valid.now.view c.args.given (map (λ b. (goal.Component-dyn g (b.vtable, b.value)).loaded b.value) net.shells.items) (map (λ b. (goal.Component-dyn g (b.vtable, b.value)).kept b.value) after.shells.items) after.books (check.executed (after_lines c.args.valid.now.view c.args.given c.args.lines.now first_execution)) c.apply-applied.result
-          (events_applied c.args.valid.now.view net.valid.now.view c.args.given (map (λ b. (goal.Component-dyn g (b.vtable, b.value)).loaded b.value) net.shells.items) (map (λ b. (goal.Component-dyn g (b.vtable, b.value)).kept b.value) net.shells.items) (map (λ b. (goal.Component-dyn g (b.vtable, b.value)).kept b.value) after.shells.items) net.books after.books same c.in_ok-net.ensures.stands c.args.lines.now
-          c.apply-applied.result c.apply-applied.ensures.applies);
+      same = ap (λ valid. valid.now.view) c.run-applied.ensures.valid ∙ same;
+      runs = runs_after g.S.AsStep.step c.args.valid.now.view net.valid.now.view c.args.given c.args.lines.now (map (λ b. (goal.Component-dyn g (b.vtable, b.value)).loaded b.value) net.shells.items) (map (λ b. (goal.Component-dyn g (b.vtable, b.value)).kept b.value) net.shells.items) (map (λ b. (goal.Component-dyn g (b.vtable, b.value)).kept b.value) after.shells.items)
+          net.books after.books c.run-applied.result same c.in_ok-net.ensures.stands c.run-applied.ensures.applies;
     }
 
 pub returns-in_err-net : goal.returns-in_err-net
@@ -42,7 +36,7 @@ returns-in_err-net g c =
     let v = c.args.valid.now.view in
     let bench = bench_states (map (λ b. (goal.Component-dyn g (b.vtable, b.value)).kind b.value) c.args.bench.now.items) (map (λ b. (goal.Component-dyn g (b.vtable, b.value)).kind b.value) c.opened.new.bench.items) (map (λ b. (goal.Component-dyn g (b.vtable, b.value)).loaded b.value) c.opened.new.bench.items) (map (λ b. (goal.Component-dyn g (b.vtable, b.value)).kept b.value) c.opened.new.bench.items) in
     record {
-      replies = λ s. opening_stops SaysRun v bench (check.checked (check.executed (after_lines c.args.valid.now.view c.args.given c.args.lines.now first_execution)) >>= λ x. Script.gives (run_work v c.args.given x)) c.from_residual.result s c.in_err-net.field-0.0
+      replies = λ s. opening_stops SaysRun v bench (check.checked (check.executed (after_lines g.S.AsStep.step c.args.valid.now.view c.args.given c.args.lines.now first_execution)) >>= λ x. Script.gives (run_work v c.args.given x)) c.from_residual.result s c.in_err-net.field-0.0
           c.from_residual.ensures.1 c.in_err-net.ensures.gives;
       kinds = kept_anyway bench c.from_residual.result c.in_err-net.ensures.unopened;
     }
@@ -50,17 +44,17 @@ returns-in_err-net g c =
 pub returns : goal.returns
 returns g c =
     let net = c.in_ok-net.net in
-    let after = c.apply-applied.new.net in
+    let after = c.run-applied.new.net in
     let all = c.close.new.bench.items in
     let put = c.in_ok-close.ensures.ok in
     let same = ap (λ (t : Validated). t.view) c.in_ok-net.ensures.valid in
     let bench = bench_states (map (λ b. (goal.Component-dyn g (b.vtable, b.value)).kind b.value) c.args.bench.now.items) (map (λ b. (goal.Component-dyn g (b.vtable, b.value)).kind b.value) all) (map (λ b. (goal.Component-dyn g (b.vtable, b.value)).loaded b.value) all) (map (λ b. (goal.Component-dyn g (b.vtable, b.value)).kept b.value) all) in
     record {
-      replies = bench_replies c.args.valid.now.view c.args.given (check.executed (after_lines c.args.valid.now.view c.args.given c.args.lines.now first_execution)) (λ b. (goal.Component-dyn g (b.vtable, b.value)).kind b.value) (λ b. (goal.Component-dyn g (b.vtable, b.value)).loaded b.value) (λ b. (goal.Component-dyn g (b.vtable, b.value)).kept b.value) c.args.bench.now.items c.opened.new.bench.items net.shells.items after.shells.items all put
-          after.books c.apply-applied.result c.outcome_of-outcome.result c.in_ok-net.ensures.gives c.apply-applied.ensures.loaded
-          (events_applied c.args.valid.now.view net.valid.now.view c.args.given (map (λ b. (goal.Component-dyn g (b.vtable, b.value)).loaded b.value) net.shells.items) (map (λ b. (goal.Component-dyn g (b.vtable, b.value)).kept b.value) net.shells.items) (map (λ b. (goal.Component-dyn g (b.vtable, b.value)).kept b.value) after.shells.items) net.books after.books same c.in_ok-net.ensures.stands c.args.lines.now
-          c.apply-applied.result c.apply-applied.ensures.applies)
+      replies = bench_replies c.args.valid.now.view c.args.given (check.executed (after_lines g.S.AsStep.step c.args.valid.now.view c.args.given c.args.lines.now first_execution)) (λ b. (goal.Component-dyn g (b.vtable, b.value)).kind b.value) (λ b. (goal.Component-dyn g (b.vtable, b.value)).loaded b.value) (λ b. (goal.Component-dyn g (b.vtable, b.value)).kept b.value) c.args.bench.now.items c.opened.new.bench.items net.shells.items after.shells.items all put
+          after.books c.run-applied.result c.outcome_of-outcome.result c.in_ok-net.ensures.gives c.run-applied.ensures.loaded
+          (lines_applied g.S.AsStep.step c.args.valid.now.view net.valid.now.view c.args.given c.args.lines.now (map (λ b. (goal.Component-dyn g (b.vtable, b.value)).loaded b.value) net.shells.items) (map (λ b. (goal.Component-dyn g (b.vtable, b.value)).kept b.value) net.shells.items) (map (λ b. (goal.Component-dyn g (b.vtable, b.value)).kept b.value) after.shells.items)
+          net.books after.books c.run-applied.result same c.in_ok-net.ensures.stands c.run-applied.ensures.applies)
           c.outcome_of-outcome.ensures;
       kinds = kept_anyway bench c.outcome_of-outcome.result
-          (bench_keeps c.args.valid.now.view c.args.given (check.executed (after_lines c.args.valid.now.view c.args.given c.args.lines.now first_execution)) (λ b. (goal.Component-dyn g (b.vtable, b.value)).kind b.value) (λ b. (goal.Component-dyn g (b.vtable, b.value)).loaded b.value) (λ b. (goal.Component-dyn g (b.vtable, b.value)).kept b.value) c.args.bench.now.items c.opened.new.bench.items net.shells.items after.shells.items all put c.in_ok-net.ensures.kinds c.apply-applied.ensures.kinds);
+          (bench_keeps c.args.valid.now.view c.args.given (check.executed (after_lines g.S.AsStep.step c.args.valid.now.view c.args.given c.args.lines.now first_execution)) (λ b. (goal.Component-dyn g (b.vtable, b.value)).kind b.value) (λ b. (goal.Component-dyn g (b.vtable, b.value)).loaded b.value) (λ b. (goal.Component-dyn g (b.vtable, b.value)).kept b.value) c.args.bench.now.items c.opened.new.bench.items net.shells.items after.shells.items all put c.in_ok-net.ensures.kinds c.run-applied.ensures.kinds);
     }

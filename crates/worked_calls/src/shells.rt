@@ -40,8 +40,6 @@ pub(crate) fn shells_shown(alloc: Global, text: &[u8]) -> Result<Vec<u8>>
 // Two puts of one word and the question for it arrive at once.
 fn latest_shown(alloc: Global, shell: &mut Box<dyn Component>, shown: &mut Vec<u8>) -> Result<()> {
     let program = latest_program(alloc)?;
-    ensure!(shell.fits(&program), "the last shell isn't one of Latest");
-    shell.load(&program)?;
     puts_shown(alloc, shell, &program, shown)
 }
 
@@ -51,9 +49,10 @@ fn puts_shown(
     program: &Program,
     shown: &mut Vec<u8>,
 ) -> Result<()>
-    requires latest { program.now ≡ Latest (codes "word" ∷ codes "n" ∷ []) (0 ∷ []) }
-    requires loaded { loaded shell.old ≡ Some program.now }
+    requires { program.now ≡ Latest (codes "word" ∷ codes "n" ∷ []) (0 ∷ []) }
 {
+    ensure!(shell.fits(program), "the last shell isn't one of Latest");
+    shell.load(program)?;
     let now = puts_and_question(alloc)?;
     let outs = stepped(alloc, shell, program, &now)?;
     show_sets("puts out", outs.sets(), shown)?;
@@ -63,8 +62,6 @@ fn puts_shown(
 // The record (7) arrives.
 fn number_shown(alloc: Global, shell: &mut Box<dyn Component>, shown: &mut Vec<u8>) -> Result<()> {
     let program = number_program(alloc)?;
-    ensure!(shell.fits(&program), "the middle shell isn't one of Number");
-    shell.load(&program)?;
     seven_shown(alloc, shell, &program, shown)
 }
 
@@ -74,9 +71,10 @@ fn seven_shown(
     program: &Program,
     shown: &mut Vec<u8>,
 ) -> Result<()>
-    requires number { program.now ≡ Number (codes "x" ∷ []) }
-    requires loaded { loaded shell.old ≡ Some program.now }
+    requires { program.now ≡ Number (codes "x" ∷ []) }
 {
+    ensure!(shell.fits(program), "the middle shell isn't one of Number");
+    shell.load(program)?;
     let outs = stepped(alloc, shell, program, &seven(alloc)?)?;
     show_sets("puts out", outs.sets(), shown)?;
     kept_and_cleared(alloc, shell, program, shown)
@@ -92,11 +90,6 @@ fn tally_shown(
     requires { length text.now < 2 ^ 32 - 1 }
 {
     let program = program_of(alloc, text)?;
-    ensure!(
-        shell.fits(&program),
-        "the first shell isn't one for modules"
-    );
-    shell.load(&program)?;
     clicks_shown(alloc, shell, &program, shown)
 }
 
@@ -108,8 +101,9 @@ fn clicks_shown(
 ) -> Result<()>
     requires stock { IsStock program.now }
     requires table { length (table_columns program.now) ≡ 1 }
-    requires loaded { loaded shell.old ≡ Some program.now }
 {
+    ensure!(shell.fits(program), "the first shell isn't one for modules");
+    shell.load(program)?;
     let outs = stepped(alloc, shell, program, &click(alloc, program, 10)?)?;
     show_sets("puts out", outs.sets(), shown)?;
     let outs = stepped(alloc, shell, program, &click(alloc, program, 11)?)?;

@@ -23,9 +23,17 @@ pub(crate) fn sides_shown(alloc: Global, text: &[u8]) -> Result<Vec<u8>>
     requires { length text.now < 2 ^ 32 - 1 }
 {
     let program = joining_program(alloc, text)?;
+    sides_of(alloc, &program)
+}
+
+// The same of the module's program.
+fn sides_of(alloc: Global, program: &Program) -> Result<Vec<u8>>
+    requires stock { IsStock program.now }
+    requires tables { length (table_columns program.now) ≡ 2 }
+{
     let mut shown = Vec::new(alloc);
-    lent_shown(alloc, &program, &mut shown)?;
-    same_steps(alloc, &program)?;
+    lent_shown(alloc, program, &mut shown)?;
+    same_steps(alloc, program)?;
     shown.extend_from_slice(b"the same after each of 20 steps\n")?;
     Ok(shown)
 }
@@ -66,6 +74,18 @@ fn lent_shown(alloc: Global, program: &Program, shown: &mut Vec<u8>) -> Result<(
     requires { IsStock program.now }
 {
     let mut shell = IndexShell::new(alloc);
+    lends_shown(alloc, &mut shell, program, shown)
+}
+
+// A function that owned the shell, with all of its parts, would take minutes to check: each `?` may end it.
+fn lends_shown(
+    alloc: Global,
+    shell: &mut IndexShell,
+    program: &Program,
+    shown: &mut Vec<u8>,
+) -> Result<()>
+    requires { IsStock program.now }
+{
     ensure!(shell.fits(program), "the shell is one for modules");
     shell.load(program)?;
     let now = arrival(alloc, program, true, pair(alloc, Value::Int(1), 5)?)?;
@@ -95,6 +115,19 @@ fn same_steps(alloc: Global, program: &Program) -> Result<()>
 {
     let mut indexed: Box<dyn Component> = Box::new(alloc, IndexShell::new(alloc))?;
     let mut plain: Box<dyn Component> = Box::new(alloc, PlainShell::new(alloc))?;
+    ten_rounds(alloc, program, &mut indexed, &mut plain)
+}
+
+// Ten rounds, of two steps each.
+fn ten_rounds(
+    alloc: Global,
+    program: &Program,
+    indexed: &mut Box<dyn Component>,
+    plain: &mut Box<dyn Component>,
+) -> Result<()>
+    requires stock { IsStock program.now }
+    requires tables { length (table_columns program.now) ≡ 2 }
+{
     ensure!(
         indexed.fits(program),
         "the indexed shell is one for modules"
@@ -102,8 +135,8 @@ fn same_steps(alloc: Global, program: &Program) -> Result<()>
     ensure!(plain.fits(program), "the plain shell is one for modules");
     indexed.load(program)?;
     plain.load(program)?;
-    five_rounds(alloc, program, &mut indexed, &mut plain, 0)?;
-    five_rounds(alloc, program, &mut indexed, &mut plain, 5)
+    five_rounds(alloc, program, indexed, plain, 0)?;
+    five_rounds(alloc, program, indexed, plain, 5)
 }
 
 // Five rounds with numbers from this one on.

@@ -4,7 +4,7 @@ ghost use Rattle.coord_synth.specs.Code.Chosen as code;
 ghost use Rattle.topo_types.specs.Laws.{CanHaveMode};
 
 use std::alloc::{AllocError, Global};
-use topo_modes::with_mode;
+use topo_modes::replace_mode;
 use topo_types::{Mode, Valid};
 
 /// The topology with this mode at the component, or as it is where none was chosen.
@@ -18,7 +18,7 @@ pub(crate) fn with_chosen(
     ensures { IfOk result (λ next. next ≡ code.with_chosen now component chosen) }
 {
     match chosen {
-        Some(mode) => with_mode(alloc, now, component, mode),
+        Some(mode) => replace_mode(alloc, now, component, mode),
         None => Ok(now),
     }
 }

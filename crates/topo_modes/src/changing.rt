@@ -1,15 +1,38 @@
 //! A valid topology with another mode of one component.
 ghost use Rattle.std.specs.Prelude.{◌≡◌, IfOk};
 ghost use Rattle.topo_types.specs.Laws.{CanHaveMode, validated_with_mode};
+ghost use Rattle.topo_types.specs.Valid.{Validated};
 
 use crate::modes::{kept_with_mode, topology_with_mode};
 use std::alloc::{AllocError, Global};
+use topo_copy::valid_copy;
 use topo_graph::{found_with, regions_of};
 use topo_types::{Mode, Valid};
 
+/// What a valid topology is with another mode of one of its components.
+pub trait WithMode {
+    /// The topology as it is written, and its view.
+    ghost validated: { Self → Validated };
+
+    /// The same topology with this mode and key written at a component, and all else as it was. The
+    /// topology itself stays as it is, also after want of memory. It costs a copy of the topology,
+    /// and what is found of the view is found anew.
+    fn with_mode(&self, alloc: Global, component: u32, mode: Mode) -> Result<Valid, AllocError>
+        requires { CanHaveMode (validated self.now).view component mode }
+        ensures { IfOk result (λ other. other ≡ validated_with_mode (validated self.now) component mode) };
+}
+
+impl WithMode for Valid {
+    ghost validated = { λ valid. valid };
+
+    fn with_mode(&self, alloc: Global, component: u32, mode: Mode) -> Result<Valid, AllocError> {
+        replace_mode(alloc, valid_copy(alloc, self)?, component, mode)
+    }
+}
+
 /// The same topology with this mode and key written at a component, and all else as it was. Nothing
 /// is copied, and what is found of the view is found anew. After want of memory the topology is gone.
-pub fn with_mode(
+pub fn replace_mode(
     alloc: Global,
     valid: Valid,
     component: u32,

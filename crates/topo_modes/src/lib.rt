@@ -5,5 +5,5 @@ mod changing;
 mod laws;
 mod modes;
 
-pub use changing::with_mode;
+pub use changing::{WithMode, replace_mode};
 pub use laws::{other_modes_law, with_mode_law};

@@ -4,7 +4,7 @@ use Rattle.topo_types.specs.Kept.{view_kept}
 use Rattle.topo_types.specs.Modes.{topology_with_mode}
 use Rattle.topo_types.specs.View.{View, with_mode}
 use Rattle.topo_modes.proofs.NextWhole as lemmas
-use Rattle.topo_modes.proofs.changing.with_mode.Goals as goal
+use Rattle.topo_modes.proofs.changing.replace_mode.Goals as goal
 
 pub topology_with_mode-requires-clause-within : goal.topology_with_mode-requires-clause-within
 topology_with_mode-requires-clause-within c =

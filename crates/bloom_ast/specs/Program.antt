@@ -1,5 +1,5 @@
 -- Programs: their ports, outputs and tables, each by its columns.
-use Rattle.std.specs.Prelude.{ℕ, ◌≤◌, ◌<◌, ◌≢◌, IsFalse, List, [], ◌∷◌, ◌++◌, map, length, codes, All, AllPairs, slice_index_or}
+use Rattle.std.specs.Prelude.{ℕ, ◌≤◌, ◌<◌, ◌≢◌, List, [], ◌∷◌, ◌++◌, map, length, codes, All, AllPairs, slice_index_or}
 use Rattle.std.specs.List.{remove}
 use Rattle.bloom_ast.specs.declared.module.Kind.{Kind}
 use Rattle.bloom_ast.specs.declared.module.Kind.TheVariants.{Input, Output, Table}
@@ -7,7 +7,6 @@ use Rattle.bloom_ast.specs.declared.module.Collection.{Collection}
 use Rattle.bloom_ast.specs.declared.program.Program.{Program}
 use Rattle.bloom_ast.specs.declared.program.Program.TheVariants.{Module, Split, Latest, Number}
 use Rattle.bloom_ast.specs.Query.{Name}
-use Rattle.bloom_ast.specs.Fits.{repeats}
 use Rattle.bloom_ast.specs.Kinds.{of_kind}
 use Rattle.bloom_ast.specs.StockSteps.{keys_in_order}
 
@@ -16,12 +15,12 @@ pub record IsSmall (cs : List Collection) : Type 0 where
   pub few : length cs ≤ 32
   pub narrow : All (λ c. length c.columns ≤ 8) cs
 
--- a stock body has at most eight columns, none twice, and its split and its keys are distinct numbers below their count
+-- a stock body has at most eight columns, and its split and its keys are distinct numbers below their count
 abbrev pub IsStock : Program → Type 0
 IsStock (Module a) = Unit {0}
-IsStock (Split columns split) = (length columns ≤ 8) × (split < length columns) × IsFalse (repeats columns)
-IsStock (Latest columns keys) = (length columns ≤ 8) × All (λ key. key < length columns) keys × AllPairs (λ a b. a ≢ b) keys × IsFalse (repeats columns)
-IsStock (Number columns) = (length columns ≤ 8) × IsFalse (repeats columns)
+IsStock (Split columns split) = (length columns ≤ 8) × (split < length columns)
+IsStock (Latest columns keys) = (length columns ≤ 8) × All (λ key. key < length columns) keys × AllPairs (λ a b. a ≢ b) keys
+IsStock (Number columns) = length columns ≤ 8
 
 -- the columns of the collections of a kind, in declared order
 abbrev pub columns_of_kind : Kind → List Collection → List (List Name)

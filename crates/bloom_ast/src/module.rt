@@ -3,7 +3,7 @@ use crate::expr::Expr;
 use blz_value::{Items, Str};
 
 /// What a collection is for.
-#[derive(Clone, Copy, Debug, PartialEq, Eq)]
+#[derive(Clone, Copy, PartialEq, Eq)]
 pub enum Kind {
     /// A port, which holds the rows that arrive in a step.
     Input,

@@ -12,9 +12,9 @@ use Rattle.fd_closure.proofs.Least.{closure-least}
 use Rattle.fd_closure.proofs.Reached.{least-one, closed-map}
 use Rattle.blz_value.specs.Members.{Has}
 use Rattle.blz_value.proofs.Membership.{Has-map, Has-from_map, Has-filter, Has-from_filter, Has-flat_map, Has-from_flat_map, Has-from_any, any_from_Has}
-use Rattle.bloom_ast.specs.Reads.{with_all, bit_if}
+use Rattle.bloom_ast.specs.Reads.{arrow_from, with_all, bit_if}
 use Rattle.bloom_ast.proofs.Collections.Chosen.{in_chosen, from_chosen}
-use Rattle.topo_graph.specs.Code.Feeders.{counts_into, sender_of, feeders, feeder_arrow, feeder_arrows}
+use Rattle.topo_graph.specs.Code.Feeders.{counts_into, sender_of, feeders}
 use Rattle.topo_types.specs.Found.{HasEnds}
 use Rattle.topo_types.specs.Graph.{Edge, arrow, arrows, is_in}
 use Rattle.topo_types.specs.Regions.{edges, edges_of, counting_ends}
@@ -32,6 +32,13 @@ pub own_number : (a : ℕ) → nat_eq a a ≡ true
 own_number a = grind (arith, nat_tests)
 
 -- ---- edges and feeders
+
+-- who has a component has its feeders
+abbrev pub feeder_arrow : View → (component : ℕ) → Fd
+feeder_arrow v c = arrow_from (bit_of c) (feeders v c)
+
+abbrev pub feeder_arrows : View → List Fd
+feeder_arrows v = map (feeder_arrow v) (component_numbers v)
 
 -- an edge by its stream
 pub record Along (v : View) (e : Edge) : Type 0 where

@@ -7,14 +7,14 @@ use Rattle.fd_closure.specs.Closure.{within}
 use Rattle.fd_closure.proofs.Members.{in-within, in-or}
 use Rattle.blz_value.specs.Members.{Has}
 use Rattle.blz_value.proofs.Membership.{Has-from_any, any_from_Has}
-use Rattle.topo_graph.specs.Code.Feeders.{feeders, all_feeders, feeder_arrows}
+use Rattle.topo_graph.specs.Code.Feeders.{feeders, all_feeders}
 use Rattle.topo_reach.specs.Regions.{together_by, region_by, is_blocked_by, is_next_by, next_by, regions_by, is_cyclic_by}
 use Rattle.topo_types.specs.Found.{HasEnds}
 use Rattle.topo_types.specs.Graph.{Edge, arrows, is_in, up, together, region, is_blocked, is_next, next, regions_from, is_cyclic_set}
 use Rattle.topo_types.specs.Regions.{edges}
 use Rattle.topo_types.specs.Sets.{below}
 use Rattle.topo_types.specs.View.{View}
-use Rattle.topo_graph.proofs.Feeding.{not_true, own_number, edge-feeds, feeder-edge, feeders-within, bounds_of, closure-same}
+use Rattle.topo_graph.proofs.Feeding.{feeder_arrows, not_true, own_number, edge-feeds, feeder-edge, feeders-within, bounds_of, closure-same}
 use Rattle.topo_types.proofs.Regions.Numbering.{any-none, find-some}
 use Rattle.topo_types.proofs.Regions.RegionOrder.{where_same}
 use Rattle.topo_types.proofs.Lists.Tables.{at_below}

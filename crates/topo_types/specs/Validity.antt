@@ -94,10 +94,6 @@ fault_in (k ∷ kinds) w = option_or (kind_fault k w) (fault_in kinds w)
 abbrev pub kinds_of_names : List TopoKind
 kinds_of_names = kind.Twice ∷ kind.Unknown ∷ kind.Columns ∷ []
 
--- the kinds that go by the view
-abbrev pub kinds_of_view : List TopoKind
-kinds_of_view = kind.ReplicaMismatch ∷ kind.SealInCycle ∷ kind.Understated ∷ []
-
 -- the kinds in their order
 abbrev pub kinds_in_order : List TopoKind
 kinds_in_order = kind.TooMany ∷ kind.Twice ∷ kind.Unknown ∷ kind.Columns ∷ kind.ReplicaMismatch ∷ kind.SealInCycle ∷ kind.Understated ∷ []

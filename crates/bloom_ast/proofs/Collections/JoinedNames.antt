@@ -1,11 +1,17 @@
 -- The columns of a join, whose right ones that stand in no pair are found one by one.
+use Rattle.std.specs.Prelude.{if◌then◌else◌}
 use Rattle.std.proofs.Common.{◌≡◌, ◌||◌, ◌==◌, ◌+◌, ◌++◌, not, ℕ, List, [], ◌∷◌, map, refl, ap, sym, inl, inr, Bool}
 use Rattle.std.specs.List.{filter, enumerate_from}
 use Rattle.std.proofs.lemmas.Bool.{cases_Bool}
 use Rattle.blz_value.specs.Operators.{is_paired}
-use Rattle.bloom_ast.specs.Code.Paired.{is_in_pair, others_from}
+use Rattle.bloom_ast.specs.Code.Paired.{is_in_pair}
 use Rattle.bloom_ast.specs.Columns.{column_number, pair_numbers, joined_columns}
 use Rattle.bloom_ast.specs.Query.{Name}
+
+-- the right columns that stand in no pair, from the number on
+abbrev pub others_from : List Name → List (Name × Name) → ℕ → List Name → List Name
+others_from right pairs number [] = []
+others_from right pairs number (name ∷ names) = if is_in_pair right pairs number then others_from right pairs (number + 1) names else name ∷ others_from right pairs (number + 1) names
 
 in_pair : (left right : List Name) (pairs : List (Name × Name)) (number : ℕ) → is_paired (pair_numbers left right pairs) number ≡ is_in_pair right pairs number
 in_pair left right [] number = refl

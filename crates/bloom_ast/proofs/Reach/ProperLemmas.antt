@@ -1,4 +1,4 @@
--- No port of a proper program has a column twice.
+-- No port of a proper program has a column twice, and its stock body is as it should be.
 use Rattle.std.proofs.Common.{◌≡◌, ◌<◌, ◌+◌, ◌≤◌, ℕ, zero, suc, Bool, true, false, cond, Some, List, [], ◌∷◌, length, map, filter, get_or, refl, ap, ◌∙◌, sym, subst, inl, inr, arith}
 use Rattle.std.specs.Prelude.{◌==◌}
 use Rattle.std.specs.List.{list_any, range_with_len, position_from}
@@ -16,9 +16,21 @@ use Rattle.bloom_ast.specs.Fits.{has_name, repeats}
 use Rattle.bloom_ast.specs.Form.{Accepted}
 use Rattle.bloom_ast.specs.Kinds.{same_kind}
 use Rattle.bloom_ast.specs.Query.{Name}
-use Rattle.bloom_ast.specs.Proper.{HasOwnColumns, IsProper}
+use Rattle.bloom_ast.specs.Program.{IsStock, port_columns}
+use Rattle.bloom_ast.specs.Proper.{IsProper}
 use Rattle.bloom_ast.specs.declared.program.Program.{Program}
 use Rattle.bloom_ast.proofs.Faults.Levels.{neither}
+
+-- a stock body that is proper is as it should be
+pub proper_is_stock : (program : Program) → IsProper program → IsStock program
+proper_is_stock (Module a) proper = tt
+proper_is_stock (Split columns split) proper = proper.0
+proper_is_stock (Latest columns keys) proper = proper.0
+proper_is_stock (Number columns) proper = proper.0
+
+-- no port has a column twice
+abbrev pub HasOwnColumns : Program → Type 0
+HasOwnColumns program = (columns : List Name) → Has columns (port_columns program) → repeats columns ≡ false
 
 -- a column stands first at its own place
 pub own_position : (i : ℕ) (columns : List Name) → repeats columns ≡ false → (place : ℕ) → place < length columns
@@ -105,6 +117,6 @@ module _ (columns : List Name) (distinct : repeats columns ≡ false) where
 -- no port of a proper program has a column twice
 pub own_columns : (program : Program) → IsProper program → HasOwnColumns program
 own_columns (Module a) checked = module_own_columns a checked
-own_columns (Split columns split) proper = split_own_columns columns proper.2 split
-own_columns (Latest columns keys) proper = latest_own_columns columns proper.3 keys
+own_columns (Split columns split) proper = split_own_columns columns proper.1 split
+own_columns (Latest columns keys) proper = latest_own_columns columns proper.1 keys
 own_columns (Number columns) proper = number_own_columns columns proper.1

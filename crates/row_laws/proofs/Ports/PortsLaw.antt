@@ -14,7 +14,6 @@ use Rattle.blz_value.proofs.RowSets.{same_set_of}
 use Rattle.blz_value.proofs.SetLaws.{sorted_set_of, Has-set_of, Has-from_set_of, same_row_sets}
 use Rattle.bloom_ast.specs.declared.program.Program.{Program}
 use Rattle.bloom_ast.specs.declared.program.Program.TheVariants.{Module, Split, Latest, Number}
-use Rattle.bloom_ast.specs.Program.{IsStock}
 use Rattle.bloom_ast.specs.ProgramStep.{tables_after_step, empty_tables}
 use Rattle.bloom_ast.specs.Query.{Name}
 use Rattle.bloom_ast.specs.Step.{Sets, set_at}
@@ -97,14 +96,14 @@ split_quiet columns split kept (now ∷ nows) quiet =
     let none : set_of (flat_map (split_row split) (set_at now 0)) ≡ [] = ap (λ (l : List Row). set_of (flat_map (split_row split) l)) (quiet now (inl refl)) in
     ap (λ (l : List Row). l ++ over_steps (Split columns split) (output_rows (Split columns split) 0) (tables_after_step (Split columns split) kept now) nows) none ∙ split_quiet columns split (tables_after_step (Split columns split) kept now) nows (λ n h. quiet n (inr h))
 
-split_sees : (names columns : List Name) (split : ℕ) → IsStock (Split columns split) → OutputsSeePorts names (Split columns split)
-split_sees names columns split stock zero = record {
+split_sees : (names columns : List Name) (split : ℕ) → IsProper (Split columns split) → OutputsSeePorts names (Split columns split)
+split_sees names columns split proper zero = record {
   only = λ nows others same. ap set_of (split_only columns split (empty_tables (Split columns split)) (empty_tables (Split columns split)) nows others same);
   none = λ nows silent. ap set_of (split_quiet columns split (empty_tables (Split columns split)) nows (λ n came. silent n came 0 (omega arith) refl));
-  partition = λ earlier later now early late. (all_confluent names (Split columns split) stock 0 (λ port lt. refl)).same (earlier ++ now ∷ later);
+  partition = λ earlier later now early late. (all_confluent names (Split columns split) proper 0 (λ port lt. refl)).same (earlier ++ now ∷ later);
   late = λ fewer more inside same row h. in_one_step (Split columns split) 0 more row (split_members split (set_at fewer 0) (set_at more 0) (inside 0 (omega arith) refl) row (one_step (Split columns split) 0 fewer row h));
 }
-split_sees names columns split stock (suc output) = none_sees (Split columns split) (suc output) (λ kept now. refl) (λ port. note_of names (Split columns split) port (suc output))
+split_sees names columns split proper (suc output) = none_sees (Split columns split) (suc output) (λ kept now. refl) (λ port. note_of names (Split columns split) port (suc output))
 
 -- ---- Number
 

@@ -18,8 +18,8 @@ use Rattle.bloom_ast.specs.Step.{Sets, set_at}
 use Rattle.bloom_ast.specs.ProgramStep.{empty_tables}
 use Rattle.bloom_ast.specs.Widths.{AreSetsOf}
 use Rattle.bloom_ast.specs.Steps.{tables_after_steps, AreArrivals}
-use Rattle.bloom_ast.specs.Proper.{IsProper, HasOwnColumns}
-use Rattle.bloom_ast.proofs.Reach.ProperLemmas.{module_own_columns, own_columns}
+use Rattle.bloom_ast.specs.Proper.{IsProper}
+use Rattle.bloom_ast.proofs.Reach.ProperLemmas.{HasOwnColumns, module_own_columns, own_columns}
 use Rattle.path_annotate.specs.Copies.{IsCopyOf, HasOrigin}
 use Rattle.path_annotate.specs.Roots.{Roots}
 use Rattle.path_annotate.specs.Attributes.{value_in}

@@ -24,7 +24,7 @@ use Rattle.bloom_ast.specs.Query.{Name}
 use Rattle.bloom_ast.specs.Step.{Sets, set_at}
 use Rattle.bloom_ast.specs.StockSteps.{keys_in_order, has_key, is_latest, latest_kept, latest_out}
 use Rattle.bloom_ast.specs.Steps.{tables_after_steps}
-use Rattle.bloom_ast.specs.Proper.{HasOwnColumns}
+use Rattle.bloom_ast.proofs.Reach.ProperLemmas.{HasOwnColumns}
 use Rattle.bloom_ast.proofs.Ends.StepsLemmas.{longer, one_more}
 use Rattle.path_annotate.specs.Annotation.{latest_roots, key_set}
 use Rattle.path_annotate.specs.HeadRoots.{attribute_roots}

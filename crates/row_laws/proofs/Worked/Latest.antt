@@ -10,7 +10,8 @@ use Rattle.fd_closure.specs.Bits.{bit_of, meets}
 use Rattle.fd_closure.specs.Closure.{closure}
 use Rattle.bloom_ast.specs.declared.program.Program.{Program}
 use Rattle.bloom_ast.specs.declared.program.Program.TheVariants.{Latest}
-use Rattle.bloom_ast.specs.Program.{IsStock, port_columns}
+use Rattle.bloom_ast.specs.Program.{port_columns}
+use Rattle.bloom_ast.specs.Proper.{IsProper}
 use Rattle.bloom_ast.specs.Query.{Name}
 use Rattle.bloom_ast.specs.Step.{Sets, set_at}
 use Rattle.bloom_ast.specs.StockSteps.{latest_kept}
@@ -98,6 +99,6 @@ twice_fails splits =
     let found = law.0 (inl refl) in
     no_class found.0 found.1
 
--- it is no stock body, since a column stands twice
-pub no_stock_body : IsStock program → ⊥
-no_stock_body stock = true≢false stock.3
+-- it is not proper, since a column stands twice
+pub not_proper : IsProper program → ⊥
+not_proper proper = true≢false proper.1

@@ -10,7 +10,7 @@ use Rattle.bloom_ast.specs.Form.{Accepted}
 use Rattle.bloom_ast.specs.Program.{IsStock}
 use Rattle.bloom_ast.proofs.Faults.Firsts.{bad_number}
 use Rattle.bloom_ast.proofs.Faults.Levels.{neither}
-use Rattle.bloom_ast.specs.Proper.{IsProper}
+use Rattle.bloom_ast.proofs.Reach.ProperLemmas.{proper_is_stock}
 use Rattle.topo_types.specs.declared.fault.TopoKind.{TopoKind}
 use Rattle.topo_types.specs.declared.fault.TopoKind.TheVariants as kind
 use Rattle.topo_types.specs.declared.topology.Body.{Body}
@@ -29,12 +29,6 @@ use Rattle.topo_types.specs.Sites.{Site, no_site, no_entry, sites_of, site_at, s
 use Rattle.topo_types.specs.ViewOf.{count_from}
 use Rattle.topo_types.proofs.Faults.NoFault.{no_places, above, not_false, length_sites}
 use Rattle.topo_types.proofs.Views.ViewRuns.{Made, made, program_cases, proper_stock}
-
--- a stock program that is proper is as it should be
-stock_proper : (s : Stock) → IsProper (stock_program s) → IsStock (stock_program s)
-stock_proper (stock.Split columns split) proper = proper
-stock_proper (stock.Latest columns keys) proper = proper
-stock_proper (stock.Number columns) proper = proper
 
 -- one to eight replicas
 few_of : (z : ℤ) → is_replica_count z ≡ true → count_from z ≤ 8
@@ -93,7 +87,7 @@ module _ (t : Topology) (modules : List Accepted) where
             let ports : (site_at sites c).ports ≡ program_ports p = ports_own from ∙ ap (ports_with (site_at sites c).entry) is in
             elim (program_cases entry.body from.rest p runs) [
               | inl a ↦ subst IsStock a.2 tt
-              | inr a ↦ subst IsStock a.2 (stock_proper a.0 (
+              | inr a ↦ subst IsStock a.2 (proper_is_stock (stock_program a.0) (
                   let body_is : (site_at sites c).entry.body ≡ body.Stock a.0 = ap (λ (e : ComponentEntry). e.body) own ∙ a.1 in
                   proper_stock a.0
                   (subst (λ (ps : List Side). has_wide ps ≡ false) (ports ∙ ap program_ports (sym a.2)) narrow)

@@ -15,7 +15,7 @@ use Rattle.topo_types.specs.declared.topology.Topology.{Topology}
 use Rattle.topo_check.specs.Code.Named.{of_names, sized}
 use Rattle.topo_check.specs.Code.Validating.{early_fault, view_fault}
 use Rattle.topo_types.specs.Sites.{Site, sites_of, attributes_in}
-use Rattle.topo_types.specs.Validity.{Written, written, at_places, kind_fault, fault_in, kinds_of_names, kinds_of_view, fault_of}
+use Rattle.topo_types.specs.Validity.{Written, written, at_places, kind_fault, fault_in, kinds_of_names, fault_of}
 use Rattle.topo_types.specs.Validity.OfView.{is_mismatched, seals_in_cycle, is_understated}
 use Rattle.topo_types.specs.View.{View}
 use Rattle.topo_types.specs.ViewOf.{view_of}
@@ -36,6 +36,10 @@ fault_in-append [] ls w = refl
 fault_in-append (k ∷ ks) ls w = ap (option_or (kind_fault k w)) (fault_in-append ks ls w) ∙ or_assoc (kind_fault k w) (fault_in ks w) (fault_in ls w)
 
 -- ---- the kinds of the view
+
+-- the kinds that go by the view
+abbrev kinds_of_view : List TopoKind
+kinds_of_view = kind.ReplicaMismatch ∷ kind.SealInCycle ∷ kind.Understated ∷ []
 
 no_place : (X : Type 0) (at : ℕ) (xs : List X) → first_place (λ i x. false) at xs ≡ None
 no_place X at [] = refl

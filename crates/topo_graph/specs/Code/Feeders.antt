@@ -1,9 +1,7 @@
 -- The components that feed each, over the streams that count.
 use Rattle.std.specs.Prelude.{ℕ, ◌&&◌, not, is_some, Bool, List, map}
 use Rattle.std.specs.Option.{option_map_or}
-use Rattle.fd_closure.specs.declared.attrs.Fd.{Fd}
-use Rattle.fd_closure.specs.Bits.{bit_of}
-use Rattle.bloom_ast.specs.Reads.{arrow_from, with_all, bit_if}
+use Rattle.bloom_ast.specs.Reads.{with_all, bit_if}
 use Rattle.topo_types.specs.View.{View, origin_of, is_order, goes_into, stream_numbers, component_numbers}
 
 -- a stream of an output that goes into a component which isn't Order
@@ -21,10 +19,3 @@ feeders v c = with_all 0 (map (λ s. bit_if (counts_into v c s) (sender_of v s))
 -- the feeders of each component
 abbrev pub all_feeders : View → List ℕ
 all_feeders v = map (feeders v) (component_numbers v)
-
--- who has a component has its feeders
-abbrev pub feeder_arrow : View → (component : ℕ) → Fd
-feeder_arrow v c = arrow_from (bit_of c) (feeders v c)
-
-abbrev pub feeder_arrows : View → List Fd
-feeder_arrows v = map (feeder_arrow v) (component_numbers v)

@@ -22,7 +22,7 @@ use Rattle.bloom_ast.specs.declared.program.Program.TheVariants as program
 use Rattle.bloom_ast.specs.Form.{Accepted}
 use Rattle.bloom_ast.specs.Fits.{repeats}
 use Rattle.bloom_ast.specs.Kinds.{same_kind, of_kind}
-use Rattle.bloom_ast.specs.Program.{port_columns, output_columns, IsStock}
+use Rattle.bloom_ast.specs.Program.{port_columns, output_columns}
 use Rattle.bloom_ast.specs.Query.{Name}
 use Rattle.bloom_ast.specs.Proper.{IsProper}
 use Rattle.bloom_ast.proofs.Faults.Levels.{neither}
@@ -94,8 +94,8 @@ from_names (n ∷ names) columns e name (inl same) =
     subst (λ (x : Name). Has x columns) (sym (same_bytes n found.0 found.2) ∙ same) found.1
 from_names (n ∷ names) columns e name (inr has) = from_names names columns (both_true (list_any (bytes_eq n) columns) (names_within names columns) e).1 name has
 
-proper_latest : (columns keys : List Name) → length columns ≤ 8 → names_within keys columns ≡ true → AllPairs (λ a b. a ≢ b) keys → repeats columns ≡ false → IsStock (program.Latest columns (map (column_number columns) keys))
-proper_latest columns keys few known apart distinct = (few, numbers_below, numbers_apart, distinct)
+proper_latest : (columns keys : List Name) → length columns ≤ 8 → names_within keys columns ≡ true → AllPairs (λ a b. a ≢ b) keys → repeats columns ≡ false → IsProper (program.Latest columns (map (column_number columns) keys))
+proper_latest columns keys few known apart distinct = ((few, numbers_below, numbers_apart), distinct)
   where
     at : (i : ℕ) (d : ℕ) → i < length keys → get_or (map (column_number columns) keys) i d ≡ column_number columns (get_or keys i [])
     at i d lt = get_or-map (column_number columns) keys i [] d lt
@@ -115,9 +115,11 @@ proper_latest columns keys few known apart distinct = (few, numbers_below, numbe
 
 pub proper_stock : (s : Stock) → has_wide (program_ports (stock_program s)) ≡ false → repeats_in_stock s ≡ false → unknown_in_stock s ≡ false → IsProper (stock_program s)
 proper_stock (stock.Split columns split) narrow once known = (
-  above 8 (length columns) (neither (is_wide columns) false narrow).0,
-  (let found = Has-from_any (bytes_eq split) columns (not_false (list_any (bytes_eq split) columns) known) in
-      (column_there columns split (subst (λ (x : Name). Has x columns) (sym (same_bytes split found.0 found.2)) found.1)).0),
+  (
+    above 8 (length columns) (neither (is_wide columns) false narrow).0,
+    (let found = Has-from_any (bytes_eq split) columns (not_false (list_any (bytes_eq split) columns) known) in
+        (column_there columns split (subst (λ (x : Name). Has x columns) (sym (same_bytes split found.0 found.2)) found.1)).0),
+  ),
   stock_distinct (stock.Split columns split) once,
 )
 proper_stock (stock.Latest columns keys) narrow once known =

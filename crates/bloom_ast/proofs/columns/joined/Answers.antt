@@ -1,8 +1,7 @@
 use Rattle.std.proofs.Common.{◌≡◌, ◌∙◌, ◌++◌, arith}
 use Rattle.std.proofs.lemmas.Grind.{common_steps}
 use Rattle.bloom_ast.specs.Borrowed.{names_in}
-use Rattle.bloom_ast.specs.Code.Paired.{others_from}
-use Rattle.bloom_ast.proofs.Collections.JoinedNames.{joined-others}
+use Rattle.bloom_ast.proofs.Collections.JoinedNames.{others_from, joined-others}
 use Rattle.bloom_ast.proofs.columns.joined.Goals as goal
 
 pub returns : goal.returns

@@ -1,6 +1,6 @@
 use Rattle.std.proofs.Common.{◌≡◌, ◌++◌, drop}
 use Rattle.bloom_ast.specs.Borrowed.{names_in}
-use Rattle.bloom_ast.specs.Code.Paired.{others_from}
+use Rattle.bloom_ast.proofs.Collections.JoinedNames.{others_from}
 use Rattle.bloom_ast.proofs.columns.joined.Given as goal
 
 abbrev pub invariant-loop-number : goal.invariant-loop-number

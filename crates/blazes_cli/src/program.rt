@@ -31,11 +31,11 @@ fn answer<F: Files>(
         (files_states (source (F.held files.old) (F.steady files.old) (F.faults files.old))
         (source (F.held files.new) (F.steady files.new) (F.faults files.new)))
         (bench_states (map (λ b. kind b) bench.old.items) (map (λ b. kind b) bench.new.items)
-        (map (λ b. loaded b) bench.new.items) (map (λ b. kept b) bench.new.items))
+        (map (λ b. program b) bench.new.items) (map (λ b. kept b) bench.new.items))
         (answer_of reply)) }
     ensures kinds { IfOk result (λ reply. HasSameKinds
         (bench_states (map (λ b. kind b) bench.old.items) (map (λ b. kind b) bench.new.items)
-        (map (λ b. loaded b) bench.new.items) (map (λ b. kept b) bench.new.items))) }
+        (map (λ b. program b) bench.new.items) (map (λ b. kept b) bench.new.items))) }
 {
     let outcome = outcome_of(alloc, request, files, bench);
     conclusion(alloc, outcome)
@@ -60,11 +60,11 @@ fn reply_to<F: Files>(
         (files_states (source (F.held files.old) (F.steady files.old) (F.faults files.old))
         (source (F.held files.new) (F.steady files.new) (F.faults files.new)))
         (bench_states (map (λ b. kind b) bench.old.items) (map (λ b. kind b) bench.new.items)
-        (map (λ b. loaded b) bench.new.items) (map (λ b. kept b) bench.new.items))
+        (map (λ b. program b) bench.new.items) (map (λ b. kept b) bench.new.items))
         (answer_of reply)) }
     ensures kinds { IfOk result (λ reply. HasSameKinds
         (bench_states (map (λ b. kind b) bench.old.items) (map (λ b. kind b) bench.new.items)
-        (map (λ b. loaded b) bench.new.items) (map (λ b. kept b) bench.new.items))) }
+        (map (λ b. program b) bench.new.items) (map (λ b. kept b) bench.new.items))) }
 {
     match request_of(alloc, words)? {
         Some(request) => answer(alloc, request, files, bench),
@@ -98,7 +98,7 @@ pub fn blazes<F: Files, K: Sink>(
         (files_states (source (F.held files.old) (F.steady files.old) (F.faults files.old))
         (source (F.held files.new) (F.steady files.new) (F.faults files.new)))
         (bench_states (map (λ b. kind b) bench.old.items) (map (λ b. kind b) bench.new.items)
-        (map (λ b. loaded b) bench.new.items) (map (λ b. kept b) bench.new.items))
+        (map (λ b. program b) bench.new.items) (map (λ b. kept b) bench.new.items))
         (sink_states (K.written out.old) (K.written out.new) (K.room out.old) (K.room out.new)
         (K.faults out.old) (K.faults out.new))
         result }
@@ -106,7 +106,7 @@ pub fn blazes<F: Files, K: Sink>(
     // The bench keeps as many shells of each kind.
     ensures bench { result ≢ Status.NoMemory → HasSameKinds
         (bench_states (map (λ b. kind b) bench.old.items) (map (λ b. kind b) bench.new.items)
-        (map (λ b. loaded b) bench.new.items) (map (λ b. kept b) bench.new.items)) }
+        (map (λ b. program b) bench.new.items) (map (λ b. kept b) bench.new.items)) }
 
     // Usage comes exactly where the words ask for nothing that is built.
     ensures usage { result ≡ Status.Usage → request_of (map string_bytes words.now) ≡ None }

@@ -84,11 +84,11 @@ fn made_over(
     requires { IsData valid.now.view given }
     ensures replies { RepliesAtOnce Says
         (bench_states (map (λ b. kind b) bench.old.items) (map (λ b. kind b) bench.new.items)
-        (map (λ b. loaded b) bench.new.items) (map (λ b. kept b) bench.new.items))
+        (map (λ b. program b) bench.new.items) (map (λ b. kept b) bench.new.items))
         result (making (map (λ b. kind b) bench.old.items) valid.now.view given seed) }
     ensures kinds { KeepsKinds
         (bench_states (map (λ b. kind b) bench.old.items) (map (λ b. kind b) bench.new.items)
-        (map (λ b. loaded b) bench.new.items) (map (λ b. kept b) bench.new.items))
+        (map (λ b. program b) bench.new.items) (map (λ b. kept b) bench.new.items))
         result }
 {
     let mut net = opened(alloc, valid, given, bench)?;
@@ -110,11 +110,11 @@ pub fn make<F: Files>(
         (files_states (source (F.held files.old) (F.steady files.old) (F.faults files.old))
         (source (F.held files.new) (F.steady files.new) (F.faults files.new)))
         (bench_states (map (λ b. kind b) bench.old.items) (map (λ b. kind b) bench.new.items)
-        (map (λ b. loaded b) bench.new.items) (map (λ b. kept b) bench.new.items))
+        (map (λ b. program b) bench.new.items) (map (λ b. kept b) bench.new.items))
         result }
     ensures kinds { KeepsKinds
         (bench_states (map (λ b. kind b) bench.old.items) (map (λ b. kind b) bench.new.items)
-        (map (λ b. loaded b) bench.new.items) (map (λ b. kept b) bench.new.items))
+        (map (λ b. program b) bench.new.items) (map (λ b. kept b) bench.new.items))
         result }
 {
     let valid = valid_topology(alloc, words.topology, files)?;

@@ -67,11 +67,11 @@ fn soaked_over(
     requires coordinated { AreCoordinated valid.now.view }
     ensures replies { RepliesAtOnce Says
         (bench_states (map (λ b. kind b) bench.old.items) (map (λ b. kind b) bench.new.items)
-        (map (λ b. loaded b) bench.new.items) (map (λ b. kept b) bench.new.items))
+        (map (λ b. program b) bench.new.items) (map (λ b. kept b) bench.new.items))
         result (making_for (Work.soaked words.count valid.now.view given) (map (λ b. kind b) bench.old.items) valid.now.view given words.seed) }
     ensures kinds { KeepsKinds
         (bench_states (map (λ b. kind b) bench.old.items) (map (λ b. kind b) bench.new.items)
-        (map (λ b. loaded b) bench.new.items) (map (λ b. kept b) bench.new.items))
+        (map (λ b. program b) bench.new.items) (map (λ b. kept b) bench.new.items))
         result }
 {
     let mut net = opened(alloc, valid, given, bench)?;
@@ -91,11 +91,11 @@ fn soaked(
     requires { AreCoordinated valid.now.view }
     ensures replies { RepliesAtOnce Says
         (bench_states (map (λ b. kind b) bench.old.items) (map (λ b. kind b) bench.new.items)
-        (map (λ b. loaded b) bench.new.items) (map (λ b. kept b) bench.new.items))
+        (map (λ b. program b) bench.new.items) (map (λ b. kept b) bench.new.items))
         result (soaking words.count (map (λ b. kind b) bench.old.items) valid.now.view words.seed) }
     ensures kinds { KeepsKinds
         (bench_states (map (λ b. kind b) bench.old.items) (map (λ b. kind b) bench.new.items)
-        (map (λ b. loaded b) bench.new.items) (map (λ b. kept b) bench.new.items))
+        (map (λ b. program b) bench.new.items) (map (λ b. kept b) bench.new.items))
         result }
 {
     let given = tweets_data(alloc, valid, words.count)?;
@@ -111,11 +111,11 @@ pub fn soak(
 ) -> Result<Reply, Stop>
     ensures replies { RepliesAtOnce Says
         (bench_states (map (λ b. kind b) bench.old.items) (map (λ b. kind b) bench.new.items)
-        (map (λ b. loaded b) bench.new.items) (map (λ b. kept b) bench.new.items))
+        (map (λ b. program b) bench.new.items) (map (λ b. kept b) bench.new.items))
         result (script (map (λ b. kind b) bench.old.items) (Asked.soak (soak_shown words))) }
     ensures kinds { KeepsKinds
         (bench_states (map (λ b. kind b) bench.old.items) (map (λ b. kind b) bench.new.items)
-        (map (λ b. loaded b) bench.new.items) (map (λ b. kept b) bench.new.items))
+        (map (λ b. program b) bench.new.items) (map (λ b. kept b) bench.new.items))
         result }
 {
     let valid = planned_count(alloc)?;

@@ -12,7 +12,7 @@ use clap::{Arg, ArgAction, ArgMatches, Command};
 use std::alloc::{AllocError, Global};
 
 /// The names of the files of a run.
-#[derive(Clone, Copy, Debug, PartialEq, Eq)]
+#[derive(Clone, Copy, PartialEq, Eq)]
 pub struct RunFiles<'a> {
     pub topology: &'a str,
     /// The data.
@@ -21,7 +21,7 @@ pub struct RunFiles<'a> {
 }
 
 /// The names of the files of a schedule that is to be made, and its seed.
-#[derive(Clone, Copy, Debug, PartialEq, Eq)]
+#[derive(Clone, Copy, PartialEq, Eq)]
 pub struct MakeWords<'a> {
     pub topology: &'a str,
     /// The data.
@@ -30,14 +30,14 @@ pub struct MakeWords<'a> {
 }
 
 /// The seed of a run of the built-in topology, and its count of batches, from 1 to 3,276.
-#[derive(Clone, Copy, Debug, PartialEq, Eq)]
+#[derive(Clone, Copy, PartialEq, Eq)]
 pub struct SoakWords {
     pub seed: u64,
     pub count: u32,
 }
 
 /// The component that is to be split, with the column and the bounds of its buckets.
-#[derive(Debug, Drop)]
+#[derive(Drop)]
 pub struct ShardWords<'a> {
     pub topology: &'a str,
     pub component: &'a str,
@@ -47,7 +47,7 @@ pub struct ShardWords<'a> {
 }
 
 /// The names of the files of two runs of one topology over the same data.
-#[derive(Clone, Copy, Debug, PartialEq, Eq)]
+#[derive(Clone, Copy, PartialEq, Eq)]
 pub struct WitnessFiles<'a> {
     pub topology: &'a str,
     /// The data.
@@ -59,7 +59,7 @@ pub struct WitnessFiles<'a> {
 }
 
 /// The names of the files of a run, and the record that is asked about: its place in an emitted list.
-#[derive(Clone, Copy, Debug, PartialEq, Eq)]
+#[derive(Clone, Copy, PartialEq, Eq)]
 pub struct WhyWords<'a> {
     pub topology: &'a str,
     /// The data.
@@ -74,7 +74,7 @@ pub struct WhyWords<'a> {
 }
 
 /// What a command line asks for.
-#[derive(Debug, Drop)]
+#[derive(Drop)]
 pub enum Request<'a> {
     /// The labels of the topology in the file of this name.
     Label { topology: &'a str },

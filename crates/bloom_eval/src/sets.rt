@@ -8,7 +8,7 @@ use std::marker::Model;
 use std::mem;
 
 /// The tables of a program, one set for each in declared order.
-#[derive(Debug, Drop)]
+#[derive(Drop)]
 pub struct Kept {
     sets: Vec<RecordSet>,
 }
@@ -56,7 +56,7 @@ impl Kept {
 }
 
 /// What arrives in a step, one set for each port in declared order.
-#[derive(Debug, Drop)]
+#[derive(Drop)]
 pub struct Arrivals {
     sets: Vec<RecordSet>,
 }
@@ -86,7 +86,7 @@ impl Arrivals {
 }
 
 /// What a step puts out, one set for each output in declared order.
-#[derive(Debug, Drop)]
+#[derive(Drop)]
 pub struct Outs {
     sets: Vec<RecordSet>,
 }

@@ -18,7 +18,7 @@ use std::alloc::AllocError;
 const MOST: usize = 262_144;
 
 /// The sum of so many numbers.
-#[derive(Clone, Copy, Debug)]
+#[derive(Clone, Copy)]
 pub(crate) struct Total {
     count: usize,
     sum: i128,

@@ -24,7 +24,7 @@ pub struct IndexShell {
 impl IndexShell {
     /// A shell without a program.
     pub fn new(alloc: Global) -> IndexShell
-        ensures loaded { ⟦<IndexShell as Component>⟧.loaded result ≡ None }
+        ensures loaded { ⟦<IndexShell as Component>⟧.program result ≡ None }
         ensures kept { ⟦<IndexShell as Component>⟧.kept result ≡ [] }
     {
         IndexShell { alloc, body: None }
@@ -33,8 +33,8 @@ impl IndexShell {
     /// How many sides the program has: the growing parts that are a side of a join or the right side
     /// of a notin.
     pub fn sides(&self) -> u32
-        requires program { IsSome (⟦<IndexShell as Component>⟧.loaded self.now) }
-        ensures { result ≡ length (sides_of (⟦<IndexShell as Component>⟧.loaded self.now)) }
+        requires program { IsSome (⟦<IndexShell as Component>⟧.program self.now) }
+        ensures { result ≡ length (sides_of (⟦<IndexShell as Component>⟧.program self.now)) }
     {
         let Some(body) = &self.body else {
             unreachable!()
@@ -46,9 +46,9 @@ impl IndexShell {
     /// equates, in the order of the pairs. Sides are numbered from 0, rules as they are written, and
     /// within a rule by their place in the text.
     pub fn side(&self, side: u32, key: &Record) -> &RecordSet
-        requires program { IsSome (⟦<IndexShell as Component>⟧.loaded self.now) }
-        requires within { side < length (sides_of (⟦<IndexShell as Component>⟧.loaded self.now)) }
-        ensures { result.now ≡ side_rows (⟦<IndexShell as Component>⟧.loaded self.now) (⟦<IndexShell as Component>⟧.kept self.now) side key.now }
+        requires program { IsSome (⟦<IndexShell as Component>⟧.program self.now) }
+        requires within { side < length (sides_of (⟦<IndexShell as Component>⟧.program self.now)) }
+        ensures { result.now ≡ side_rows (⟦<IndexShell as Component>⟧.program self.now) (⟦<IndexShell as Component>⟧.kept self.now) side key.now }
     {
         let Some(body) = &self.body else {
             unreachable!()
@@ -60,7 +60,7 @@ impl IndexShell {
 impl Component for IndexShell {
     ghost kind = { λ _. ModuleKind };
 
-    ghost loaded = { λ shell. option_map (λ body. ModuleProgram body.program) shell.body };
+    ghost program = { λ shell. option_map (λ body. ModuleProgram body.program) shell.body };
 
     ghost kept = { λ shell. option_map_or (λ body. kept_tables body.program body.parts) shell.body [] };
 

@@ -15,7 +15,7 @@ use std::alloc::{AllocError, Global};
 
 // Which parentheses a predicate needs where it stands: none, none around `and`, or none around a
 // single unit.
-#[derive(Clone, Copy, Debug, PartialEq, Eq)]
+#[derive(Clone, Copy, PartialEq, Eq)]
 pub(crate) enum Place {
     /// A whole predicate.
     Whole,

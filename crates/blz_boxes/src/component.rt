@@ -21,58 +21,58 @@ pub trait Component: Drop {
     ghost kind: { Self → TheKind };
 
     /// The program that is loaded.
-    ghost loaded: { Self → Option TheProgram };
+    ghost program: { Self → Option TheProgram };
 
     /// What is kept: one set for each table of the program.
     ghost kept: { Self → Sets };
 
     /// Whether a program can be loaded.
-    fn fits(&self, program: &Program) -> bool
-        requires stock { IsStock program.now }
-        ensures { IsTrue result ↔ (kind_of program.now ≡ kind self.now) };
+    fn fits(&self, given: &Program) -> bool
+        requires stock { IsStock given.now }
+        ensures { IsTrue result ↔ (kind_of given.now ≡ kind self.now) };
 
     /// Loads a program that fits, and empties what is kept. After want of memory there is no program.
-    fn load(&mut self, program: &Program) -> Result<(), AllocError>
-        requires stock { IsStock program.now }
-        requires fits { kind_of program.now ≡ kind self.old }
+    fn load(&mut self, given: &Program) -> Result<(), AllocError>
+        requires stock { IsStock given.now }
+        requires fits { kind_of given.now ≡ kind self.old }
         ensures kind { kind self.new ≡ kind self.old }
-        ensures loaded { OnOk result (loaded self.new ≡ Some program.now) }
-        ensures kept { OnOk result (kept self.new ≡ nothing_kept (Some program.now)) }
-        ensures err { OnErr result (loaded self.new ≡ None) };
+        ensures loaded { OnOk result (program self.new ≡ Some given.now) }
+        ensures kept { OnOk result (kept self.new ≡ nothing_kept (Some given.now)) }
+        ensures err { OnErr result (program self.new ≡ None) };
 
     /// Makes one step over what arrives, and makes `outs` what it puts out. TooManyRows comes exactly
     /// where a set of the step is too large. After a fault the program is as it was, and each table
     /// has some rows of its width.
     fn step(&mut self, now: &Arrivals, outs: &mut Outs) -> Result<(), StepFault>
-        requires program { IsSome (loaded self.old) }
-        requires arrivals { Arrive (loaded self.old) now.now }
+        requires program { IsSome (program self.old) }
+        requires arrivals { Arrive (program self.old) now.now }
         ensures kind { kind self.new ≡ kind self.old }
-        ensures loaded { loaded self.new ≡ loaded self.old }
-        ensures kept { OnOk result (kept self.new ≡ tables_next (loaded self.old) (kept self.old) now.now) }
-        ensures outs { OnOk result (outs.new ≡ outs_next (loaded self.old) (kept self.old) now.now) }
-        ensures few { OnOk result (AllFit (counted_next (loaded self.old) (kept self.old) now.now)) }
-        ensures too_many { result ≡ Err TooManyRows → SomeIsOver (counted_next (loaded self.old) (kept self.old) now.now) }
-        ensures tables { AreTables (loaded self.new) (kept self.new) };
+        ensures loaded { program self.new ≡ program self.old }
+        ensures kept { OnOk result (kept self.new ≡ tables_next (program self.old) (kept self.old) now.now) }
+        ensures outs { OnOk result (outs.new ≡ outs_next (program self.old) (kept self.old) now.now) }
+        ensures few { OnOk result (AllFit (counted_next (program self.old) (kept self.old) now.now)) }
+        ensures too_many { result ≡ Err TooManyRows → SomeIsOver (counted_next (program self.old) (kept self.old) now.now) }
+        ensures tables { AreTables (program self.new) (kept self.new) };
 
     /// Makes one step as `step` does, but `outs` may lack rows that the tables of before already give,
     /// with nothing arriving.
     fn step_changes(&mut self, now: &Arrivals, outs: &mut Outs) -> Result<(), StepFault>
-        requires program { IsSome (loaded self.old) }
-        requires arrivals { Arrive (loaded self.old) now.now }
+        requires program { IsSome (program self.old) }
+        requires arrivals { Arrive (program self.old) now.now }
         ensures kind { kind self.new ≡ kind self.old }
-        ensures loaded { loaded self.new ≡ loaded self.old }
-        ensures kept { OnOk result (kept self.new ≡ tables_next (loaded self.old) (kept self.old) now.now) }
-        ensures outs { OnOk result (AreChanges (outs_next (loaded self.old) (kept self.old) now.now) (outs_still (loaded self.old) (kept self.old)) outs.new) }
-        ensures few { OnOk result (AllFit (counted_next (loaded self.old) (kept self.old) now.now)) }
-        ensures too_many { result ≡ Err TooManyRows → SomeIsOver (counted_next (loaded self.old) (kept self.old) now.now) }
-        ensures tables { AreTables (loaded self.new) (kept self.new) }
+        ensures loaded { program self.new ≡ program self.old }
+        ensures kept { OnOk result (kept self.new ≡ tables_next (program self.old) (kept self.old) now.now) }
+        ensures outs { OnOk result (AreChanges (outs_next (program self.old) (kept self.old) now.now) (outs_still (program self.old) (kept self.old)) outs.new) }
+        ensures few { OnOk result (AllFit (counted_next (program self.old) (kept self.old) now.now)) }
+        ensures too_many { result ≡ Err TooManyRows → SomeIsOver (counted_next (program self.old) (kept self.old) now.now) }
+        ensures tables { AreTables (program self.new) (kept self.new) }
     {
         self.step(now, outs)
     }
 
     /// Makes `into` the rows of a table, counted from 0. After want of memory it is as it was.
     fn kept_rows(&self, table: u32, into: &mut RecordSet) -> Result<(), AllocError>
-        requires program { IsSome (loaded self.now) }
+        requires program { IsSome (program self.now) }
         requires within { table < length (kept self.now) }
         ensures ok { OnOk result (into.new ≡ set_at (kept self.now) table) }
         ensures err { OnErr result (into.new ≡ into.old) };
@@ -80,6 +80,6 @@ pub trait Component: Drop {
     /// Empties what is kept, and leaves the program.
     fn clear(&mut self)
         ensures kind { kind self.new ≡ kind self.old }
-        ensures loaded { loaded self.new ≡ loaded self.old }
-        ensures kept { kept self.new ≡ nothing_kept (loaded self.old) };
+        ensures loaded { program self.new ≡ program self.old }
+        ensures kept { kept self.new ≡ nothing_kept (program self.old) };
 }

@@ -1,7 +1,7 @@
 //! Kinds of programs.
 
 /// What kind of body a program is.
-#[derive(Clone, Copy, Debug, PartialEq, Eq)]
+#[derive(Clone, Copy, PartialEq, Eq)]
 pub enum ProgramKind {
     /// A module.
     Module,

@@ -44,7 +44,7 @@ pub struct LatestShell {
 impl LatestShell {
     /// A shell without a program.
     pub fn new(alloc: Global) -> LatestShell
-        ensures loaded { ⟦<LatestShell as Component>⟧.loaded result ≡ None }
+        ensures loaded { ⟦<LatestShell as Component>⟧.program result ≡ None }
         ensures kept { ⟦<LatestShell as Component>⟧.kept result ≡ [] }
     {
         LatestShell { alloc, body: None }
@@ -96,7 +96,7 @@ impl LatestBody {
 impl Component for LatestShell {
     ghost kind = { λ _. LatestKind };
 
-    ghost loaded = { λ shell. option_map (λ body. LatestProgram body.columns body.keys) shell.body };
+    ghost program = { λ shell. option_map (λ body. LatestProgram body.columns body.keys) shell.body };
 
     ghost kept = { λ shell. option_map_or (λ body. records_of body.table.records ∷ []) shell.body [] };
 

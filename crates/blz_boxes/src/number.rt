@@ -40,7 +40,7 @@ pub struct NumberShell {
 impl NumberShell {
     /// A shell without a program.
     pub fn new(alloc: Global) -> NumberShell
-        ensures loaded { ⟦<NumberShell as Component>⟧.loaded result ≡ None }
+        ensures loaded { ⟦<NumberShell as Component>⟧.program result ≡ None }
         ensures kept { ⟦<NumberShell as Component>⟧.kept result ≡ [] }
     {
         NumberShell { alloc, body: None }
@@ -70,7 +70,7 @@ impl NumberBody {
 impl Component for NumberShell {
     ghost kind = { λ _. NumberKind };
 
-    ghost loaded = { λ shell. option_map (λ body. NumberProgram body.columns) shell.body };
+    ghost program = { λ shell. option_map (λ body. NumberProgram body.columns) shell.body };
 
     ghost kept = { λ shell. option_map_or (λ body. numbered_records body.table.numbers ∷ []) shell.body [] };
 

@@ -36,7 +36,7 @@ pub struct PlainShell {
 impl PlainShell {
     /// A shell without a program.
     pub fn new(alloc: Global) -> PlainShell
-        ensures loaded { ⟦<PlainShell as Component>⟧.loaded result ≡ None }
+        ensures loaded { ⟦<PlainShell as Component>⟧.program result ≡ None }
         ensures kept { ⟦<PlainShell as Component>⟧.kept result ≡ [] }
     {
         PlainShell { alloc, body: None }
@@ -92,7 +92,7 @@ impl PlainBody {
 impl Component for PlainShell {
     ghost kind = { λ _. ModuleKind };
 
-    ghost loaded = { λ shell. option_map (λ body. ModuleProgram body.program) shell.body };
+    ghost program = { λ shell. option_map (λ body. ModuleProgram body.program) shell.body };
 
     ghost kept = { λ shell. option_map_or (λ body. body.kept) shell.body [] };
 

@@ -30,7 +30,7 @@ pub struct SplitShell {
 impl SplitShell {
     /// A shell without a program.
     pub fn new(alloc: Global) -> SplitShell
-        ensures loaded { ⟦<SplitShell as Component>⟧.loaded result ≡ None }
+        ensures loaded { ⟦<SplitShell as Component>⟧.program result ≡ None }
         ensures kept { ⟦<SplitShell as Component>⟧.kept result ≡ [] }
     {
         SplitShell { alloc, body: None }
@@ -40,7 +40,7 @@ impl SplitShell {
 impl Component for SplitShell {
     ghost kind = { λ _. SplitKind };
 
-    ghost loaded = { λ shell. option_map (λ body. SplitProgram body.columns body.split) shell.body };
+    ghost program = { λ shell. option_map (λ body. SplitProgram body.columns body.split) shell.body };
 
     ghost kept = { λ _. [] };
 

@@ -10,7 +10,7 @@ use blz_value::write_escaped;
 use std::alloc::{AllocError, Global};
 
 /// A status, and the text that is to be written with it.
-#[derive(Debug, Drop)]
+#[derive(Drop)]
 pub struct Reply {
     pub status: Status,
     pub text: Vec<u8>,

@@ -24,7 +24,7 @@ use std::alloc::Global;
 use topo_types::Valid;
 
 /// A record that a sending replica of a stream emits.
-#[derive(Debug, Drop)]
+#[derive(Drop)]
 pub(crate) struct Wanted {
     pub(crate) stream: u32,
     pub(crate) replica: u32,

@@ -20,7 +20,7 @@ use topo_types::Valid;
 use witness_check::{Snapshot, Which, take};
 
 /// What is taken of an execution: its contents, and whether it is complete.
-#[derive(Debug, Drop)]
+#[derive(Drop)]
 pub(crate) struct Seen {
     pub(crate) contents: Snapshot,
     pub(crate) complete: bool,

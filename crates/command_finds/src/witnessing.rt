@@ -36,11 +36,11 @@ fn compared(
     requires holds { Holds valid.now.view given }
     ensures replies { RepliesAtOnce SaysWitness
         (bench_states (map (λ b. kind b) bench.old.items) (map (λ b. kind b) bench.new.items)
-        (map (λ b. loaded b) bench.new.items) (map (λ b. kept b) bench.new.items))
+        (map (λ b. program b) bench.new.items) (map (λ b. kept b) bench.new.items))
         result (comparing (map (λ b. kind b) bench.old.items) valid.now.view given first.now second.now) }
     ensures kinds { KeepsKinds
         (bench_states (map (λ b. kind b) bench.old.items) (map (λ b. kind b) bench.new.items)
-        (map (λ b. loaded b) bench.new.items) (map (λ b. kept b) bench.new.items))
+        (map (λ b. program b) bench.new.items) (map (λ b. kept b) bench.new.items))
         result }
 {
     // The next two are there for the proof alone.
@@ -66,11 +66,11 @@ fn witness_files<F: Files>(
         (files_states (source (F.held files.old) (F.steady files.old) (F.faults files.old))
         (source (F.held files.new) (F.steady files.new) (F.faults files.new)))
         (bench_states (map (λ b. kind b) bench.old.items) (map (λ b. kind b) bench.new.items)
-        (map (λ b. loaded b) bench.new.items) (map (λ b. kept b) bench.new.items))
+        (map (λ b. program b) bench.new.items) (map (λ b. kept b) bench.new.items))
         result (comparing_files (map (λ b. kind b) bench.old.items) (witness_shown names.entry) valid.now.view given) }
     ensures kinds { KeepsKinds
         (bench_states (map (λ b. kind b) bench.old.items) (map (λ b. kind b) bench.new.items)
-        (map (λ b. loaded b) bench.new.items) (map (λ b. kept b) bench.new.items))
+        (map (λ b. program b) bench.new.items) (map (λ b. kept b) bench.new.items))
         result }
 {
     let first = schedule_file(alloc, names.first, files)?;
@@ -91,11 +91,11 @@ pub fn witness<F: Files>(
         (files_states (source (F.held files.old) (F.steady files.old) (F.faults files.old))
         (source (F.held files.new) (F.steady files.new) (F.faults files.new)))
         (bench_states (map (λ b. kind b) bench.old.items) (map (λ b. kind b) bench.new.items)
-        (map (λ b. loaded b) bench.new.items) (map (λ b. kept b) bench.new.items))
+        (map (λ b. program b) bench.new.items) (map (λ b. kept b) bench.new.items))
         result (witnessing (map (λ b. kind b) bench.old.items) (witness_shown names.entry)) }
     ensures kinds { KeepsKinds
         (bench_states (map (λ b. kind b) bench.old.items) (map (λ b. kind b) bench.new.items)
-        (map (λ b. loaded b) bench.new.items) (map (λ b. kept b) bench.new.items))
+        (map (λ b. program b) bench.new.items) (map (λ b. kept b) bench.new.items))
         result }
 {
     let valid = valid_topology(alloc, names.topology, files)?;

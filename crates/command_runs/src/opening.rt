@@ -59,7 +59,7 @@ pub fn opened<'a>(
     ensures gives { Gives (λ net. tt) result (check.opened valid.now.view (fault_of_opening valid.now.view (λ k. k) (map (λ b. kind b) bench.old.items))) }
 
     // It stands for no step.
-    ensures stands { IfOk result (λ net. Stands valid.now.view given [] (map (λ b. loaded b) net.shells.items) (map (λ b. kept b) net.shells.items) net.books) }
+    ensures stands { IfOk result (λ net. Stands valid.now.view given [] (map (λ b. program b) net.shells.items) (map (λ b. kept b) net.shells.items) net.books) }
     ensures valid { IfOk result (λ net. net.valid.now ≡ valid.now) }
 
     // Shells come off the bench, and are neither made nor lost.

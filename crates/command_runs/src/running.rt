@@ -33,11 +33,11 @@ pub(crate) fn run_lines<S: AsStep>(
     requires { IsData valid.now.view given }
     ensures replies { RepliesAtOnce SaysRun
         (bench_states (map (λ b. kind b) bench.old.items) (map (λ b. kind b) bench.new.items)
-        (map (λ b. loaded b) bench.new.items) (map (λ b. kept b) bench.new.items))
+        (map (λ b. program b) bench.new.items) (map (λ b. kept b) bench.new.items))
         result (running_by (check.happening S.step valid.now.view given lines.now) (map (λ b. kind b) bench.old.items) valid.now.view given) }
     ensures kinds { KeepsKinds
         (bench_states (map (λ b. kind b) bench.old.items) (map (λ b. kind b) bench.new.items)
-        (map (λ b. loaded b) bench.new.items) (map (λ b. kept b) bench.new.items))
+        (map (λ b. program b) bench.new.items) (map (λ b. kept b) bench.new.items))
         result }
 {
     let mut net = opened(alloc, valid, given, bench)?;
@@ -61,11 +61,11 @@ fn run_file<F: Files>(
         (files_states (source (F.held files.old) (F.steady files.old) (F.faults files.old))
         (source (F.held files.new) (F.steady files.new) (F.faults files.new)))
         (bench_states (map (λ b. kind b) bench.old.items) (map (λ b. kind b) bench.new.items)
-        (map (λ b. loaded b) bench.new.items) (map (λ b. kept b) bench.new.items))
+        (map (λ b. program b) bench.new.items) (map (λ b. kept b) bench.new.items))
         result (running_file (map (λ b. kind b) bench.old.items) valid.now.view given name.now) }
     ensures kinds { KeepsKinds
         (bench_states (map (λ b. kind b) bench.old.items) (map (λ b. kind b) bench.new.items)
-        (map (λ b. loaded b) bench.new.items) (map (λ b. kept b) bench.new.items))
+        (map (λ b. program b) bench.new.items) (map (λ b. kept b) bench.new.items))
         result }
 {
     let schedule = schedule_file(alloc, name, files)?;
@@ -84,11 +84,11 @@ pub fn run<F: Files>(
         (files_states (source (F.held files.old) (F.steady files.old) (F.faults files.old))
         (source (F.held files.new) (F.steady files.new) (F.faults files.new)))
         (bench_states (map (λ b. kind b) bench.old.items) (map (λ b. kind b) bench.new.items)
-        (map (λ b. loaded b) bench.new.items) (map (λ b. kept b) bench.new.items))
+        (map (λ b. program b) bench.new.items) (map (λ b. kept b) bench.new.items))
         result (runs (map (λ b. kind b) bench.old.items) (files_shown names.entry)) }
     ensures kinds { KeepsKinds
         (bench_states (map (λ b. kind b) bench.old.items) (map (λ b. kind b) bench.new.items)
-        (map (λ b. loaded b) bench.new.items) (map (λ b. kept b) bench.new.items))
+        (map (λ b. program b) bench.new.items) (map (λ b. kept b) bench.new.items))
         result }
 {
     let valid = valid_topology(alloc, names.topology, files)?;

@@ -2,7 +2,7 @@
 
 /// Which steps a plan takes: those by which components get keys, and those by which they become
 /// Order.
-#[derive(Clone, Copy, Debug, PartialEq, Eq)]
+#[derive(Clone, Copy, PartialEq, Eq)]
 pub struct Steps {
     pub keys: bool,
     pub orders: bool,

@@ -3,7 +3,7 @@ use std::marker::Model;
 
 /// A feed of an instance: one port of it, one stream into that port, and one sending replica of the
 /// stream, all by their numbers.
-#[derive(Clone, Copy, Debug)]
+#[derive(Clone, Copy)]
 pub struct Feed {
     pub port: u32,
     pub stream: u32,

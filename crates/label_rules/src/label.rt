@@ -6,9 +6,10 @@ use topo_types::Attrs;
 
 /// How much the contents of a stream depend on the order in which messages came, from the best to
 /// the worst.
-#[derive(Clone, Copy, Debug, PartialEq, Eq)]
+#[derive(Clone, Copy, PartialEq, Eq)]
 pub enum Label {
-    /// Equal under every schedule, with a seal for each complete partition of this key.
+    /// Equal under every schedule, and a seal that is sent is true: its partition of this key is
+    /// whole.
     Seal(Attrs),
     /// Equal under every schedule.
     Async,
@@ -21,7 +22,7 @@ pub enum Label {
 }
 
 /// The label of the stream that a read takes, which the output has where the read is protected.
-#[derive(Clone, Copy, Debug, PartialEq, Eq)]
+#[derive(Clone, Copy, PartialEq, Eq)]
 pub enum Base {
     Seal(Attrs),
     Async,
@@ -29,7 +30,7 @@ pub enum Base {
 }
 
 /// The label of a path from a port to an output, for one stream into the port.
-#[derive(Clone, Copy, Debug, PartialEq, Eq)]
+#[derive(Clone, Copy, PartialEq, Eq)]
 pub enum PathLabel {
     Seal(Attrs),
     Async,

@@ -8,7 +8,7 @@ use std::marker::Model;
 
 /// The label of each stream, by its number: the sources come first and then the other streams,
 /// both in the order of the file.
-#[derive(Debug, Drop)]
+#[derive(Drop)]
 pub struct Labels {
     labels: Items<Label>,
 }

@@ -7,7 +7,7 @@ use fd_closure::Attrs;
 /// What a component does on the way from a port to an output. C is confluent: the order of
 /// arrival makes no difference. O depends on the order, but only among records that agree in all
 /// attributes of its gate. R leaves the state of the component alone, W changes it.
-#[derive(Clone, Copy, Debug, PartialEq, Eq)]
+#[derive(Clone, Copy, PartialEq, Eq)]
 pub enum Note {
     /// Confluent, leaves state alone.
     CR,

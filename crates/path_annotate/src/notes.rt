@@ -7,7 +7,7 @@ use blz_value::Items;
 use std::marker::Model;
 
 /// The notes of a program's paths, from each port to each output.
-#[derive(Debug, Drop)]
+#[derive(Drop)]
 pub struct Notes {
     ports: Vec<Items<Option<Note>>>,
 }

@@ -4,7 +4,7 @@ use blz_value::Str;
 use sched_text::Event;
 
 /// A step of a restarted execution, with names as they are written.
-#[derive(Debug, Drop)]
+#[derive(Drop)]
 pub enum Step {
     /// An event.
     Event(Event),

@@ -9,9 +9,8 @@ use Rattle.std.proofs.lemmas.List.Sorted.{IsPermutation-refl, IsPermutation-tran
 use Rattle.std.proofs.lemmas.Iterator.Adapters.{position_from-zero}
 use Rattle.std.proofs.Math.ListN.{set}
 use Rattle.bloom_ast.specs.declared.program.Program.{Program}
-use Rattle.bloom_ast.specs.declared.program.Program.TheVariants as programs
 use Rattle.bloom_ast.specs.Program.{IsStock}
-use Rattle.bloom_ast.specs.Proper.{IsProper}
+use Rattle.bloom_ast.proofs.Reach.ProperLemmas.{proper_is_stock}
 use Rattle.fd_closure.proofs.MembersInOrder.{from_range}
 use Rattle.blz_value.specs.Members.{Has}
 use Rattle.blz_value.proofs.Membership.{Has-from_flat_map}
@@ -288,14 +287,8 @@ pub map_set : {A B : Type 0} (f : A → B) (xs : List A) (i : ℕ) (y : A) → m
 map_set f xs i y = map-set f xs i y
 
 -- what a valid topology runs can be loaded
-pub proper_stock : (program : Program) → IsProper program → IsStock program
-proper_stock (programs.Module a) proper = tt
-proper_stock (programs.Split columns split) proper = proper
-proper_stock (programs.Latest columns keys) proper = proper
-proper_stock (programs.Number columns) proper = proper
-
 pub stock_of : (v : View) (c : ℕ) (p : Program) → IsValid v → c < length v.components → Some p ≡ program_of v c → IsStock p
-stock_of v c p valid there is = proper_stock p ((valid.components c there).runs p (sym is)).proper
+stock_of v c p valid there is = proper_is_stock p ((valid.components c there).runs p (sym is)).proper
 
 -- the component of a shell's place has its kind
 pub kind_at_place : {X : Type 0} (v : View) (kind : X → ProgramKind) (cs : List ℕ) (xs : List X) (i c : ℕ) (p : Program) (d : X) → map (λ x. Some (kind x)) xs ≡ map (λ n. option_map kind_of (program_of v n)) cs

@@ -120,14 +120,14 @@ fn take_first(bench: &mut Vec<Box<dyn Component>>, program: &Program) -> Option<
 }
 
 // Loads a shell.
-fn load_one(shell: &mut Box<dyn Component>, program: &Program) -> Result<(), AllocError>
-    requires stock { IsStock program.now }
-    requires fits { kind_of program.now ≡ kind shell.old }
+fn load_one(shell: &mut Box<dyn Component>, given: &Program) -> Result<(), AllocError>
+    requires stock { IsStock given.now }
+    requires fits { kind_of given.now ≡ kind shell.old }
     ensures kind { kind shell.new ≡ kind shell.old }
-    ensures loaded { OnOk result (loaded shell.new ≡ Some program.now) }
-    ensures kept { OnOk result (kept shell.new ≡ nothing_kept (Some program.now)) }
+    ensures loaded { OnOk result (program shell.new ≡ Some given.now) }
+    ensures kept { OnOk result (kept shell.new ≡ nothing_kept (Some given.now)) }
 {
-    shell.load(program)
+    shell.load(given)
 }
 
 // Loads the shell at a place.
@@ -135,16 +135,16 @@ fn load_one(shell: &mut Box<dyn Component>, program: &Program) -> Result<(), All
 fn load_at(
     shells: &mut Vec<Box<dyn Component>>,
     place: usize,
-    program: &Program,
+    given: &Program,
 ) -> Result<(), AllocError>
-    requires stock { IsStock program.now }
+    requires stock { IsStock given.now }
     requires in_bounds { place < length shells.old.items }
-    requires fits { (d : _) → kind (slice_index_or shells.old.items place d) ≡ kind_of program.now }
+    requires fits { (d : _) → kind (slice_index_or shells.old.items place d) ≡ kind_of given.now }
     ensures kinds { map (λ b. kind b) shells.new.items ≡ map (λ b. kind b) shells.old.items }
-    ensures loaded { OnOk result (map (λ b. loaded b) shells.new.items ≡ slice_set (map (λ b. loaded b) shells.old.items) place (Some program.now)) }
-    ensures kept { OnOk result (map (λ b. kept b) shells.new.items ≡ slice_set (map (λ b. kept b) shells.old.items) place (nothing_kept (Some program.now))) }
+    ensures loaded { OnOk result (map (λ b. program b) shells.new.items ≡ slice_set (map (λ b. program b) shells.old.items) place (Some given.now)) }
+    ensures kept { OnOk result (map (λ b. kept b) shells.new.items ≡ slice_set (map (λ b. kept b) shells.old.items) place (nothing_kept (Some given.now))) }
 {
-    load_one(&mut shells[place], program)
+    load_one(&mut shells[place], given)
 }
 
 // ---- all of them
@@ -159,7 +159,7 @@ fn load_all(
     requires bodies { HaveBodies valid.now.view wanted.now }
     requires fit { map (λ b. Some (kind b)) shells.old.items ≡ map (λ c. option_map kind_of (program_of valid.now.view c)) wanted.now }
     ensures kinds { map (λ b. kind b) shells.new.items ≡ map (λ b. kind b) shells.old.items }
-    ensures loaded { OnOk result (map (λ b. loaded b) shells.new.items ≡ map (program_of valid.now.view) wanted.now) }
+    ensures loaded { OnOk result (map (λ b. program b) shells.new.items ≡ map (program_of valid.now.view) wanted.now) }
     ensures kept { OnOk result (map (λ b. kept b) shells.new.items ≡ map (λ c. nothing_kept (program_of valid.now.view c)) wanted.now) }
 {
     for i in 0..wanted.len() {
@@ -259,7 +259,7 @@ fn take_and_load(
     requires bodies { HaveBodies valid.now.view wanted.now }
     requires enough { first_short (fits_component valid.now.view (λ b. kind b)) wanted.now bench.old.items ≡ None }
     ensures kinds { IfOk result (λ shells. map (λ b. kind b) shells.items ≡ map (λ b. kind b) (taken_by (fits_component valid.now.view (λ b. kind b)) wanted.now bench.old.items)) }
-    ensures loaded { IfOk result (λ shells. map (λ b. loaded b) shells.items ≡ map (program_of valid.now.view) wanted.now) }
+    ensures loaded { IfOk result (λ shells. map (λ b. program b) shells.items ≡ map (program_of valid.now.view) wanted.now) }
     ensures kept { IfOk result (λ shells. map (λ b. kept b) shells.items ≡ map (λ c. nothing_kept (program_of valid.now.view c)) wanted.now) }
     ensures left { OnOk result (bench.new.items ≡ left_by (fits_component valid.now.view (λ b. kind b)) wanted.now bench.old.items) }
     ensures err { OnErr result (IsPermutation (map (λ b. kind b) bench.old.items) (map (λ b. kind b) bench.new.items)) }
@@ -283,7 +283,7 @@ fn open_bodied(
     requires bodies { first_without_body valid.now.view ≡ None }
     ensures answer { OpensAs (fault_of_short (first_short (fits_component valid.now.view (λ b. kind b)) (instance_components valid.now.view) bench.old.items)) result }
     ensures kinds { IfOk result (λ shells. map (λ b. kind b) shells.items ≡ map (λ b. kind b) (taken_by (fits_component valid.now.view (λ b. kind b)) (instance_components valid.now.view) bench.old.items)) }
-    ensures loaded { IfOk result (λ shells. map (λ b. loaded b) shells.items ≡ map (program_of valid.now.view) (instance_components valid.now.view)) }
+    ensures loaded { IfOk result (λ shells. map (λ b. program b) shells.items ≡ map (program_of valid.now.view) (instance_components valid.now.view)) }
     ensures kept { IfOk result (λ shells. map (λ b. kept b) shells.items ≡ map (λ c. nothing_kept (program_of valid.now.view c)) (instance_components valid.now.view)) }
     ensures left { OnOk result (bench.new.items ≡ left_by (fits_component valid.now.view (λ b. kind b)) (instance_components valid.now.view) bench.old.items) }
     ensures no_body { (c : ℕ) → result ≡ Err (NoBody c) → bench.new.items ≡ bench.old.items }
@@ -306,7 +306,7 @@ pub fn open_shells(
 ) -> Result<Vec<Box<dyn Component>>, OpenFault>
     ensures answer { OpensAs (fault_of_opening valid.now.view (λ b. kind b) bench.old.items) result }
     ensures kinds { IfOk result (λ shells. map (λ b. kind b) shells.items ≡ map (λ b. kind b) (taken_by (fits_component valid.now.view (λ b. kind b)) (instance_components valid.now.view) bench.old.items)) }
-    ensures loaded { IfOk result (λ shells. map (λ b. loaded b) shells.items ≡ map (program_of valid.now.view) (instance_components valid.now.view)) }
+    ensures loaded { IfOk result (λ shells. map (λ b. program b) shells.items ≡ map (program_of valid.now.view) (instance_components valid.now.view)) }
     ensures kept { IfOk result (λ shells. map (λ b. kept b) shells.items ≡ map (λ c. nothing_kept (program_of valid.now.view c)) (instance_components valid.now.view)) }
     ensures left { OnOk result (bench.new.items ≡ left_by (fits_component valid.now.view (λ b. kind b)) (instance_components valid.now.view) bench.old.items) }
     ensures no_body { (c : ℕ) → result ≡ Err (NoBody c) → bench.new.items ≡ bench.old.items }

@@ -158,13 +158,13 @@ impl Books {
         replica: u32,
         parts: &[NumberedPart],
     ) -> Result<(), EventFault>
-        requires runs { Runs valid.now.view (map (λ b. loaded b) shells.old.items) (map (λ b. kept b) shells.old.items) self.old }
+        requires runs { Runs valid.now.view (map (λ b. program b) shells.old.items) (map (λ b. kept b) shells.old.items) self.old }
         requires hears { hears_itself valid.now.view component replica ≡ true }
         requires some { 0 < length parts.now }
-        ensures answer { HearingAnswers valid.now.view (map (λ b. loaded b) shells.old.items) (map (λ b. kept b) shells.old.items) self.old parts.now component replica result }
-        ensures leaves { HearingLeaves valid.now.view (map (λ b. loaded b) shells.old.items) (map (λ b. kept b) shells.old.items) (map (λ b. kept b) shells.new.items) self.old self.new parts.now component replica result }
+        ensures answer { HearingAnswers valid.now.view (map (λ b. program b) shells.old.items) (map (λ b. kept b) shells.old.items) self.old parts.now component replica result }
+        ensures leaves { HearingLeaves valid.now.view (map (λ b. program b) shells.old.items) (map (λ b. kept b) shells.old.items) (map (λ b. kept b) shells.new.items) self.old self.new parts.now component replica result }
         ensures kinds { map (λ b. kind b) shells.new.items ≡ map (λ b. kind b) shells.old.items }
-        ensures loaded { map (λ b. loaded b) shells.new.items ≡ map (λ b. loaded b) shells.old.items }
+        ensures loaded { map (λ b. program b) shells.new.items ≡ map (λ b. program b) shells.old.items }
     {
         valid.known();
         let place = self.places.instance(valid, component, replica);
@@ -192,11 +192,11 @@ impl Books {
         replica: u32,
         part: NumberedPart,
     ) -> Result<(), EventFault>
-        requires runs { Runs valid.now.view (map (λ b. loaded b) shells.old.items) (map (λ b. kept b) shells.old.items) self.old }
-        ensures answer { HearingAnswers valid.now.view (map (λ b. loaded b) shells.old.items) (map (λ b. kept b) shells.old.items) self.old (part ∷ []) component replica result }
-        ensures leaves { HearingLeaves valid.now.view (map (λ b. loaded b) shells.old.items) (map (λ b. kept b) shells.old.items) (map (λ b. kept b) shells.new.items) self.old self.new (part ∷ []) component replica result }
+        requires runs { Runs valid.now.view (map (λ b. program b) shells.old.items) (map (λ b. kept b) shells.old.items) self.old }
+        ensures answer { HearingAnswers valid.now.view (map (λ b. program b) shells.old.items) (map (λ b. kept b) shells.old.items) self.old (part ∷ []) component replica result }
+        ensures leaves { HearingLeaves valid.now.view (map (λ b. program b) shells.old.items) (map (λ b. kept b) shells.old.items) (map (λ b. kept b) shells.new.items) self.old self.new (part ∷ []) component replica result }
         ensures kinds { map (λ b. kind b) shells.new.items ≡ map (λ b. kind b) shells.old.items }
-        ensures loaded { map (λ b. loaded b) shells.new.items ≡ map (λ b. loaded b) shells.old.items }
+        ensures loaded { map (λ b. program b) shells.new.items ≡ map (λ b. program b) shells.old.items }
     {
         if !hears_itself(valid, component, replica) {
             return Err(EventFault::NoInstance);
@@ -215,11 +215,11 @@ impl Books {
         replica: u32,
         parts: &[Part],
     ) -> Result<(), EventFault>
-        requires runs { Runs valid.now.view (map (λ b. loaded b) shells.old.items) (map (λ b. kept b) shells.old.items) self.old }
-        ensures answer { HearingAnswers valid.now.view (map (λ b. loaded b) shells.old.items) (map (λ b. kept b) shells.old.items) self.old (numbered_parts valid.now.view component parts.now) component replica result }
-        ensures leaves { HearingLeaves valid.now.view (map (λ b. loaded b) shells.old.items) (map (λ b. kept b) shells.old.items) (map (λ b. kept b) shells.new.items) self.old self.new (numbered_parts valid.now.view component parts.now) component replica result }
+        requires runs { Runs valid.now.view (map (λ b. program b) shells.old.items) (map (λ b. kept b) shells.old.items) self.old }
+        ensures answer { HearingAnswers valid.now.view (map (λ b. program b) shells.old.items) (map (λ b. kept b) shells.old.items) self.old (numbered_parts valid.now.view component parts.now) component replica result }
+        ensures leaves { HearingLeaves valid.now.view (map (λ b. program b) shells.old.items) (map (λ b. kept b) shells.old.items) (map (λ b. kept b) shells.new.items) self.old self.new (numbered_parts valid.now.view component parts.now) component replica result }
         ensures kinds { map (λ b. kind b) shells.new.items ≡ map (λ b. kind b) shells.old.items }
-        ensures loaded { map (λ b. loaded b) shells.new.items ≡ map (λ b. loaded b) shells.old.items }
+        ensures loaded { map (λ b. program b) shells.new.items ≡ map (λ b. program b) shells.old.items }
     {
         if parts.is_empty() {
             return Err(EventFault::NoInstance);
@@ -242,11 +242,11 @@ impl Books {
         replica: u32,
         part: NumberedPart,
     ) -> Result<(), EventFault>
-        requires runs { Runs valid.now.view (map (λ b. loaded b) shells.old.items) (map (λ b. kept b) shells.old.items) self.old }
-        ensures answer { EventAnswers valid.now.view (map (λ b. loaded b) shells.old.items) (map (λ b. kept b) shells.old.items) self.old (deliver part component replica) result }
-        ensures leaves { EventLeaves valid.now.view (map (λ b. loaded b) shells.old.items) (map (λ b. kept b) shells.old.items) (map (λ b. kept b) shells.new.items) self.old self.new (deliver part component replica) result }
+        requires runs { Runs valid.now.view (map (λ b. program b) shells.old.items) (map (λ b. kept b) shells.old.items) self.old }
+        ensures answer { EventAnswers valid.now.view (map (λ b. program b) shells.old.items) (map (λ b. kept b) shells.old.items) self.old (deliver part component replica) result }
+        ensures leaves { EventLeaves valid.now.view (map (λ b. program b) shells.old.items) (map (λ b. kept b) shells.old.items) (map (λ b. kept b) shells.new.items) self.old self.new (deliver part component replica) result }
         ensures kinds { map (λ b. kind b) shells.new.items ≡ map (λ b. kind b) shells.old.items }
-        ensures loaded { map (λ b. loaded b) shells.new.items ≡ map (λ b. loaded b) shells.old.items }
+        ensures loaded { map (λ b. program b) shells.new.items ≡ map (λ b. program b) shells.old.items }
     {
         let result = self.hear_one(alloc, valid, shells, component, replica, part);
         self.end_at(&result);
@@ -264,11 +264,11 @@ impl Books {
         replica: u32,
         parts: &[Part],
     ) -> Result<(), EventFault>
-        requires runs { Runs valid.now.view (map (λ b. loaded b) shells.old.items) (map (λ b. kept b) shells.old.items) self.old }
-        ensures answer { EventAnswers valid.now.view (map (λ b. loaded b) shells.old.items) (map (λ b. kept b) shells.old.items) self.old (batch (numbered_parts valid.now.view component parts.now) component replica) result }
-        ensures leaves { EventLeaves valid.now.view (map (λ b. loaded b) shells.old.items) (map (λ b. kept b) shells.old.items) (map (λ b. kept b) shells.new.items) self.old self.new (batch (numbered_parts valid.now.view component parts.now) component replica) result }
+        requires runs { Runs valid.now.view (map (λ b. program b) shells.old.items) (map (λ b. kept b) shells.old.items) self.old }
+        ensures answer { EventAnswers valid.now.view (map (λ b. program b) shells.old.items) (map (λ b. kept b) shells.old.items) self.old (batch (numbered_parts valid.now.view component parts.now) component replica) result }
+        ensures leaves { EventLeaves valid.now.view (map (λ b. program b) shells.old.items) (map (λ b. kept b) shells.old.items) (map (λ b. kept b) shells.new.items) self.old self.new (batch (numbered_parts valid.now.view component parts.now) component replica) result }
         ensures kinds { map (λ b. kind b) shells.new.items ≡ map (λ b. kind b) shells.old.items }
-        ensures loaded { map (λ b. loaded b) shells.new.items ≡ map (λ b. loaded b) shells.old.items }
+        ensures loaded { map (λ b. program b) shells.new.items ≡ map (λ b. program b) shells.old.items }
     {
         let result = self.hear_all(alloc, valid, shells, component, replica, parts);
         self.end_at(&result);

@@ -9,7 +9,7 @@ use std::marker::Model;
 use topo_types::Valid;
 
 /// A message that goes to a port, by numbers; what has no name has the number past the end.
-#[derive(Clone, Copy, Debug)]
+#[derive(Clone, Copy)]
 pub struct NumberedPart {
     /// The number of the stream.
     pub stream: u32,
@@ -32,7 +32,7 @@ impl Model for NumberedPart {
 }
 
 /// An event by numbers, where messages are heard one by one.
-#[derive(Clone, Copy, Debug)]
+#[derive(Clone, Copy)]
 pub enum NumberedEvent {
     /// One replica of a component hears a message at a port.
     Deliver {

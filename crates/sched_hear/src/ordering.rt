@@ -79,20 +79,20 @@ fn emit_entry(
     entry: (u32, Id),
 ) -> Result<(), EventFault>
     requires place { place < length shells.old.items }
-    requires program { IsSome (slice_index_or (map (λ b. loaded b) shells.old.items) place None) }
+    requires program { IsSome (slice_index_or (map (λ b. program b) shells.old.items) place None) }
     requires given { entry.1 < length lists.old.records }
-    requires arrives { Arrive (slice_index_or (map (λ b. loaded b) shells.old.items) place None) (timestep_of ports (entry_with_id lists.old.records entry ∷ [])) }
+    requires arrives { Arrive (slice_index_or (map (λ b. program b) shells.old.items) place None) (timestep_of ports (entry_with_id lists.old.records entry ∷ [])) }
     requires places { All (λ o. o.place < length lists.old.lists) outlets.now }
     requires exact { IsExact lists.old }
     ensures kinds { map (λ b. kind b) shells.new.items ≡ map (λ b. kind b) shells.old.items }
-    ensures loaded { map (λ b. loaded b) shells.new.items ≡ map (λ b. loaded b) shells.old.items }
-    ensures ok { OnOk result (EmitsAt (map (λ b. loaded b) shells.old.items) place outlets.now (map (λ b. kept b) shells.old.items) (map (λ b. kept b) shells.new.items) (read_lists lists.old) (read_lists lists.new) (entry_sets_off lists.old.records ports entry)) }
+    ensures loaded { map (λ b. program b) shells.new.items ≡ map (λ b. program b) shells.old.items }
+    ensures ok { OnOk result (EmitsAt (map (λ b. program b) shells.old.items) place outlets.now (map (λ b. kept b) shells.old.items) (map (λ b. kept b) shells.new.items) (read_lists lists.old) (read_lists lists.new) (entry_sets_off lists.old.records ports entry)) }
     ensures records { OnOk result (Continues lists.old.records lists.new.records) }
     ensures pool { OnOk result (IsPool lists.new.records) }
     ensures exact { OnOk result (IsExact lists.new) }
     ensures others { OnOk result (OthersStay outlets.now (read_lists lists.old) (read_lists lists.new)) }
-    ensures rows { result ≡ Err TooManyRows → MeetsAt too_many_rows (map (λ b. loaded b) shells.old.items) place outlets.now (map (λ b. kept b) shells.old.items) (read_lists lists.old) (entry_sets_off lists.old.records ports entry) }
-    ensures messages { result ≡ Err TooManyMessages → MeetsAt too_many_messages (map (λ b. loaded b) shells.old.items) place outlets.now (map (λ b. kept b) shells.old.items) (read_lists lists.old) (entry_sets_off lists.old.records ports entry) }
+    ensures rows { result ≡ Err TooManyRows → MeetsAt too_many_rows (map (λ b. program b) shells.old.items) place outlets.now (map (λ b. kept b) shells.old.items) (read_lists lists.old) (entry_sets_off lists.old.records ports entry) }
+    ensures messages { result ≡ Err TooManyMessages → MeetsAt too_many_messages (map (λ b. program b) shells.old.items) place outlets.now (map (λ b. kept b) shells.old.items) (read_lists lists.old) (entry_sets_off lists.old.records ports entry) }
     ensures legal { IsLegal result }
 {
     let now = timestep(alloc, lists.pool(), ports, &[entry])?;
@@ -148,11 +148,11 @@ impl Books {
         component: u32,
         replica: u32,
     ) -> Result<(), EventFault>
-        requires runs { Runs valid.now.view (map (λ b. loaded b) shells.old.items) (map (λ b. kept b) shells.old.items) self.old }
-        ensures answer { EventAnswers valid.now.view (map (λ b. loaded b) shells.old.items) (map (λ b. kept b) shells.old.items) self.old (take_one component replica) result }
-        ensures leaves { EventLeavesOpen valid.now.view (map (λ b. loaded b) shells.old.items) (map (λ b. kept b) shells.old.items) (map (λ b. kept b) shells.new.items) self.old self.new (take_one component replica) result }
+        requires runs { Runs valid.now.view (map (λ b. program b) shells.old.items) (map (λ b. kept b) shells.old.items) self.old }
+        ensures answer { EventAnswers valid.now.view (map (λ b. program b) shells.old.items) (map (λ b. kept b) shells.old.items) self.old (take_one component replica) result }
+        ensures leaves { EventLeavesOpen valid.now.view (map (λ b. program b) shells.old.items) (map (λ b. kept b) shells.old.items) (map (λ b. kept b) shells.new.items) self.old self.new (take_one component replica) result }
         ensures kinds { map (λ b. kind b) shells.new.items ≡ map (λ b. kind b) shells.old.items }
-        ensures loaded { map (λ b. loaded b) shells.new.items ≡ map (λ b. loaded b) shells.old.items }
+        ensures loaded { map (λ b. program b) shells.new.items ≡ map (λ b. program b) shells.old.items }
     {
         valid.known();
         if !takes_itself(valid, component, replica) {
@@ -186,11 +186,11 @@ impl Books {
         component: u32,
         replica: u32,
     ) -> Result<(), EventFault>
-        requires runs { Runs valid.now.view (map (λ b. loaded b) shells.old.items) (map (λ b. kept b) shells.old.items) self.old }
-        ensures answer { EventAnswers valid.now.view (map (λ b. loaded b) shells.old.items) (map (λ b. kept b) shells.old.items) self.old (take_one component replica) result }
-        ensures leaves { EventLeaves valid.now.view (map (λ b. loaded b) shells.old.items) (map (λ b. kept b) shells.old.items) (map (λ b. kept b) shells.new.items) self.old self.new (take_one component replica) result }
+        requires runs { Runs valid.now.view (map (λ b. program b) shells.old.items) (map (λ b. kept b) shells.old.items) self.old }
+        ensures answer { EventAnswers valid.now.view (map (λ b. program b) shells.old.items) (map (λ b. kept b) shells.old.items) self.old (take_one component replica) result }
+        ensures leaves { EventLeaves valid.now.view (map (λ b. program b) shells.old.items) (map (λ b. kept b) shells.old.items) (map (λ b. kept b) shells.new.items) self.old self.new (take_one component replica) result }
         ensures kinds { map (λ b. kind b) shells.new.items ≡ map (λ b. kind b) shells.old.items }
-        ensures loaded { map (λ b. loaded b) shells.new.items ≡ map (λ b. loaded b) shells.old.items }
+        ensures loaded { map (λ b. program b) shells.new.items ≡ map (λ b. program b) shells.old.items }
     {
         let result = self.take_next(alloc, valid, shells, component, replica);
         self.end_at(&result);

@@ -25,7 +25,7 @@ use topo_types::{Valid, carries};
 
 /// An output that has a stream: its number, the place of its emitted list, and the places of the
 /// key among its columns, where the stream carries one.
-#[derive(Debug, Drop)]
+#[derive(Drop)]
 pub struct Outlet {
     pub output: u32,
     pub place: usize,

@@ -8,7 +8,7 @@ use std::alloc::{AllocError, Global};
 use topo_types::Valid;
 
 /// The places at which the instances of each component begin, and the emitted lists of each stream.
-#[derive(Debug, Drop)]
+#[derive(Drop)]
 pub struct Places {
     pub instances: Items<usize>,
     pub lists: Items<usize>,

@@ -27,20 +27,20 @@ fn step_once(
     outlets: &[Outlet],
     now: &Arrivals,
 ) -> Result<(), EventFault>
-    requires program { IsSome (loaded shell.old) }
-    requires arrivals { Arrive (loaded shell.old) now.now }
+    requires program { IsSome (program shell.old) }
+    requires arrivals { Arrive (program shell.old) now.now }
     requires places { All (λ o. o.place < length lists.old.lists) outlets.now }
     requires exact { IsExact lists.old }
     ensures kind { kind shell.new ≡ kind shell.old }
-    ensures loaded { loaded shell.new ≡ loaded shell.old }
-    ensures ok { OnOk result (HasStepped (loaded shell.old) outlets.now now.now (kept shell.old) (kept shell.new) (read_lists lists.old) (read_lists lists.new)) }
+    ensures loaded { program shell.new ≡ program shell.old }
+    ensures ok { OnOk result (HasStepped (program shell.old) outlets.now now.now (kept shell.old) (kept shell.new) (read_lists lists.old) (read_lists lists.new)) }
     ensures records { OnOk result (Continues lists.old.records lists.new.records) }
     ensures exact { OnOk result (IsExact lists.new) }
     ensures others { OnOk result (OthersStay outlets.now (read_lists lists.old) (read_lists lists.new)) }
     ensures count { OnOk result (length lists.new.lists ≡ length lists.old.lists) }
     ensures few { OnOk result (total lists.new.lists ≤ message_limit) }
-    ensures rows { result ≡ Err TooManyRows → SomeIsOver (counted_next (loaded shell.old) (kept shell.old) now.now) }
-    ensures messages { result ≡ Err TooManyMessages → HasOverflowed (loaded shell.old) outlets.now now.now (kept shell.old) (read_lists lists.old) }
+    ensures rows { result ≡ Err TooManyRows → SomeIsOver (counted_next (program shell.old) (kept shell.old) now.now) }
+    ensures messages { result ≡ Err TooManyMessages → HasOverflowed (program shell.old) outlets.now now.now (kept shell.old) (read_lists lists.old) }
     ensures legal { IsLegal result }
 {
     let mut outs = Outs::from_sets(Vec::new(alloc));
@@ -63,20 +63,20 @@ pub(crate) fn go_through(
     outlets: &[Outlet],
     steps: &[Arrivals],
 ) -> Result<(), EventFault>
-    requires program { IsSome (loaded shell.old) }
-    requires arrivals { All (Arrive (loaded shell.old)) steps.now }
+    requires program { IsSome (program shell.old) }
+    requires arrivals { All (Arrive (program shell.old)) steps.now }
     requires places { All (λ o. o.place < length lists.old.lists) outlets.now }
     requires exact { IsExact lists.old }
     ensures kind { kind shell.new ≡ kind shell.old }
-    ensures loaded { loaded shell.new ≡ loaded shell.old }
-    ensures ok { OnOk result (GoesOn (loaded shell.old) outlets.now (kept shell.old) (kept shell.new) (read_lists lists.old) (read_lists lists.new) steps.now) }
+    ensures loaded { program shell.new ≡ program shell.old }
+    ensures ok { OnOk result (GoesOn (program shell.old) outlets.now (kept shell.old) (kept shell.new) (read_lists lists.old) (read_lists lists.new) steps.now) }
     ensures records { OnOk result (Continues lists.old.records lists.new.records) }
     ensures exact { OnOk result (IsExact lists.new) }
     ensures others { OnOk result (OthersStay outlets.now (read_lists lists.old) (read_lists lists.new)) }
     ensures count { OnOk result (length lists.new.lists ≡ length lists.old.lists) }
     ensures few { OnOk result (total lists.new.lists ≤ message_limit) }
-    ensures rows { result ≡ Err TooManyRows → MeetsLimit too_many_rows (loaded shell.old) outlets.now (kept shell.old) (read_lists lists.old) steps.now }
-    ensures messages { result ≡ Err TooManyMessages → MeetsLimit too_many_messages (loaded shell.old) outlets.now (kept shell.old) (read_lists lists.old) steps.now }
+    ensures rows { result ≡ Err TooManyRows → MeetsLimit too_many_rows (program shell.old) outlets.now (kept shell.old) (read_lists lists.old) steps.now }
+    ensures messages { result ≡ Err TooManyMessages → MeetsLimit too_many_messages (program shell.old) outlets.now (kept shell.old) (read_lists lists.old) steps.now }
     ensures legal { IsLegal result }
 {
     lists.known();
@@ -97,20 +97,20 @@ pub(crate) fn emit_set_off(
     steps: &[Arrivals],
     whole: &[Record],
 ) -> Result<(), EventFault>
-    requires program { IsSome (loaded shell.old) }
-    requires arrivals { All (Arrive (loaded shell.old)) steps.now }
+    requires program { IsSome (program shell.old) }
+    requires arrivals { All (Arrive (program shell.old)) steps.now }
     requires places { All (λ o. o.place < length lists.old.lists) outlets.now }
     requires exact { IsExact lists.old }
     ensures kind { kind shell.new ≡ kind shell.old }
-    ensures loaded { loaded shell.new ≡ loaded shell.old }
-    ensures ok { OnOk result (Emits (loaded shell.old) outlets.now (kept shell.old) (kept shell.new) (read_lists lists.old) (read_lists lists.new) (record { steps = steps.now; whole = whole.now })) }
+    ensures loaded { program shell.new ≡ program shell.old }
+    ensures ok { OnOk result (Emits (program shell.old) outlets.now (kept shell.old) (kept shell.new) (read_lists lists.old) (read_lists lists.new) (record { steps = steps.now; whole = whole.now })) }
     ensures records { OnOk result (Continues lists.old.records lists.new.records) }
     ensures exact { OnOk result (IsExact lists.new) }
     ensures others { OnOk result (OthersStay outlets.now (read_lists lists.old) (read_lists lists.new)) }
     ensures count { OnOk result (length lists.new.lists ≡ length lists.old.lists) }
     ensures few { OnOk result (total lists.new.lists ≤ message_limit) }
-    ensures rows { result ≡ Err TooManyRows → MeetsFirst too_many_rows (loaded shell.old) outlets.now (kept shell.old) (read_lists lists.old) (record { steps = steps.now; whole = whole.now }) }
-    ensures messages { result ≡ Err TooManyMessages → MeetsFirst too_many_messages (loaded shell.old) outlets.now (kept shell.old) (read_lists lists.old) (record { steps = steps.now; whole = whole.now }) }
+    ensures rows { result ≡ Err TooManyRows → MeetsFirst too_many_rows (program shell.old) outlets.now (kept shell.old) (read_lists lists.old) (record { steps = steps.now; whole = whole.now }) }
+    ensures messages { result ≡ Err TooManyMessages → MeetsFirst too_many_messages (program shell.old) outlets.now (kept shell.old) (read_lists lists.old) (record { steps = steps.now; whole = whole.now }) }
     ensures legal { IsLegal result }
 {
     go_through(alloc, shell, lists, outlets, steps)?;
@@ -129,20 +129,20 @@ pub fn emit_at(
     whole: &[Record],
 ) -> Result<(), EventFault>
     requires place { place < length shells.old.items }
-    requires program { IsSome (slice_index_or (map (λ b. loaded b) shells.old.items) place None) }
-    requires arrivals { All (Arrive (slice_index_or (map (λ b. loaded b) shells.old.items) place None)) steps.now }
+    requires program { IsSome (slice_index_or (map (λ b. program b) shells.old.items) place None) }
+    requires arrivals { All (Arrive (slice_index_or (map (λ b. program b) shells.old.items) place None)) steps.now }
     requires places { All (λ o. o.place < length lists.old.lists) outlets.now }
     requires exact { IsExact lists.old }
     ensures kinds { map (λ b. kind b) shells.new.items ≡ map (λ b. kind b) shells.old.items }
-    ensures loaded { map (λ b. loaded b) shells.new.items ≡ map (λ b. loaded b) shells.old.items }
-    ensures ok { OnOk result (EmitsAt (map (λ b. loaded b) shells.old.items) place outlets.now (map (λ b. kept b) shells.old.items) (map (λ b. kept b) shells.new.items) (read_lists lists.old) (read_lists lists.new) (record { steps = steps.now; whole = whole.now })) }
+    ensures loaded { map (λ b. program b) shells.new.items ≡ map (λ b. program b) shells.old.items }
+    ensures ok { OnOk result (EmitsAt (map (λ b. program b) shells.old.items) place outlets.now (map (λ b. kept b) shells.old.items) (map (λ b. kept b) shells.new.items) (read_lists lists.old) (read_lists lists.new) (record { steps = steps.now; whole = whole.now })) }
     ensures records { OnOk result (Continues lists.old.records lists.new.records) }
     ensures exact { OnOk result (IsExact lists.new) }
     ensures others { OnOk result (OthersStay outlets.now (read_lists lists.old) (read_lists lists.new)) }
     ensures count { OnOk result (length lists.new.lists ≡ length lists.old.lists) }
     ensures few { OnOk result (total lists.new.lists ≤ message_limit) }
-    ensures rows { result ≡ Err TooManyRows → MeetsAt too_many_rows (map (λ b. loaded b) shells.old.items) place outlets.now (map (λ b. kept b) shells.old.items) (read_lists lists.old) (record { steps = steps.now; whole = whole.now }) }
-    ensures messages { result ≡ Err TooManyMessages → MeetsAt too_many_messages (map (λ b. loaded b) shells.old.items) place outlets.now (map (λ b. kept b) shells.old.items) (read_lists lists.old) (record { steps = steps.now; whole = whole.now }) }
+    ensures rows { result ≡ Err TooManyRows → MeetsAt too_many_rows (map (λ b. program b) shells.old.items) place outlets.now (map (λ b. kept b) shells.old.items) (read_lists lists.old) (record { steps = steps.now; whole = whole.now }) }
+    ensures messages { result ≡ Err TooManyMessages → MeetsAt too_many_messages (map (λ b. program b) shells.old.items) place outlets.now (map (λ b. kept b) shells.old.items) (read_lists lists.old) (record { steps = steps.now; whole = whole.now }) }
     ensures legal { IsLegal result }
 {
     emit_set_off(alloc, &mut shells[place], lists, outlets, steps, whole)

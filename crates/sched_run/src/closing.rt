@@ -22,7 +22,7 @@ impl Net<'_> {
         ensures err { OnErr result (bench.new.items ≡ bench.old.items) }
 
         // What they keep, where no fault ended the net.
-        ensures tables { AreLastTables self.entry.valid.now.view (map (λ b. loaded b) self.entry.shells.items) (map (λ b. kept b) self.entry.shells.items) self.entry.books }
+        ensures tables { AreLastTables self.entry.valid.now.view (map (λ b. program b) self.entry.shells.items) (map (λ b. kept b) self.entry.shells.items) self.entry.books }
     {
         bench.reserve(self.shells.len())?;
         put_back(self.shells, bench);

@@ -25,8 +25,8 @@ fn is_there(valid: &Valid, component: u32, replica: u32) -> bool
 // Empties what a shell keeps.
 fn clear_one(shell: &mut Box<dyn Component>)
     ensures kind { kind shell.new ≡ kind shell.old }
-    ensures loaded { loaded shell.new ≡ loaded shell.old }
-    ensures kept { kept shell.new ≡ nothing_kept (loaded shell.old) }
+    ensures loaded { program shell.new ≡ program shell.old }
+    ensures kept { kept shell.new ≡ nothing_kept (program shell.old) }
 {
     shell.clear();
 }
@@ -35,8 +35,8 @@ fn clear_one(shell: &mut Box<dyn Component>)
 fn clear_at(shells: &mut Vec<Box<dyn Component>>, place: usize)
     requires { place < length shells.old.items }
     ensures kinds { map (λ b. kind b) shells.new.items ≡ map (λ b. kind b) shells.old.items }
-    ensures loaded { map (λ b. loaded b) shells.new.items ≡ map (λ b. loaded b) shells.old.items }
-    ensures kept { map (λ b. kept b) shells.new.items ≡ slice_set (map (λ b. kept b) shells.old.items) place (nothing_kept (slice_index_or (map (λ b. loaded b) shells.old.items) place None)) }
+    ensures loaded { map (λ b. program b) shells.new.items ≡ map (λ b. program b) shells.old.items }
+    ensures kept { map (λ b. kept b) shells.new.items ≡ slice_set (map (λ b. kept b) shells.old.items) place (nothing_kept (slice_index_or (map (λ b. program b) shells.old.items) place None)) }
 {
     clear_one(&mut shells[place]);
 }
@@ -54,15 +54,15 @@ impl Net<'_> {
     /// log of its component. NoInstance comes where it isn't there, and changes nothing. It takes no
     /// memory.
     pub fn forget(&mut self, component: &Str, replica: u32) -> Result<(), ForgetFault>
-        requires runs { Runs self.old.valid.now.view (map (λ b. loaded b) self.old.shells.items) (map (λ b. kept b) self.old.shells.items) self.old.books }
+        requires runs { Runs self.old.valid.now.view (map (λ b. program b) self.old.shells.items) (map (λ b. kept b) self.old.shells.items) self.old.books }
 
         // Of all steps for which the net stood: the answer, and for which it stands then.
-        ensures answer { ForgetAnswers self.old.valid.now.view (map (λ b. loaded b) self.old.shells.items) (map (λ b. kept b) self.old.shells.items) self.old.books (forget (component_number self.old.valid.now.view component.now) replica) result }
-        ensures leaves { ForgetLeaves self.old.valid.now.view (map (λ b. loaded b) self.old.shells.items) (map (λ b. kept b) self.old.shells.items) (map (λ b. kept b) self.new.shells.items) self.old.books self.new.books (forget (component_number self.old.valid.now.view component.now) replica) result }
+        ensures answer { ForgetAnswers self.old.valid.now.view (map (λ b. program b) self.old.shells.items) (map (λ b. kept b) self.old.shells.items) self.old.books (forget (component_number self.old.valid.now.view component.now) replica) result }
+        ensures leaves { ForgetLeaves self.old.valid.now.view (map (λ b. program b) self.old.shells.items) (map (λ b. kept b) self.old.shells.items) (map (λ b. kept b) self.new.shells.items) self.old.books self.new.books (forget (component_number self.old.valid.now.view component.now) replica) result }
 
         ensures valid { self.new.valid ≡ self.old.valid }
         ensures kinds { map (λ b. kind b) self.new.shells.items ≡ map (λ b. kind b) self.old.shells.items }
-        ensures loaded { map (λ b. loaded b) self.new.shells.items ≡ map (λ b. loaded b) self.old.shells.items }
+        ensures loaded { map (λ b. program b) self.new.shells.items ≡ map (λ b. program b) self.old.shells.items }
     {
         self.valid.known();
         self.books.lists.known();

@@ -12,7 +12,7 @@ use std::alloc::{AllocError, Global};
 use topo_types::Valid;
 
 /// Where messages come in, from one sending replica of a stream at one port.
-#[derive(Clone, Copy, Debug)]
+#[derive(Clone, Copy)]
 pub(crate) enum Lane {
     /// An instance hears messages of a feed, which has this number.
     Deliver {
@@ -29,7 +29,7 @@ pub(crate) enum Lane {
 }
 
 /// A replica of an Order component, which takes from its log.
-#[derive(Clone, Copy, Debug)]
+#[derive(Clone, Copy)]
 pub(crate) struct Taker {
     pub(crate) component: u32,
     pub(crate) replica: u32,

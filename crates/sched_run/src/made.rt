@@ -16,7 +16,7 @@ use std::marker::Model;
 use topo_types::Valid;
 
 /// The events of a schedule that was made, in order and by numbers.
-#[derive(Debug, Drop)]
+#[derive(Drop)]
 pub struct Made {
     events: Vec<NumberedEvent>,
 }

@@ -51,8 +51,8 @@ impl<'a> Net<'a> {
         self.valid.known();
     }
 
-    /// Ends the net, as a fault does.
-    pub fn end(&mut self)
+    // Ends the net, as a fault does.
+    pub(crate) fn end(&mut self)
         ensures ended { self.new.books.ended ≡ true }
         ensures valid { self.new.valid ≡ self.old.valid }
         ensures shells { self.new.shells ≡ self.old.shells }
@@ -65,15 +65,15 @@ impl<'a> Net<'a> {
     /// TooManyMessages where the emitted lists together would have more than 262,144 messages,
     /// whichever is met first; these and want of memory end the net.
     pub fn event(&mut self, event: &Event) -> Result<(), EventFault>
-        requires runs { Runs self.old.valid.now.view (map (λ b. loaded b) self.old.shells.items) (map (λ b. kept b) self.old.shells.items) self.old.books }
+        requires runs { Runs self.old.valid.now.view (map (λ b. program b) self.old.shells.items) (map (λ b. kept b) self.old.shells.items) self.old.books }
 
         // Of all steps for which the net stood: the answer, and for which it stands then.
-        ensures answer { EventAnswers self.old.valid.now.view (map (λ b. loaded b) self.old.shells.items) (map (λ b. kept b) self.old.shells.items) self.old.books (numbered self.old.valid.now.view event.now) result }
-        ensures leaves { EventLeaves self.old.valid.now.view (map (λ b. loaded b) self.old.shells.items) (map (λ b. kept b) self.old.shells.items) (map (λ b. kept b) self.new.shells.items) self.old.books self.new.books (numbered self.old.valid.now.view event.now) result }
+        ensures answer { EventAnswers self.old.valid.now.view (map (λ b. program b) self.old.shells.items) (map (λ b. kept b) self.old.shells.items) self.old.books (numbered self.old.valid.now.view event.now) result }
+        ensures leaves { EventLeaves self.old.valid.now.view (map (λ b. program b) self.old.shells.items) (map (λ b. kept b) self.old.shells.items) (map (λ b. kept b) self.new.shells.items) self.old.books self.new.books (numbered self.old.valid.now.view event.now) result }
 
         ensures valid { self.new.valid ≡ self.old.valid }
         ensures kinds { map (λ b. kind b) self.new.shells.items ≡ map (λ b. kind b) self.old.shells.items }
-        ensures loaded { map (λ b. loaded b) self.new.shells.items ≡ map (λ b. loaded b) self.old.shells.items }
+        ensures loaded { map (λ b. program b) self.new.shells.items ≡ map (λ b. program b) self.old.shells.items }
     {
         match event {
             Event::Deliver {
@@ -129,15 +129,15 @@ impl<'a> Net<'a> {
 
     /// Applies an event by numbers, as `event` does one with names.
     pub fn numbered_event(&mut self, event: &NumberedEvent) -> Result<(), EventFault>
-        requires runs { Runs self.old.valid.now.view (map (λ b. loaded b) self.old.shells.items) (map (λ b. kept b) self.old.shells.items) self.old.books }
+        requires runs { Runs self.old.valid.now.view (map (λ b. program b) self.old.shells.items) (map (λ b. kept b) self.old.shells.items) self.old.books }
 
         // Of all steps for which the net stood: the answer, and for which it stands then.
-        ensures answer { EventAnswers self.old.valid.now.view (map (λ b. loaded b) self.old.shells.items) (map (λ b. kept b) self.old.shells.items) self.old.books (event_by_numbers event.now) result }
-        ensures leaves { EventLeaves self.old.valid.now.view (map (λ b. loaded b) self.old.shells.items) (map (λ b. kept b) self.old.shells.items) (map (λ b. kept b) self.new.shells.items) self.old.books self.new.books (event_by_numbers event.now) result }
+        ensures answer { EventAnswers self.old.valid.now.view (map (λ b. program b) self.old.shells.items) (map (λ b. kept b) self.old.shells.items) self.old.books (event_by_numbers event.now) result }
+        ensures leaves { EventLeaves self.old.valid.now.view (map (λ b. program b) self.old.shells.items) (map (λ b. kept b) self.old.shells.items) (map (λ b. kept b) self.new.shells.items) self.old.books self.new.books (event_by_numbers event.now) result }
 
         ensures valid { self.new.valid ≡ self.old.valid }
         ensures kinds { map (λ b. kind b) self.new.shells.items ≡ map (λ b. kind b) self.old.shells.items }
-        ensures loaded { map (λ b. loaded b) self.new.shells.items ≡ map (λ b. loaded b) self.old.shells.items }
+        ensures loaded { map (λ b. program b) self.new.shells.items ≡ map (λ b. program b) self.old.shells.items }
     {
         match event {
             NumberedEvent::Deliver {

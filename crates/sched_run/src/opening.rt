@@ -65,7 +65,7 @@ impl<'a> Net<'a> {
 
         // It stands for no step.
         ensures answer { OpensAs (fault_of_opening valid.now.view (λ b. kind b) bench.old.items) result }
-        ensures stands { IfOk result (λ net. Stands valid.now.view given [] (map (λ b. loaded b) net.shells.items) (map (λ b. kept b) net.shells.items) net.books) }
+        ensures stands { IfOk result (λ net. Stands valid.now.view given [] (map (λ b. program b) net.shells.items) (map (λ b. kept b) net.shells.items) net.books) }
         ensures valid { IfOk result (λ net. net.valid.now ≡ valid.now) }
 
         // Shells come off the bench, and are neither made nor lost: instance by instance the first that fits

@@ -16,7 +16,7 @@ use std::alloc::{AllocError, Global};
 use topo_types::Valid;
 
 /// One open work: the message of a lane with an index, or a take.
-#[derive(Clone, Copy, Debug)]
+#[derive(Clone, Copy)]
 pub(crate) enum Work {
     Message(Lane, u32),
     Take(Taker),

@@ -21,20 +21,20 @@ pub(crate) trait FromValue: Drop + Sized {
 }
 
 /// The number of a file's format.
-#[derive(Clone, Copy, Debug, PartialEq, Eq)]
+#[derive(Clone, Copy, PartialEq, Eq)]
 pub(crate) enum Format {
     One,
     Two,
 }
 
 /// The name of a module's file.
-#[derive(Debug, Drop)]
+#[derive(Drop)]
 pub(crate) struct FileName {
     pub(crate) name: Str,
 }
 
 /// The name of a stock body.
-#[derive(Clone, Copy, Debug, PartialEq, Eq)]
+#[derive(Clone, Copy, PartialEq, Eq)]
 pub(crate) enum StockName {
     Split,
     Latest,

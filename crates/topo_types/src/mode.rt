@@ -2,7 +2,7 @@
 use fd_closure::Attrs;
 
 /// How a component coordinates. A key is a set of attributes.
-#[derive(Clone, Copy, Debug, PartialEq, Eq)]
+#[derive(Clone, Copy, PartialEq, Eq)]
 pub enum Mode {
     /// Takes what arrives as it arrives.
     Free,

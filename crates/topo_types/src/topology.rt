@@ -2,7 +2,7 @@
 use blz_value::{Items, Str};
 
 /// A topology. Each list stands in the order of the file.
-#[derive(Debug, Drop)]
+#[derive(Drop)]
 pub struct Topology {
     /// The number of the file's format.
     pub format: u32,
@@ -13,7 +13,7 @@ pub struct Topology {
 }
 
 /// A port of a component, or, where a stream begins, an output.
-#[derive(Debug, Drop)]
+#[derive(Drop)]
 pub struct Spot {
     pub component: Str,
     /// The name of the port or of the output.
@@ -21,7 +21,7 @@ pub struct Spot {
 }
 
 /// A stream that comes from outside.
-#[derive(Debug, Drop)]
+#[derive(Drop)]
 pub struct SourceEntry {
     pub name: Str,
     pub columns: Items<Str>,
@@ -34,7 +34,7 @@ pub struct SourceEntry {
 }
 
 /// What a column of a source may hold.
-#[derive(Clone, Copy, Debug, PartialEq, Eq)]
+#[derive(Clone, Copy, PartialEq, Eq)]
 pub enum ColumnType {
     Int,
     Text,
@@ -43,7 +43,7 @@ pub enum ColumnType {
 }
 
 /// A component.
-#[derive(Debug, Drop)]
+#[derive(Drop)]
 pub struct ComponentEntry {
     pub name: Str,
     pub body: Body,
@@ -61,7 +61,7 @@ pub struct ComponentEntry {
 }
 
 /// What a component runs.
-#[derive(Debug, Drop)]
+#[derive(Drop)]
 pub enum Body {
     /// The module in the file of this name.
     Module(Str),
@@ -71,7 +71,7 @@ pub enum Body {
 }
 
 /// A body that needs no module.
-#[derive(Debug, Drop)]
+#[derive(Drop)]
 pub enum Stock {
     /// Gives a row for each word of the text in one column.
     Split {
@@ -91,14 +91,14 @@ pub enum Stock {
 }
 
 /// A port or an output with its columns.
-#[derive(Debug, Drop)]
+#[derive(Drop)]
 pub struct Side {
     pub name: Str,
     pub columns: Items<Str>,
 }
 
 /// A declared note of the path from a port to an output.
-#[derive(Debug, Drop)]
+#[derive(Drop)]
 pub struct Declared {
     /// The port.
     pub from: Str,
@@ -111,7 +111,7 @@ pub struct Declared {
 
 /// A note without its gate: C for confluent, O for order-sensitive, R where state is left alone,
 /// W where it is changed.
-#[derive(Clone, Copy, Debug, PartialEq, Eq)]
+#[derive(Clone, Copy, PartialEq, Eq)]
 pub enum NoteName {
     CR,
     CW,
@@ -120,7 +120,7 @@ pub enum NoteName {
 }
 
 /// A mode without its key.
-#[derive(Clone, Copy, Debug, PartialEq, Eq)]
+#[derive(Clone, Copy, PartialEq, Eq)]
 pub enum ModeName {
     Free,
     Pass,
@@ -129,7 +129,7 @@ pub enum ModeName {
 }
 
 /// A stream from an output to ports.
-#[derive(Debug, Drop)]
+#[derive(Drop)]
 pub struct StreamEntry {
     pub name: Str,
     /// The output from which it comes.
@@ -140,7 +140,7 @@ pub struct StreamEntry {
 
 /// A dependency: rows with equal values in all of `from` have equal values in all of `to`, and the
 /// other way round.
-#[derive(Debug, Drop)]
+#[derive(Drop)]
 pub struct FdEntry {
     pub from: Items<Str>,
     pub to: Items<Str>,

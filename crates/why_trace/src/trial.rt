@@ -27,7 +27,7 @@ fn opened<'a>(
 ) -> Result<Net<'a>, AllocError>
     requires data { IsData valid.now.view given }
     requires opens { fault_of_opening valid.now.view (λ k. k) (map (λ b. kind b) bench.old.items) ≡ None }
-    ensures stands { IfOk result (λ net. Stands valid.now.view given [] (map (λ b. loaded b) net.shells.items) (map (λ b. kept b) net.shells.items) net.books) }
+    ensures stands { IfOk result (λ net. Stands valid.now.view given [] (map (λ b. program b) net.shells.items) (map (λ b. kept b) net.shells.items) net.books) }
     ensures valid { IfOk result (λ net. net.valid.now ≡ valid.now) }
     ensures kinds { IfOk result (λ net. IsPermutation (map (λ b. kind b) bench.old.items) (map (λ b. kind b) bench.new.items ++ map (λ b. kind b) net.shells.items)) }
 {

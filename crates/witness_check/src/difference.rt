@@ -15,7 +15,7 @@ use std::alloc::AllocError;
 use std::cmp::Ordering;
 
 /// One of two executions.
-#[derive(Debug, Drop)]
+#[derive(Drop)]
 pub enum Which {
     /// The first.
     First,
@@ -24,7 +24,7 @@ pub enum Which {
 }
 
 /// A record that exactly one of two executions has in the contents of a sending replica of a stream.
-#[derive(Debug, Drop)]
+#[derive(Drop)]
 pub struct Difference {
     /// The number of the stream.
     pub stream: u32,

@@ -12,7 +12,7 @@ use std::marker::Model;
 use topo_types::Valid;
 
 /// The contents of each sending replica of one stream, in order.
-#[derive(Debug, Drop)]
+#[derive(Drop)]
 pub(crate) struct StreamContents {
     replicas: Items<RecordSet>,
 }
@@ -38,7 +38,7 @@ impl StreamContents {
 }
 
 /// The contents of each sending replica of each stream, in order.
-#[derive(Debug, Drop)]
+#[derive(Drop)]
 pub struct Snapshot {
     streams: Items<StreamContents>,
 }

@@ -11,7 +11,7 @@ use std::alloc::{AllocError, Global};
 
 // Whether a loaded shell of Latest keeps the second put of the word `a` alone.
 fn keeps_second_put(alloc: Global, shell: &LatestShell) -> Result<bool, AllocError>
-    requires { IsSome (⟦<LatestShell as Component>⟧.loaded shell.now) }
+    requires { IsSome (⟦<LatestShell as Component>⟧.program shell.now) }
 {
     let mut rows = RecordSet::new(alloc);
     shell.kept_rows(0, &mut rows)?;
@@ -35,7 +35,7 @@ impl TellingShell {
     /// One that isn't loaded.
     pub fn new(alloc: Global) -> TellingShell
         ensures kind { ⟦<TellingShell as Component>⟧.kind result ≡ LatestKind }
-        ensures loaded { ⟦<TellingShell as Component>⟧.loaded result ≡ None }
+        ensures loaded { ⟦<TellingShell as Component>⟧.program result ≡ None }
         ensures kept { ⟦<TellingShell as Component>⟧.kept result ≡ [] }
     {
         TellingShell {
@@ -49,7 +49,7 @@ impl TellingShell {
 impl Component for TellingShell {
     ghost kind = { λ shell. ⟦<LatestShell as Component>⟧.kind shell.inner };
 
-    ghost loaded = { λ shell. ⟦<LatestShell as Component>⟧.loaded shell.inner };
+    ghost program = { λ shell. ⟦<LatestShell as Component>⟧.program shell.inner };
 
     ghost kept = { λ shell. ⟦<LatestShell as Component>⟧.kept shell.inner };
 
@@ -90,7 +90,7 @@ impl<C: Component> PoorShell<C> {
     /// One as this one, loaded or not.
     pub fn new(inner: C) -> PoorShell<C>
         ensures kind { ⟦<PoorShell<C> as Component>⟧.kind result ≡ C.kind inner }
-        ensures loaded { ⟦<PoorShell<C> as Component>⟧.loaded result ≡ C.loaded inner }
+        ensures loaded { ⟦<PoorShell<C> as Component>⟧.program result ≡ C.program inner }
         ensures kept { ⟦<PoorShell<C> as Component>⟧.kept result ≡ C.kept inner }
     {
         PoorShell { inner }
@@ -100,7 +100,7 @@ impl<C: Component> PoorShell<C> {
 impl<C: Component> Component for PoorShell<C> {
     ghost kind = { λ shell. C.kind shell.inner };
 
-    ghost loaded = { λ shell. C.loaded shell.inner };
+    ghost program = { λ shell. C.program shell.inner };
 
     ghost kept = { λ shell. C.kept shell.inner };
 

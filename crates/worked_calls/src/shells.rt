@@ -127,13 +127,13 @@ fn program_of(alloc: Global, text: &[u8]) -> Result<Program>
 pub(crate) fn stepped(
     alloc: Global,
     shell: &mut Box<dyn Component>,
-    program: &Program,
+    given: &Program,
     now: &Arrivals,
 ) -> Result<Outs>
-    requires loaded { loaded shell.old ≡ Some program.now }
-    requires wide { AreSetsOf (port_columns program.now) now.now }
-    ensures loaded { loaded shell.new ≡ Some program.now }
-    ensures kept { IfOk result (λ _. length (kept shell.new) ≡ length (table_columns program.now)) }
+    requires loaded { program shell.old ≡ Some given.now }
+    requires wide { AreSetsOf (port_columns given.now) now.now }
+    ensures loaded { program shell.new ≡ Some given.now }
+    ensures kept { IfOk result (λ _. length (kept shell.new) ≡ length (table_columns given.now)) }
 {
     let mut outs = Outs::from_sets(Vec::new(alloc));
     shell.step(now, &mut outs)?;
@@ -144,11 +144,11 @@ pub(crate) fn stepped(
 fn kept_and_cleared(
     alloc: Global,
     shell: &mut Box<dyn Component>,
-    program: &Program,
+    given: &Program,
     shown: &mut Vec<u8>,
 ) -> Result<()>
-    requires loaded { loaded shell.old ≡ Some program.now }
-    requires table { length (table_columns program.now) ≡ 1 }
+    requires loaded { program shell.old ≡ Some given.now }
+    requires table { length (table_columns given.now) ≡ 1 }
     requires kept { length (kept shell.old) ≡ 1 }
 {
     show_kept(alloc, shell, shown)?;
@@ -158,7 +158,7 @@ fn kept_and_cleared(
 
 // Adds a line with the first table of a loaded shell.
 fn show_kept(alloc: Global, shell: &Box<dyn Component>, shown: &mut Vec<u8>) -> Result<()>
-    requires loaded { IsSome (loaded shell.now) }
+    requires loaded { IsSome (program shell.now) }
     requires table { 0 < length (kept shell.now) }
 {
     let mut rows = RecordSet::new(alloc);

@@ -142,64 +142,64 @@ fn ten_rounds(
 // Five rounds with numbers from this one on.
 fn five_rounds(
     alloc: Global,
-    program: &Program,
+    given: &Program,
     indexed: &mut Box<dyn Component>,
     plain: &mut Box<dyn Component>,
     first: u8,
 ) -> Result<()>
-    requires stock { IsStock program.now }
-    requires tables { length (table_columns program.now) ≡ 2 }
-    requires indexed { loaded indexed.old ≡ Some program.now }
-    requires plain { loaded plain.old ≡ Some program.now }
+    requires stock { IsStock given.now }
+    requires tables { length (table_columns given.now) ≡ 2 }
+    requires indexed { program indexed.old ≡ Some given.now }
+    requires plain { program plain.old ≡ Some given.now }
     requires few { first ≤ 5 }
-    ensures indexed { loaded indexed.new ≡ Some program.now }
-    ensures plain { loaded plain.new ≡ Some program.now }
+    ensures indexed { program indexed.new ≡ Some given.now }
+    ensures plain { program plain.new ≡ Some given.now }
 {
-    round(alloc, program, indexed, plain, first)?;
-    round(alloc, program, indexed, plain, first + 1)?;
-    round(alloc, program, indexed, plain, first + 2)?;
-    round(alloc, program, indexed, plain, first + 3)?;
-    round(alloc, program, indexed, plain, first + 4)
+    round(alloc, given, indexed, plain, first)?;
+    round(alloc, given, indexed, plain, first + 1)?;
+    round(alloc, given, indexed, plain, first + 2)?;
+    round(alloc, given, indexed, plain, first + 3)?;
+    round(alloc, given, indexed, plain, first + 4)
 }
 
 // A record comes to the first port, and then an equal one to the second, which it meets there.
 fn round(
     alloc: Global,
-    program: &Program,
+    given: &Program,
     indexed: &mut Box<dyn Component>,
     plain: &mut Box<dyn Component>,
     number: u8,
 ) -> Result<()>
-    requires stock { IsStock program.now }
-    requires tables { length (table_columns program.now) ≡ 2 }
-    requires indexed { loaded indexed.old ≡ Some program.now }
-    requires plain { loaded plain.old ≡ Some program.now }
-    ensures indexed { loaded indexed.new ≡ Some program.now }
-    ensures plain { loaded plain.new ≡ Some program.now }
+    requires stock { IsStock given.now }
+    requires tables { length (table_columns given.now) ≡ 2 }
+    requires indexed { program indexed.old ≡ Some given.now }
+    requires plain { program plain.old ≡ Some given.now }
+    ensures indexed { program indexed.new ≡ Some given.now }
+    ensures plain { program plain.new ≡ Some given.now }
 {
-    same_step(alloc, program, indexed, plain, true, number)?;
-    same_step(alloc, program, indexed, plain, false, number)
+    same_step(alloc, given, indexed, plain, true, number)?;
+    same_step(alloc, given, indexed, plain, false, number)
 }
 
 fn same_step(
     alloc: Global,
-    program: &Program,
+    given: &Program,
     indexed: &mut Box<dyn Component>,
     plain: &mut Box<dyn Component>,
     is_left: bool,
     number: u8,
 ) -> Result<()>
-    requires stock { IsStock program.now }
-    requires tables { length (table_columns program.now) ≡ 2 }
-    requires indexed { loaded indexed.old ≡ Some program.now }
-    requires plain { loaded plain.old ≡ Some program.now }
-    ensures indexed { loaded indexed.new ≡ Some program.now }
-    ensures plain { loaded plain.new ≡ Some program.now }
+    requires stock { IsStock given.now }
+    requires tables { length (table_columns given.now) ≡ 2 }
+    requires indexed { program indexed.old ≡ Some given.now }
+    requires plain { program plain.old ≡ Some given.now }
+    ensures indexed { program indexed.new ≡ Some given.now }
+    ensures plain { program plain.new ≡ Some given.now }
 {
     let row = pair(alloc, Value::Int((number % 3) as i64), number as i64)?;
-    let now = arrival(alloc, program, is_left, row)?;
-    let own = state_after(alloc, indexed, program, &now)?;
-    let other = state_after(alloc, plain, program, &now)?;
+    let now = arrival(alloc, given, is_left, row)?;
+    let own = state_after(alloc, indexed, given, &now)?;
+    let other = state_after(alloc, plain, given, &now)?;
     ensure!(
         own.as_slice() == other.as_slice(),
         "the shells differ in round {number}"
@@ -211,16 +211,16 @@ fn same_step(
 fn state_after(
     alloc: Global,
     shell: &mut Box<dyn Component>,
-    program: &Program,
+    given: &Program,
     now: &Arrivals,
 ) -> Result<Vec<u8>>
-    requires loaded { loaded shell.old ≡ Some program.now }
-    requires wide { AreSetsOf (port_columns program.now) now.now }
-    requires tables { length (table_columns program.now) ≡ 2 }
-    ensures loaded { loaded shell.new ≡ Some program.now }
+    requires loaded { program shell.old ≡ Some given.now }
+    requires wide { AreSetsOf (port_columns given.now) now.now }
+    requires tables { length (table_columns given.now) ≡ 2 }
+    ensures loaded { program shell.new ≡ Some given.now }
 {
     let mut state = Vec::new(alloc);
-    let outs = stepped(alloc, shell, program, now)?;
+    let outs = stepped(alloc, shell, given, now)?;
     show_sets("puts out", outs.sets(), &mut state)?;
     let mut rows = RecordSet::new(alloc);
     shell.kept_rows(0, &mut rows)?;

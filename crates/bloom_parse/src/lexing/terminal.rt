@@ -2,7 +2,7 @@
 use blz_value::{Op, Str};
 
 /// A mark that doesn't compare.
-#[derive(Clone, Copy, Debug, PartialEq, Eq)]
+#[derive(Clone, Copy, PartialEq, Eq)]
 pub enum Mark {
     /// `;`
     Semicolon,
@@ -19,7 +19,7 @@ pub enum Mark {
 }
 
 /// A reserved word.
-#[derive(Clone, Copy, Debug, PartialEq, Eq)]
+#[derive(Clone, Copy, PartialEq, Eq)]
 pub enum Word {
     Module,
     Input,
@@ -43,7 +43,7 @@ pub enum Word {
 }
 
 /// A token as the grammar sees it, the end of the text, or a bad token.
-#[derive(Debug, Drop)]
+#[derive(Drop)]
 pub enum Terminal {
     /// A name that is no reserved word.
     Name(Str),

@@ -18,7 +18,7 @@ returns-in-Ok g c =
     (source (g.F.Files.held c.reply_to.new.files) (g.F.Files.steady c.reply_to.new.files) (g.F.Files.faults c.reply_to.new.files)) in
     let sink = sink_states (g.K.Sink.written c.args.out.now) (g.K.Sink.written c.say.new.out) (g.K.Sink.room c.args.out.now) (g.K.Sink.room c.say.new.out)
     (g.K.Sink.faults c.args.out.now) (g.K.Sink.faults c.say.new.out) in
-    let bench = bench_states (map (λ b. (goal.Component-dyn g (b.vtable, b.value)).kind b.value) c.args.bench.now.items) (map (λ b. (goal.Component-dyn g (b.vtable, b.value)).kind b.value) c.reply_to.new.bench.items) (map (λ b. (goal.Component-dyn g (b.vtable, b.value)).loaded b.value) c.reply_to.new.bench.items) (map (λ b. (goal.Component-dyn g (b.vtable, b.value)).kept b.value) c.reply_to.new.bench.items) in
+    let bench = bench_states (map (λ b. (goal.Component-dyn g (b.vtable, b.value)).kind b.value) c.args.bench.now.items) (map (λ b. (goal.Component-dyn g (b.vtable, b.value)).kind b.value) c.reply_to.new.bench.items) (map (λ b. (goal.Component-dyn g (b.vtable, b.value)).program b.value) c.reply_to.new.bench.items) (map (λ b. (goal.Component-dyn g (b.vtable, b.value)).kept b.value) c.reply_to.new.bench.items) in
     let answer = answer_of c.in-Ok.reply in
     let result = c.say.result in
     let reply = c.in-Ok.ensures.reply in

@@ -13,7 +13,7 @@ use Rattle.blazes_commands.proofs.making.made_over.Goals as goal
 pub make_numbered-made-requires : goal.make_numbered-made-requires
 make_numbered-made-requires g c =
     let net = c.in_ok-net.net in
-    runs_first c.args.valid.now.view net.valid.now.view c.args.given (map (λ b. (goal.Component-dyn g (b.vtable, b.value)).loaded b.value) net.shells.items) (map (λ b. (goal.Component-dyn g (b.vtable, b.value)).kept b.value) net.shells.items) net.books
+    runs_first c.args.valid.now.view net.valid.now.view c.args.given (map (λ b. (goal.Component-dyn g (b.vtable, b.value)).program b.value) net.shells.items) (map (λ b. (goal.Component-dyn g (b.vtable, b.value)).kept b.value) net.shells.items) net.books
     (ap (λ (t : Validated). t.view) c.in_ok-net.ensures.valid) c.in_ok-net.ensures.stands
 
 pub outcome_of-outcome-requires : goal.outcome_of-outcome-requires
@@ -21,7 +21,7 @@ outcome_of-outcome-requires g c =
     let net = c.in_ok-net.net in
     let after = c.make_numbered-made.new.net in
     record {
-      runs = runs_made c.args.valid.now.view c.args.given c.args.seed (map (λ b. (goal.Component-dyn g (b.vtable, b.value)).loaded b.value) net.shells.items) (map (λ b. (goal.Component-dyn g (b.vtable, b.value)).kept b.value) net.shells.items) (map (λ b. (goal.Component-dyn g (b.vtable, b.value)).kept b.value) after.shells.items) net.books after.books
+      runs = runs_made c.args.valid.now.view c.args.given c.args.seed (map (λ b. (goal.Component-dyn g (b.vtable, b.value)).program b.value) net.shells.items) (map (λ b. (goal.Component-dyn g (b.vtable, b.value)).kept b.value) net.shells.items) (map (λ b. (goal.Component-dyn g (b.vtable, b.value)).kept b.value) after.shells.items) net.books after.books
           net.valid.now.view after.valid.now.view c.make_numbered-made.result (ap (λ (t : Validated). t.view) c.in_ok-net.ensures.valid) (ap (λ valid. valid.now.view) c.make_numbered-made.ensures.valid) c.in_ok-net.ensures.stands c.make_numbered-made.ensures.leaves;
       written = written_on net.valid.now.view after.valid.now.view c.make_numbered-made.result (ap (λ valid. valid.now.view) c.make_numbered-made.ensures.valid) c.make_numbered-made.ensures.written;
     }
@@ -29,7 +29,7 @@ outcome_of-outcome-requires g c =
 pub returns-in_err-net : goal.returns-in_err-net
 returns-in_err-net g c =
     let v = c.args.valid.now.view in
-    let bench = bench_states (map (λ b. (goal.Component-dyn g (b.vtable, b.value)).kind b.value) c.args.bench.now.items) (map (λ b. (goal.Component-dyn g (b.vtable, b.value)).kind b.value) c.opened.new.bench.items) (map (λ b. (goal.Component-dyn g (b.vtable, b.value)).loaded b.value) c.opened.new.bench.items) (map (λ b. (goal.Component-dyn g (b.vtable, b.value)).kept b.value) c.opened.new.bench.items) in
+    let bench = bench_states (map (λ b. (goal.Component-dyn g (b.vtable, b.value)).kind b.value) c.args.bench.now.items) (map (λ b. (goal.Component-dyn g (b.vtable, b.value)).kind b.value) c.opened.new.bench.items) (map (λ b. (goal.Component-dyn g (b.vtable, b.value)).program b.value) c.opened.new.bench.items) (map (λ b. (goal.Component-dyn g (b.vtable, b.value)).kept b.value) c.opened.new.bench.items) in
     record {
       replies = λ s. opening_stops Says v bench (check.making v c.args.given c.args.seed >>= λ events. Script.gives (Work.made v c.args.given events)) c.from_residual.result s c.in_err-net.field-0.0
           c.from_residual.ensures.1 c.in_err-net.ensures.gives;
@@ -41,9 +41,9 @@ returns g c =
     let net = c.in_ok-net.net in
     let after = c.make_numbered-made.new.net in
     let all = c.close.new.bench.items in
-    let bench = bench_states (map (λ b. (goal.Component-dyn g (b.vtable, b.value)).kind b.value) c.args.bench.now.items) (map (λ b. (goal.Component-dyn g (b.vtable, b.value)).kind b.value) all) (map (λ b. (goal.Component-dyn g (b.vtable, b.value)).loaded b.value) all) (map (λ b. (goal.Component-dyn g (b.vtable, b.value)).kept b.value) all) in
+    let bench = bench_states (map (λ b. (goal.Component-dyn g (b.vtable, b.value)).kind b.value) c.args.bench.now.items) (map (λ b. (goal.Component-dyn g (b.vtable, b.value)).kind b.value) all) (map (λ b. (goal.Component-dyn g (b.vtable, b.value)).program b.value) all) (map (λ b. (goal.Component-dyn g (b.vtable, b.value)).kept b.value) all) in
     record {
-      replies = λ s. make_replies c.args.valid.now.view c.args.given c.args.seed (map (λ b. (goal.Component-dyn g (b.vtable, b.value)).loaded b.value) net.shells.items) (map (λ b. (goal.Component-dyn g (b.vtable, b.value)).kept b.value) net.shells.items) (map (λ b. (goal.Component-dyn g (b.vtable, b.value)).kept b.value) after.shells.items) net.books after.books
+      replies = λ s. make_replies c.args.valid.now.view c.args.given c.args.seed (map (λ b. (goal.Component-dyn g (b.vtable, b.value)).program b.value) net.shells.items) (map (λ b. (goal.Component-dyn g (b.vtable, b.value)).kept b.value) net.shells.items) (map (λ b. (goal.Component-dyn g (b.vtable, b.value)).kept b.value) after.shells.items) net.books after.books
           bench s net.valid.now.view after.valid.now.view c.make_numbered-made.result c.outcome_of-outcome.result c.in_ok-net.ensures.gives (ap (λ (t : Validated). t.view) c.in_ok-net.ensures.valid) (ap (λ valid. valid.now.view) c.make_numbered-made.ensures.valid) c.in_ok-net.ensures.stands
           c.make_numbered-made.ensures.made c.make_numbered-made.ensures.leaves c.outcome_of-outcome.ensures;
       kinds = kept_anyway bench c.outcome_of-outcome.result

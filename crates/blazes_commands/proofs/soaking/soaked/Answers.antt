@@ -12,7 +12,7 @@ soaked_over-requires g c = record { fits = c.in_ok-given.ensures.fits; coordinat
 
 pub returns-in_err-given : goal.returns-in_err-given
 returns-in_err-given g c =
-    let bench = bench_states (map (λ b. (goal.Component-dyn g (b.vtable, b.value)).kind b.value) c.args.bench.now.items) (map (λ b. (goal.Component-dyn g (b.vtable, b.value)).kind b.value) c.args.bench.now.items) (map (λ b. (goal.Component-dyn g (b.vtable, b.value)).loaded b.value) c.args.bench.now.items) (map (λ b. (goal.Component-dyn g (b.vtable, b.value)).kept b.value) c.args.bench.now.items) in
+    let bench = bench_states (map (λ b. (goal.Component-dyn g (b.vtable, b.value)).kind b.value) c.args.bench.now.items) (map (λ b. (goal.Component-dyn g (b.vtable, b.value)).kind b.value) c.args.bench.now.items) (map (λ b. (goal.Component-dyn g (b.vtable, b.value)).program b.value) c.args.bench.now.items) (map (λ b. (goal.Component-dyn g (b.vtable, b.value)).kept b.value) c.args.bench.now.items) in
     record {
       replies = tweets_stop bench (soak_shown c.args.words) c.from_residual.result c.args.valid.now.view (λ (given : Data). given) c.in_err-given.field-0.0 c.from_residual.ensures.1 c.in_err-given.ensures.gives;
       kinds = kept_anyway bench c.from_residual.result (IsPermutation-refl bench.kinds);
@@ -20,7 +20,7 @@ returns-in_err-given g c =
 
 pub returns : goal.returns
 returns g c =
-    let bench = bench_states (map (λ b. (goal.Component-dyn g (b.vtable, b.value)).kind b.value) c.args.bench.now.items) (map (λ b. (goal.Component-dyn g (b.vtable, b.value)).kind b.value) c.soaked_over.new.bench.items) (map (λ b. (goal.Component-dyn g (b.vtable, b.value)).loaded b.value) c.soaked_over.new.bench.items) (map (λ b. (goal.Component-dyn g (b.vtable, b.value)).kept b.value) c.soaked_over.new.bench.items) in
+    let bench = bench_states (map (λ b. (goal.Component-dyn g (b.vtable, b.value)).kind b.value) c.args.bench.now.items) (map (λ b. (goal.Component-dyn g (b.vtable, b.value)).kind b.value) c.soaked_over.new.bench.items) (map (λ b. (goal.Component-dyn g (b.vtable, b.value)).program b.value) c.soaked_over.new.bench.items) (map (λ b. (goal.Component-dyn g (b.vtable, b.value)).kept b.value) c.soaked_over.new.bench.items) in
     record {
       replies = tweets_then bench (soak_shown c.args.words) c.soaked_over.result c.args.valid.now.view c.in_ok-given.given c.in_ok-given.ensures.gives c.soaked_over.ensures.replies;
       kinds = c.soaked_over.ensures.kinds;

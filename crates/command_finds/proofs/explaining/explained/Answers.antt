@@ -38,7 +38,7 @@ returns-in_err-wanted g c =
     let v = c.args.valid.now.view in
     let given = c.args.given.now in
     let words = why_shown c.args.words.now in
-    let bench = bench_states (map (λ b. (goal.Component-dyn g (b.vtable, b.value)).kind b.value) c.args.bench.now.items) (map (λ b. (goal.Component-dyn g (b.vtable, b.value)).kind b.value) c.wanted_after.new.bench.items) (map (λ b. (goal.Component-dyn g (b.vtable, b.value)).loaded b.value) c.wanted_after.new.bench.items) (map (λ b. (goal.Component-dyn g (b.vtable, b.value)).kept b.value) c.wanted_after.new.bench.items) in
+    let bench = bench_states (map (λ b. (goal.Component-dyn g (b.vtable, b.value)).kind b.value) c.args.bench.now.items) (map (λ b. (goal.Component-dyn g (b.vtable, b.value)).kind b.value) c.wanted_after.new.bench.items) (map (λ b. (goal.Component-dyn g (b.vtable, b.value)).program b.value) c.wanted_after.new.bench.items) (map (λ b. (goal.Component-dyn g (b.vtable, b.value)).kept b.value) c.wanted_after.new.bench.items) in
     let result = c.from_residual-in_err-wanted.result in
     let stop = c.in_err-wanted.field-0.0 in
     let is = c.from_residual-in_err-wanted.ensures.1 in
@@ -52,7 +52,7 @@ returns-in_err-wanted g c =
 
 pub returns-in_err-reasons : goal.returns-in_err-reasons
 returns-in_err-reasons g c =
-    let bench = bench_states (map (λ b. (goal.Component-dyn g (b.vtable, b.value)).kind b.value) c.args.bench.now.items) (map (λ b. (goal.Component-dyn g (b.vtable, b.value)).kind b.value) c.reasons.new.bench.items) (map (λ b. (goal.Component-dyn g (b.vtable, b.value)).loaded b.value) c.reasons.new.bench.items) (map (λ b. (goal.Component-dyn g (b.vtable, b.value)).kept b.value) c.reasons.new.bench.items) in
+    let bench = bench_states (map (λ b. (goal.Component-dyn g (b.vtable, b.value)).kind b.value) c.args.bench.now.items) (map (λ b. (goal.Component-dyn g (b.vtable, b.value)).kind b.value) c.reasons.new.bench.items) (map (λ b. (goal.Component-dyn g (b.vtable, b.value)).program b.value) c.reasons.new.bench.items) (map (λ b. (goal.Component-dyn g (b.vtable, b.value)).kept b.value) c.reasons.new.bench.items) in
     let result = c.from_residual-in_err-reasons.result in
     record {
       replies = lost_replies SaysReasons bench (finding bench.kinds c.args.valid.now.view c.args.given.now c.args.schedule.now (why_shown c.args.words.now)) result c.from_residual-in_err-reasons.ensures.1;
@@ -64,7 +64,7 @@ returns g c =
     let v = c.args.valid.now.view in
     let given = c.args.given.now in
     let words = why_shown c.args.words.now in
-    let bench = bench_states (map (λ b. (goal.Component-dyn g (b.vtable, b.value)).kind b.value) c.args.bench.now.items) (map (λ b. (goal.Component-dyn g (b.vtable, b.value)).kind b.value) c.reasons.new.bench.items) (map (λ b. (goal.Component-dyn g (b.vtable, b.value)).loaded b.value) c.reasons.new.bench.items) (map (λ b. (goal.Component-dyn g (b.vtable, b.value)).kept b.value) c.reasons.new.bench.items) in
+    let bench = bench_states (map (λ b. (goal.Component-dyn g (b.vtable, b.value)).kind b.value) c.args.bench.now.items) (map (λ b. (goal.Component-dyn g (b.vtable, b.value)).kind b.value) c.reasons.new.bench.items) (map (λ b. (goal.Component-dyn g (b.vtable, b.value)).program b.value) c.reasons.new.bench.items) (map (λ b. (goal.Component-dyn g (b.vtable, b.value)).kept b.value) c.reasons.new.bench.items) in
     let found : Result Wanted Stop = Ok c.in_ok-wanted.wanted in
     let reply = c.in_ok-reasons.field-0 in
     let result : Result Reply Stop = Ok reply in

@@ -19,7 +19,7 @@ explained-requires g c =
 pub returns-in_err-schedule : goal.returns-in_err-schedule
 returns-in_err-schedule g c =
     let asked = why_shown c.args.words.now in
-    let bench = bench_states (map (λ b. (goal.Component-dyn g (b.vtable, b.value)).kind b.value) c.args.bench.now.items) (map (λ b. (goal.Component-dyn g (b.vtable, b.value)).kind b.value) c.args.bench.now.items) (map (λ b. (goal.Component-dyn g (b.vtable, b.value)).loaded b.value) c.args.bench.now.items) (map (λ b. (goal.Component-dyn g (b.vtable, b.value)).kept b.value) c.args.bench.now.items) in
+    let bench = bench_states (map (λ b. (goal.Component-dyn g (b.vtable, b.value)).kind b.value) c.args.bench.now.items) (map (λ b. (goal.Component-dyn g (b.vtable, b.value)).kind b.value) c.args.bench.now.items) (map (λ b. (goal.Component-dyn g (b.vtable, b.value)).program b.value) c.args.bench.now.items) (map (λ b. (goal.Component-dyn g (b.vtable, b.value)).kept b.value) c.args.bench.now.items) in
     let a = source (g.F.Files.held c.args.files.now) (g.F.Files.steady c.args.files.now) (g.F.Files.faults c.args.files.now) in
     let b = source (g.F.Files.held c.few_events_file.new.files) (g.F.Files.steady c.few_events_file.new.files) (g.F.Files.faults c.few_events_file.new.files) in
     record {
@@ -30,7 +30,7 @@ returns-in_err-schedule g c =
 pub returns : goal.returns
 returns g c =
     let asked = why_shown c.args.words.now in
-    let bench = bench_states (map (λ b. (goal.Component-dyn g (b.vtable, b.value)).kind b.value) c.args.bench.now.items) (map (λ b. (goal.Component-dyn g (b.vtable, b.value)).kind b.value) c.explained.new.bench.items) (map (λ b. (goal.Component-dyn g (b.vtable, b.value)).loaded b.value) c.explained.new.bench.items) (map (λ b. (goal.Component-dyn g (b.vtable, b.value)).kept b.value) c.explained.new.bench.items) in
+    let bench = bench_states (map (λ b. (goal.Component-dyn g (b.vtable, b.value)).kind b.value) c.args.bench.now.items) (map (λ b. (goal.Component-dyn g (b.vtable, b.value)).kind b.value) c.explained.new.bench.items) (map (λ b. (goal.Component-dyn g (b.vtable, b.value)).program b.value) c.explained.new.bench.items) (map (λ b. (goal.Component-dyn g (b.vtable, b.value)).kept b.value) c.explained.new.bench.items) in
     let a = source (g.F.Files.held c.args.files.now) (g.F.Files.steady c.args.files.now) (g.F.Files.faults c.args.files.now) in
     let b = source (g.F.Files.held c.few_events_file.new.files) (g.F.Files.steady c.few_events_file.new.files) (g.F.Files.faults c.few_events_file.new.files) in
     record {

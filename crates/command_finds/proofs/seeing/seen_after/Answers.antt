@@ -11,7 +11,7 @@ pub run-applied-requires : goal.run-applied-requires
 run-applied-requires g c =
     let net = c.in_ok-net.net in
     record {
-      runs = new_runs c.args.valid.now.view net.valid.now.view c.args.given (map (λ b. (goal.Component-dyn g (b.vtable, b.value)).loaded b.value) net.shells.items) (map (λ b. (goal.Component-dyn g (b.vtable, b.value)).kept b.value) net.shells.items) net.books
+      runs = new_runs c.args.valid.now.view net.valid.now.view c.args.given (map (λ b. (goal.Component-dyn g (b.vtable, b.value)).program b.value) net.shells.items) (map (λ b. (goal.Component-dyn g (b.vtable, b.value)).kept b.value) net.shells.items) net.books
           (ap (λ (t : Validated). t.view) c.in_ok-net.ensures.valid) c.in_ok-net.ensures.stands;
     }
 
@@ -22,7 +22,7 @@ outcome_of-outcome-requires g c =
     let same = ap (λ (t : Validated). t.view) c.in_ok-net.ensures.valid in
     record {
       same = ap (λ valid. valid.now.view) c.run-applied.ensures.valid ∙ same;
-      runs = runs_after named.Event c.args.valid.now.view net.valid.now.view c.args.given c.args.lines.now (map (λ b. (goal.Component-dyn g (b.vtable, b.value)).loaded b.value) net.shells.items) (map (λ b. (goal.Component-dyn g (b.vtable, b.value)).kept b.value) net.shells.items) (map (λ b. (goal.Component-dyn g (b.vtable, b.value)).kept b.value) after.shells.items)
+      runs = runs_after named.Event c.args.valid.now.view net.valid.now.view c.args.given c.args.lines.now (map (λ b. (goal.Component-dyn g (b.vtable, b.value)).program b.value) net.shells.items) (map (λ b. (goal.Component-dyn g (b.vtable, b.value)).kept b.value) net.shells.items) (map (λ b. (goal.Component-dyn g (b.vtable, b.value)).kept b.value) after.shells.items)
           net.books after.books c.run-applied.result same c.in_ok-net.ensures.stands c.run-applied.ensures.applies;
     }
 
@@ -39,8 +39,8 @@ returns g c =
     let after = c.run-applied.new.net in
     let same = ap (λ (t : Validated). t.view) c.in_ok-net.ensures.valid in
     record {
-      sees = net_sees c.args.which.now (map (λ b. (goal.Component-dyn g (b.vtable, b.value)).kind b.value) c.args.bench.now.items) v c.args.given c.args.lines.now (map (λ b. (goal.Component-dyn g (b.vtable, b.value)).loaded b.value) net.shells.items) (map (λ b. (goal.Component-dyn g (b.vtable, b.value)).kept b.value) after.shells.items) after.books c.run-applied.result c.outcome_of-outcome.result c.in_ok-net.ensures.gives
-          (applied_first named.Event v net.valid.now.view c.args.given c.args.lines.now (map (λ b. (goal.Component-dyn g (b.vtable, b.value)).loaded b.value) net.shells.items) (map (λ b. (goal.Component-dyn g (b.vtable, b.value)).kept b.value) net.shells.items) (map (λ b. (goal.Component-dyn g (b.vtable, b.value)).kept b.value) after.shells.items) net.books after.books c.run-applied.result same c.in_ok-net.ensures.stands c.run-applied.ensures.applies)
+      sees = net_sees c.args.which.now (map (λ b. (goal.Component-dyn g (b.vtable, b.value)).kind b.value) c.args.bench.now.items) v c.args.given c.args.lines.now (map (λ b. (goal.Component-dyn g (b.vtable, b.value)).program b.value) net.shells.items) (map (λ b. (goal.Component-dyn g (b.vtable, b.value)).kept b.value) after.shells.items) after.books c.run-applied.result c.outcome_of-outcome.result c.in_ok-net.ensures.gives
+          (applied_first named.Event v net.valid.now.view c.args.given c.args.lines.now (map (λ b. (goal.Component-dyn g (b.vtable, b.value)).program b.value) net.shells.items) (map (λ b. (goal.Component-dyn g (b.vtable, b.value)).kept b.value) net.shells.items) (map (λ b. (goal.Component-dyn g (b.vtable, b.value)).kept b.value) after.shells.items) net.books after.books c.run-applied.result same c.in_ok-net.ensures.stands c.run-applied.ensures.applies)
           c.outcome_of-outcome.ensures;
       kinds = loses_none (map (λ b. (goal.Component-dyn g (b.vtable, b.value)).kind b.value) c.args.bench.now.items) (map (λ b. (goal.Component-dyn g (b.vtable, b.value)).kind b.value) c.close.new.bench.items) c.outcome_of-outcome.result
           (same_kinds (λ b. (goal.Component-dyn g (b.vtable, b.value)).kind b.value) (map (λ b. (goal.Component-dyn g (b.vtable, b.value)).kind b.value) c.args.bench.now.items) c.opened.new.bench.items net.shells.items after.shells.items c.close.new.bench.items c.in_ok-net.ensures.kinds c.run-applied.ensures.kinds c.in_ok-close.ensures.ok);

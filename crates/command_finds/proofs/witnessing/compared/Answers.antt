@@ -31,7 +31,7 @@ witness_text-requires g c =
 pub returns-in_err-one : goal.returns-in_err-one
 returns-in_err-one g c =
     let v = c.args.valid.now.view in
-    let bench = bench_states (map (λ b. (goal.Component-dyn g (b.vtable, b.value)).kind b.value) c.args.bench.now.items) (map (λ b. (goal.Component-dyn g (b.vtable, b.value)).kind b.value) c.seen_after.new.bench.items) (map (λ b. (goal.Component-dyn g (b.vtable, b.value)).loaded b.value) c.seen_after.new.bench.items) (map (λ b. (goal.Component-dyn g (b.vtable, b.value)).kept b.value) c.seen_after.new.bench.items) in
+    let bench = bench_states (map (λ b. (goal.Component-dyn g (b.vtable, b.value)).kind b.value) c.args.bench.now.items) (map (λ b. (goal.Component-dyn g (b.vtable, b.value)).kind b.value) c.seen_after.new.bench.items) (map (λ b. (goal.Component-dyn g (b.vtable, b.value)).program b.value) c.seen_after.new.bench.items) (map (λ b. (goal.Component-dyn g (b.vtable, b.value)).kept b.value) c.seen_after.new.bench.items) in
     let result = c.from_residual-in_err-one.result in
     let stop = c.in_err-one.field-0.0 in
     let is = c.from_residual-in_err-one.ensures.1 in
@@ -47,7 +47,7 @@ returns-in_err-other g c =
     let v = c.args.valid.now.view in
     let given = c.args.given in
     let one = c.in_ok-one.one in
-    let bench = bench_states (map (λ b. (goal.Component-dyn g (b.vtable, b.value)).kind b.value) c.args.bench.now.items) (map (λ b. (goal.Component-dyn g (b.vtable, b.value)).kind b.value) c.seen_after-2.new.bench.items) (map (λ b. (goal.Component-dyn g (b.vtable, b.value)).loaded b.value) c.seen_after-2.new.bench.items) (map (λ b. (goal.Component-dyn g (b.vtable, b.value)).kept b.value) c.seen_after-2.new.bench.items) in
+    let bench = bench_states (map (λ b. (goal.Component-dyn g (b.vtable, b.value)).kind b.value) c.args.bench.now.items) (map (λ b. (goal.Component-dyn g (b.vtable, b.value)).kind b.value) c.seen_after-2.new.bench.items) (map (λ b. (goal.Component-dyn g (b.vtable, b.value)).program b.value) c.seen_after-2.new.bench.items) (map (λ b. (goal.Component-dyn g (b.vtable, b.value)).kept b.value) c.seen_after-2.new.bench.items) in
     let middle = (map (λ b. (goal.Component-dyn g (b.vtable, b.value)).kind b.value) c.seen_after.new.bench.items) in
     let result = c.from_residual-in_err-other.result in
     let stop = c.in_err-other.field-0.0 in
@@ -61,7 +61,7 @@ returns-in_err-other g c =
 
 pub returns-in_err-witness_text : goal.returns-in_err-witness_text
 returns-in_err-witness_text g c =
-    let bench = bench_states (map (λ b. (goal.Component-dyn g (b.vtable, b.value)).kind b.value) c.args.bench.now.items) (map (λ b. (goal.Component-dyn g (b.vtable, b.value)).kind b.value) c.seen_after-2.new.bench.items) (map (λ b. (goal.Component-dyn g (b.vtable, b.value)).loaded b.value) c.seen_after-2.new.bench.items) (map (λ b. (goal.Component-dyn g (b.vtable, b.value)).kept b.value) c.seen_after-2.new.bench.items) in
+    let bench = bench_states (map (λ b. (goal.Component-dyn g (b.vtable, b.value)).kind b.value) c.args.bench.now.items) (map (λ b. (goal.Component-dyn g (b.vtable, b.value)).kind b.value) c.seen_after-2.new.bench.items) (map (λ b. (goal.Component-dyn g (b.vtable, b.value)).program b.value) c.seen_after-2.new.bench.items) (map (λ b. (goal.Component-dyn g (b.vtable, b.value)).kept b.value) c.seen_after-2.new.bench.items) in
     let result = c.from_residual-in_err-witness_text.result in
     record {
       replies = lost_replies SaysWitness bench (comparing bench.kinds c.args.valid.now.view c.args.given c.args.first.now c.args.second.now) result c.from_residual-in_err-witness_text.ensures.1;
@@ -74,7 +74,7 @@ returns g c =
     let given = c.args.given in
     let one = c.in_ok-one.one in
     let other = c.in_ok-other.other in
-    let bench = bench_states (map (λ b. (goal.Component-dyn g (b.vtable, b.value)).kind b.value) c.args.bench.now.items) (map (λ b. (goal.Component-dyn g (b.vtable, b.value)).kind b.value) c.seen_after-2.new.bench.items) (map (λ b. (goal.Component-dyn g (b.vtable, b.value)).loaded b.value) c.seen_after-2.new.bench.items) (map (λ b. (goal.Component-dyn g (b.vtable, b.value)).kept b.value) c.seen_after-2.new.bench.items) in
+    let bench = bench_states (map (λ b. (goal.Component-dyn g (b.vtable, b.value)).kind b.value) c.args.bench.now.items) (map (λ b. (goal.Component-dyn g (b.vtable, b.value)).kind b.value) c.seen_after-2.new.bench.items) (map (λ b. (goal.Component-dyn g (b.vtable, b.value)).program b.value) c.seen_after-2.new.bench.items) (map (λ b. (goal.Component-dyn g (b.vtable, b.value)).kept b.value) c.seen_after-2.new.bench.items) in
     let middle = (map (λ b. (goal.Component-dyn g (b.vtable, b.value)).kind b.value) c.seen_after.new.bench.items) in
     let result : Result Reply Stop = Ok c.done.result in
     let told : Bytes → Answer = λ text. record { status = Done; text = text } in

@@ -15,7 +15,7 @@ use Rattle.command_finds.proofs.witnessing.witness_files.Goals as goal
 pub returns-in_err-first : goal.returns-in_err-first
 returns-in_err-first g c =
     let names = witness_shown c.args.names in
-    let bench = bench_states (map (λ b. (goal.Component-dyn g (b.vtable, b.value)).kind b.value) c.args.bench.now.items) (map (λ b. (goal.Component-dyn g (b.vtable, b.value)).kind b.value) c.args.bench.now.items) (map (λ b. (goal.Component-dyn g (b.vtable, b.value)).loaded b.value) c.args.bench.now.items) (map (λ b. (goal.Component-dyn g (b.vtable, b.value)).kept b.value) c.args.bench.now.items) in
+    let bench = bench_states (map (λ b. (goal.Component-dyn g (b.vtable, b.value)).kind b.value) c.args.bench.now.items) (map (λ b. (goal.Component-dyn g (b.vtable, b.value)).kind b.value) c.args.bench.now.items) (map (λ b. (goal.Component-dyn g (b.vtable, b.value)).program b.value) c.args.bench.now.items) (map (λ b. (goal.Component-dyn g (b.vtable, b.value)).kept b.value) c.args.bench.now.items) in
     let a = source (g.F.Files.held c.args.files.now) (g.F.Files.steady c.args.files.now) (g.F.Files.faults c.args.files.now) in
     let b = source (g.F.Files.held c.schedule_file.new.files) (g.F.Files.steady c.schedule_file.new.files) (g.F.Files.faults c.schedule_file.new.files) in
     record {
@@ -26,7 +26,7 @@ returns-in_err-first g c =
 pub returns-in_err-second : goal.returns-in_err-second
 returns-in_err-second g c =
     let names = witness_shown c.args.names in
-    let bench = bench_states (map (λ b. (goal.Component-dyn g (b.vtable, b.value)).kind b.value) c.args.bench.now.items) (map (λ b. (goal.Component-dyn g (b.vtable, b.value)).kind b.value) c.args.bench.now.items) (map (λ b. (goal.Component-dyn g (b.vtable, b.value)).loaded b.value) c.args.bench.now.items) (map (λ b. (goal.Component-dyn g (b.vtable, b.value)).kept b.value) c.args.bench.now.items) in
+    let bench = bench_states (map (λ b. (goal.Component-dyn g (b.vtable, b.value)).kind b.value) c.args.bench.now.items) (map (λ b. (goal.Component-dyn g (b.vtable, b.value)).kind b.value) c.args.bench.now.items) (map (λ b. (goal.Component-dyn g (b.vtable, b.value)).program b.value) c.args.bench.now.items) (map (λ b. (goal.Component-dyn g (b.vtable, b.value)).kept b.value) c.args.bench.now.items) in
     let a = source (g.F.Files.held c.args.files.now) (g.F.Files.steady c.args.files.now) (g.F.Files.faults c.args.files.now) in
     let b = source (g.F.Files.held c.schedule_file.new.files) (g.F.Files.steady c.schedule_file.new.files) (g.F.Files.faults c.schedule_file.new.files) in
     let d = source (g.F.Files.held c.second_file.new.files) (g.F.Files.steady c.second_file.new.files) (g.F.Files.faults c.second_file.new.files) in
@@ -41,7 +41,7 @@ pub returns : goal.returns
 returns g c =
     let names = witness_shown c.args.names in
     let v = c.args.valid.now.view in
-    let bench = bench_states (map (λ b. (goal.Component-dyn g (b.vtable, b.value)).kind b.value) c.args.bench.now.items) (map (λ b. (goal.Component-dyn g (b.vtable, b.value)).kind b.value) c.compared.new.bench.items) (map (λ b. (goal.Component-dyn g (b.vtable, b.value)).loaded b.value) c.compared.new.bench.items) (map (λ b. (goal.Component-dyn g (b.vtable, b.value)).kept b.value) c.compared.new.bench.items) in
+    let bench = bench_states (map (λ b. (goal.Component-dyn g (b.vtable, b.value)).kind b.value) c.args.bench.now.items) (map (λ b. (goal.Component-dyn g (b.vtable, b.value)).kind b.value) c.compared.new.bench.items) (map (λ b. (goal.Component-dyn g (b.vtable, b.value)).program b.value) c.compared.new.bench.items) (map (λ b. (goal.Component-dyn g (b.vtable, b.value)).kept b.value) c.compared.new.bench.items) in
     let a = source (g.F.Files.held c.args.files.now) (g.F.Files.steady c.args.files.now) (g.F.Files.faults c.args.files.now) in
     let b = source (g.F.Files.held c.schedule_file.new.files) (g.F.Files.steady c.schedule_file.new.files) (g.F.Files.faults c.schedule_file.new.files) in
     let d = source (g.F.Files.held c.second_file.new.files) (g.F.Files.steady c.second_file.new.files) (g.F.Files.faults c.second_file.new.files) in

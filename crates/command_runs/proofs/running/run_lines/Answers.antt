@@ -16,7 +16,7 @@ pub run-applied-requires : goal.run-applied-requires
 run-applied-requires g c =
     let net = c.in_ok-net.net in
     record {
-      runs = new_runs c.args.valid.now.view net.valid.now.view c.args.given (map (λ b. (goal.Component-dyn g (b.vtable, b.value)).loaded b.value) net.shells.items) (map (λ b. (goal.Component-dyn g (b.vtable, b.value)).kept b.value) net.shells.items) net.books
+      runs = new_runs c.args.valid.now.view net.valid.now.view c.args.given (map (λ b. (goal.Component-dyn g (b.vtable, b.value)).program b.value) net.shells.items) (map (λ b. (goal.Component-dyn g (b.vtable, b.value)).kept b.value) net.shells.items) net.books
           (ap (λ (t : Validated). t.view) c.in_ok-net.ensures.valid) c.in_ok-net.ensures.stands;
     }
 
@@ -27,14 +27,14 @@ outcome_of-outcome-requires g c =
     let same = ap (λ (t : Validated). t.view) c.in_ok-net.ensures.valid in
     record {
       same = ap (λ valid. valid.now.view) c.run-applied.ensures.valid ∙ same;
-      runs = runs_after g.S.AsStep.step c.args.valid.now.view net.valid.now.view c.args.given c.args.lines.now (map (λ b. (goal.Component-dyn g (b.vtable, b.value)).loaded b.value) net.shells.items) (map (λ b. (goal.Component-dyn g (b.vtable, b.value)).kept b.value) net.shells.items) (map (λ b. (goal.Component-dyn g (b.vtable, b.value)).kept b.value) after.shells.items)
+      runs = runs_after g.S.AsStep.step c.args.valid.now.view net.valid.now.view c.args.given c.args.lines.now (map (λ b. (goal.Component-dyn g (b.vtable, b.value)).program b.value) net.shells.items) (map (λ b. (goal.Component-dyn g (b.vtable, b.value)).kept b.value) net.shells.items) (map (λ b. (goal.Component-dyn g (b.vtable, b.value)).kept b.value) after.shells.items)
           net.books after.books c.run-applied.result same c.in_ok-net.ensures.stands c.run-applied.ensures.applies;
     }
 
 pub returns-in_err-net : goal.returns-in_err-net
 returns-in_err-net g c =
     let v = c.args.valid.now.view in
-    let bench = bench_states (map (λ b. (goal.Component-dyn g (b.vtable, b.value)).kind b.value) c.args.bench.now.items) (map (λ b. (goal.Component-dyn g (b.vtable, b.value)).kind b.value) c.opened.new.bench.items) (map (λ b. (goal.Component-dyn g (b.vtable, b.value)).loaded b.value) c.opened.new.bench.items) (map (λ b. (goal.Component-dyn g (b.vtable, b.value)).kept b.value) c.opened.new.bench.items) in
+    let bench = bench_states (map (λ b. (goal.Component-dyn g (b.vtable, b.value)).kind b.value) c.args.bench.now.items) (map (λ b. (goal.Component-dyn g (b.vtable, b.value)).kind b.value) c.opened.new.bench.items) (map (λ b. (goal.Component-dyn g (b.vtable, b.value)).program b.value) c.opened.new.bench.items) (map (λ b. (goal.Component-dyn g (b.vtable, b.value)).kept b.value) c.opened.new.bench.items) in
     record {
       replies = λ s. opening_stops SaysRun v bench (check.checked (check.executed (after_lines g.S.AsStep.step c.args.valid.now.view c.args.given c.args.lines.now first_execution)) >>= λ x. Script.gives (run_work v c.args.given x)) c.from_residual.result s c.in_err-net.field-0.0
           c.from_residual.ensures.1 c.in_err-net.ensures.gives;
@@ -48,13 +48,13 @@ returns g c =
     let all = c.close.new.bench.items in
     let put = c.in_ok-close.ensures.ok in
     let same = ap (λ (t : Validated). t.view) c.in_ok-net.ensures.valid in
-    let bench = bench_states (map (λ b. (goal.Component-dyn g (b.vtable, b.value)).kind b.value) c.args.bench.now.items) (map (λ b. (goal.Component-dyn g (b.vtable, b.value)).kind b.value) all) (map (λ b. (goal.Component-dyn g (b.vtable, b.value)).loaded b.value) all) (map (λ b. (goal.Component-dyn g (b.vtable, b.value)).kept b.value) all) in
+    let bench = bench_states (map (λ b. (goal.Component-dyn g (b.vtable, b.value)).kind b.value) c.args.bench.now.items) (map (λ b. (goal.Component-dyn g (b.vtable, b.value)).kind b.value) all) (map (λ b. (goal.Component-dyn g (b.vtable, b.value)).program b.value) all) (map (λ b. (goal.Component-dyn g (b.vtable, b.value)).kept b.value) all) in
     record {
-      replies = bench_replies c.args.valid.now.view c.args.given (check.executed (after_lines g.S.AsStep.step c.args.valid.now.view c.args.given c.args.lines.now first_execution)) (λ b. (goal.Component-dyn g (b.vtable, b.value)).kind b.value) (λ b. (goal.Component-dyn g (b.vtable, b.value)).loaded b.value) (λ b. (goal.Component-dyn g (b.vtable, b.value)).kept b.value) c.args.bench.now.items c.opened.new.bench.items net.shells.items after.shells.items all put
+      replies = bench_replies c.args.valid.now.view c.args.given (check.executed (after_lines g.S.AsStep.step c.args.valid.now.view c.args.given c.args.lines.now first_execution)) (λ b. (goal.Component-dyn g (b.vtable, b.value)).kind b.value) (λ b. (goal.Component-dyn g (b.vtable, b.value)).program b.value) (λ b. (goal.Component-dyn g (b.vtable, b.value)).kept b.value) c.args.bench.now.items c.opened.new.bench.items net.shells.items after.shells.items all put
           after.books c.run-applied.result c.outcome_of-outcome.result c.in_ok-net.ensures.gives c.run-applied.ensures.loaded
-          (lines_applied g.S.AsStep.step c.args.valid.now.view net.valid.now.view c.args.given c.args.lines.now (map (λ b. (goal.Component-dyn g (b.vtable, b.value)).loaded b.value) net.shells.items) (map (λ b. (goal.Component-dyn g (b.vtable, b.value)).kept b.value) net.shells.items) (map (λ b. (goal.Component-dyn g (b.vtable, b.value)).kept b.value) after.shells.items)
+          (lines_applied g.S.AsStep.step c.args.valid.now.view net.valid.now.view c.args.given c.args.lines.now (map (λ b. (goal.Component-dyn g (b.vtable, b.value)).program b.value) net.shells.items) (map (λ b. (goal.Component-dyn g (b.vtable, b.value)).kept b.value) net.shells.items) (map (λ b. (goal.Component-dyn g (b.vtable, b.value)).kept b.value) after.shells.items)
           net.books after.books c.run-applied.result same c.in_ok-net.ensures.stands c.run-applied.ensures.applies)
           c.outcome_of-outcome.ensures;
       kinds = kept_anyway bench c.outcome_of-outcome.result
-          (bench_keeps c.args.valid.now.view c.args.given (check.executed (after_lines g.S.AsStep.step c.args.valid.now.view c.args.given c.args.lines.now first_execution)) (λ b. (goal.Component-dyn g (b.vtable, b.value)).kind b.value) (λ b. (goal.Component-dyn g (b.vtable, b.value)).loaded b.value) (λ b. (goal.Component-dyn g (b.vtable, b.value)).kept b.value) c.args.bench.now.items c.opened.new.bench.items net.shells.items after.shells.items all put c.in_ok-net.ensures.kinds c.run-applied.ensures.kinds);
+          (bench_keeps c.args.valid.now.view c.args.given (check.executed (after_lines g.S.AsStep.step c.args.valid.now.view c.args.given c.args.lines.now first_execution)) (λ b. (goal.Component-dyn g (b.vtable, b.value)).kind b.value) (λ b. (goal.Component-dyn g (b.vtable, b.value)).program b.value) (λ b. (goal.Component-dyn g (b.vtable, b.value)).kept b.value) c.args.bench.now.items c.opened.new.bench.items net.shells.items after.shells.items all put c.in_ok-net.ensures.kinds c.run-applied.ensures.kinds);
     }

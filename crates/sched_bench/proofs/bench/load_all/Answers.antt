@@ -21,9 +21,9 @@ load_at-requires-clause-fits g c d =
 pub loop-i-preserved : goal.loop-i-preserved
 loop-i-preserved g c = record {
   kinds = c.in_ok-load_at.ensures.kinds ∙ c.loop-i.invariant.kinds;
-  loaded = one_more (program_of c.args.valid.now.view) c.args.wanted.now c.loop-i.i (map (λ b. (goal.Component-dyn g (b.vtable, b.value)).loaded b.value) c.loop-i.shells.items) (map (λ b. (goal.Component-dyn g (b.vtable, b.value)).loaded b.value) c.load_at.new.shells.items) (Some c.body_of-program.result.now)
+  loaded = one_more (program_of c.args.valid.now.view) c.args.wanted.now c.loop-i.i (map (λ b. (goal.Component-dyn g (b.vtable, b.value)).program b.value) c.loop-i.shells.items) (map (λ b. (goal.Component-dyn g (b.vtable, b.value)).program b.value) c.load_at.new.shells.items) (Some c.body_of-program.result.now)
       c.loop-i.invariant.loaded c.in_ok-load_at.ensures.loaded c.body_of-program.ensures.program c.loop-i-test.true
-      (as_many (λ b. (goal.Component-dyn g (b.vtable, b.value)).kind b.value) (λ b. (goal.Component-dyn g (b.vtable, b.value)).loaded b.value) (λ n. option_map kind_of (program_of c.args.valid.now.view n)) c.args.wanted.now c.loop-i.shells.items c.args.shells.now.items c.loop-i.invariant.kinds c.requires.fit);
+      (as_many (λ b. (goal.Component-dyn g (b.vtable, b.value)).kind b.value) (λ b. (goal.Component-dyn g (b.vtable, b.value)).program b.value) (λ n. option_map kind_of (program_of c.args.valid.now.view n)) c.args.wanted.now c.loop-i.shells.items c.args.shells.now.items c.loop-i.invariant.kinds c.requires.fit);
   kept = one_more (λ n. nothing_kept (program_of c.args.valid.now.view n)) c.args.wanted.now c.loop-i.i (map (λ b. (goal.Component-dyn g (b.vtable, b.value)).kept b.value) c.loop-i.shells.items) (map (λ b. (goal.Component-dyn g (b.vtable, b.value)).kept b.value) c.load_at.new.shells.items) (nothing_kept (Some c.body_of-program.result.now))
       c.loop-i.invariant.kept c.in_ok-load_at.ensures.kept (ap nothing_kept c.body_of-program.ensures.program) c.loop-i-test.true
       (as_many (λ b. (goal.Component-dyn g (b.vtable, b.value)).kind b.value) (λ b. (goal.Component-dyn g (b.vtable, b.value)).kept b.value) (λ n. option_map kind_of (program_of c.args.valid.now.view n)) c.args.wanted.now c.loop-i.shells.items c.args.shells.now.items c.loop-i.invariant.kinds c.requires.fit);

@@ -10,23 +10,23 @@ use Rattle.sched_lists.proofs.running.emit_set_off.Goals as goal
 
 pub returns-in_err-go_through-clause-rows : goal.returns-in_err-go_through-clause-rows
 returns-in_err-go_through-clause-rows g c e =
-    steps_meet too_many_rows ((goal.Component-dyn g (c.args.shell.now.vtable, c.args.shell.now.value)).loaded c.args.shell.now.value) c.args.outlets.now ((goal.Component-dyn g (c.args.shell.now.vtable, c.args.shell.now.value)).kept c.args.shell.now.value) (read_lists c.args.lists.now) (record { steps = c.args.steps.now; whole = c.args.whole.now })
+    steps_meet too_many_rows ((goal.Component-dyn g (c.args.shell.now.vtable, c.args.shell.now.value)).program c.args.shell.now.value) c.args.outlets.now ((goal.Component-dyn g (c.args.shell.now.vtable, c.args.shell.now.value)).kept c.args.shell.now.value) (read_lists c.args.lists.now) (record { steps = c.args.steps.now; whole = c.args.whole.now })
     (c.go_through.ensures.rows (came_from c.from_residual.result c.go_through.result c.in_err-go_through.field-0.0 TooManyRows c.from_residual.ensures.1 c.in_err-go_through.was e))
 
 pub returns-in_err-go_through-clause-messages : goal.returns-in_err-go_through-clause-messages
 returns-in_err-go_through-clause-messages g c e =
-    steps_meet too_many_messages ((goal.Component-dyn g (c.args.shell.now.vtable, c.args.shell.now.value)).loaded c.args.shell.now.value) c.args.outlets.now ((goal.Component-dyn g (c.args.shell.now.vtable, c.args.shell.now.value)).kept c.args.shell.now.value) (read_lists c.args.lists.now) (record { steps = c.args.steps.now; whole = c.args.whole.now })
+    steps_meet too_many_messages ((goal.Component-dyn g (c.args.shell.now.vtable, c.args.shell.now.value)).program c.args.shell.now.value) c.args.outlets.now ((goal.Component-dyn g (c.args.shell.now.vtable, c.args.shell.now.value)).kept c.args.shell.now.value) (read_lists c.args.lists.now) (record { steps = c.args.steps.now; whole = c.args.whole.now })
     (c.go_through.ensures.messages (came_from c.from_residual.result c.go_through.result c.in_err-go_through.field-0.0 TooManyMessages c.from_residual.ensures.1 c.in_err-go_through.was e))
 
 pub returns-in_err-emit_seals-clause-messages : goal.returns-in_err-emit_seals-clause-messages
 returns-in_err-emit_seals-clause-messages g c e =
-    seals_meet ((goal.Component-dyn g (c.args.shell.now.vtable, c.args.shell.now.value)).loaded c.args.shell.now.value) c.args.outlets.now ((goal.Component-dyn g (c.args.shell.now.vtable, c.args.shell.now.value)).kept c.args.shell.now.value) ((goal.Component-dyn g (c.go_through.new.shell.vtable, c.go_through.new.shell.value)).kept c.go_through.new.shell.value) (read_lists c.args.lists.now) (read_lists c.go_through.new.lists) (record { steps = c.args.steps.now; whole = c.args.whole.now })
+    seals_meet ((goal.Component-dyn g (c.args.shell.now.vtable, c.args.shell.now.value)).program c.args.shell.now.value) c.args.outlets.now ((goal.Component-dyn g (c.args.shell.now.vtable, c.args.shell.now.value)).kept c.args.shell.now.value) ((goal.Component-dyn g (c.go_through.new.shell.vtable, c.go_through.new.shell.value)).kept c.go_through.new.shell.value) (read_lists c.args.lists.now) (read_lists c.go_through.new.lists) (record { steps = c.args.steps.now; whole = c.args.whole.now })
     c.in_ok-go_through.ensures.ok
     (c.emit_seals.ensures.too_many (came_from c.from_residual-in_err-emit_seals.result c.emit_seals.result c.in_err-emit_seals.field-0.0 TooManyMessages c.from_residual-in_err-emit_seals.ensures.1 c.in_err-emit_seals.was e))
 
 pub returns-clause-ok : goal.returns-clause-ok
 returns-clause-ok g c =
-    emits_all ((goal.Component-dyn g (c.args.shell.now.vtable, c.args.shell.now.value)).loaded c.args.shell.now.value) c.args.outlets.now ((goal.Component-dyn g (c.args.shell.now.vtable, c.args.shell.now.value)).kept c.args.shell.now.value) ((goal.Component-dyn g (c.go_through.new.shell.vtable, c.go_through.new.shell.value)).kept c.go_through.new.shell.value) (read_lists c.args.lists.now) (read_lists c.go_through.new.lists) (read_lists c.emit_seals.new.lists) (record { steps = c.args.steps.now; whole = c.args.whole.now })
+    emits_all ((goal.Component-dyn g (c.args.shell.now.vtable, c.args.shell.now.value)).program c.args.shell.now.value) c.args.outlets.now ((goal.Component-dyn g (c.args.shell.now.vtable, c.args.shell.now.value)).kept c.args.shell.now.value) ((goal.Component-dyn g (c.go_through.new.shell.vtable, c.go_through.new.shell.value)).kept c.go_through.new.shell.value) (read_lists c.args.lists.now) (read_lists c.go_through.new.lists) (read_lists c.emit_seals.new.lists) (record { steps = c.args.steps.now; whole = c.args.whole.now })
     c.in_ok-go_through.ensures.ok c.in_ok-emit_seals.ensures.ok (few_read c.emit_seals.new.lists c.in_ok-emit_seals.ensures.few)
 
 pub returns-clause-records : goal.returns-clause-records

@@ -9,8 +9,8 @@ use Rattle.sched_lists.proofs.running.go_through.Given as goal
 abbrev pub invariant-loop-now : goal.invariant-loop-now
 invariant-loop-now g l = record {
   kind : (goal.Component-dyn g (l.shell.vtable, l.shell.value)).kind l.shell.value ≡ (goal.Component-dyn g (l.fn.shell.vtable, l.fn.shell.value)).kind l.fn.shell.value;
-  loaded : (goal.Component-dyn g (l.shell.vtable, l.shell.value)).loaded l.shell.value ≡ (goal.Component-dyn g (l.fn.shell.vtable, l.fn.shell.value)).loaded l.fn.shell.value;
-  goes : GoesOn ((goal.Component-dyn g (l.fn.shell.vtable, l.fn.shell.value)).loaded l.fn.shell.value) l.outlets
+  loaded : (goal.Component-dyn g (l.shell.vtable, l.shell.value)).program l.shell.value ≡ (goal.Component-dyn g (l.fn.shell.vtable, l.fn.shell.value)).program l.fn.shell.value;
+  goes : GoesOn ((goal.Component-dyn g (l.fn.shell.vtable, l.fn.shell.value)).program l.fn.shell.value) l.outlets
       ((goal.Component-dyn g (l.fn.shell.vtable, l.fn.shell.value)).kept l.fn.shell.value) ((goal.Component-dyn g (l.shell.vtable, l.shell.value)).kept l.shell.value)
       (read_lists l.fn.lists) (read_lists l.lists) (take l.now-index l.steps);
   others : OthersStay l.outlets (read_lists l.fn.lists) (read_lists l.lists);

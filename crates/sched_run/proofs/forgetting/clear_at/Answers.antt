@@ -9,8 +9,8 @@ returns-clause-kinds g c =
 
 pub returns-clause-loaded : goal.returns-clause-loaded
 returns-clause-loaded g c =
-    map-set_same (λ b. (goal.Component-dyn g (b.vtable, b.value)).loaded b.value) c.args.shells.now.items c.args.place c.clear_one.new.shell c.index_mut.result.now
+    map-set_same (λ b. (goal.Component-dyn g (b.vtable, b.value)).program b.value) c.args.shells.now.items c.args.place c.clear_one.new.shell c.index_mut.result.now
     (rw (← c.index_mut.ensures.value) c.clear_one.ensures.loaded)
 
 pub returns-clause-kept : goal.returns-clause-kept
-returns-clause-kept g c = cleared_at (λ b. (goal.Component-dyn g (b.vtable, b.value)).loaded b.value) (λ b. (goal.Component-dyn g (b.vtable, b.value)).kept b.value) c.args.shells.now.items c.args.place c.index_mut.result.now c.clear_one.new.shell c.requires c.index_mut.ensures.value c.clear_one.ensures.kept
+returns-clause-kept g c = cleared_at (λ b. (goal.Component-dyn g (b.vtable, b.value)).program b.value) (λ b. (goal.Component-dyn g (b.vtable, b.value)).kept b.value) c.args.shells.now.items c.args.place c.index_mut.result.now c.clear_one.new.shell c.requires c.index_mut.ensures.value c.clear_one.ensures.kept

@@ -9,12 +9,12 @@ use Rattle.sched_run.proofs.making.made_of.Given as goal
 abbrev pub invariant-loop-making : goal.invariant-loop-making
 invariant-loop-making g l = record {
   turned : (given : Data)
-      → Stands l.fn.net.valid.now.view given [] (map (λ b. (goal.Component-dyn g (b.vtable, b.value)).loaded b.value) l.fn.net.shells.items) (map (λ b. (goal.Component-dyn g (b.vtable, b.value)).kept b.value) l.fn.net.shells.items) l.fn.net.books
-      → HasTurned l.fn.net.valid.now.view given l.seed (map (λ b. (goal.Component-dyn g (b.vtable, b.value)).loaded b.value) l.fn.net.shells.items) (map (λ b. (goal.Component-dyn g (b.vtable, b.value)).kept b.value) l.net.shells.items) l.net.books l.making;
+      → Stands l.fn.net.valid.now.view given [] (map (λ b. (goal.Component-dyn g (b.vtable, b.value)).program b.value) l.fn.net.shells.items) (map (λ b. (goal.Component-dyn g (b.vtable, b.value)).kept b.value) l.fn.net.shells.items) l.fn.net.books
+      → HasTurned l.fn.net.valid.now.view given l.seed (map (λ b. (goal.Component-dyn g (b.vtable, b.value)).program b.value) l.fn.net.shells.items) (map (λ b. (goal.Component-dyn g (b.vtable, b.value)).kept b.value) l.net.shells.items) l.net.books l.making;
   ready : IsReady l.fn.net.valid.now.view l.net.books l.making;
   valid : l.net.valid ≡ l.fn.net.valid;
   kinds : map (λ b. (goal.Component-dyn g (b.vtable, b.value)).kind b.value) l.net.shells.items ≡ map (λ b. (goal.Component-dyn g (b.vtable, b.value)).kind b.value) l.fn.net.shells.items;
-  loaded : map (λ b. (goal.Component-dyn g (b.vtable, b.value)).loaded b.value) l.net.shells.items ≡ map (λ b. (goal.Component-dyn g (b.vtable, b.value)).loaded b.value) l.fn.net.shells.items;
+  loaded : map (λ b. (goal.Component-dyn g (b.vtable, b.value)).program b.value) l.net.shells.items ≡ map (λ b. (goal.Component-dyn g (b.vtable, b.value)).program b.value) l.fn.net.shells.items;
 }
 
 abbrev pub decreases-loop-making : goal.decreases-loop-making

@@ -9,5 +9,5 @@ returns-clause-answer g c = c.hear_all-result.ensures.answer (batch (numbered_pa
 
 pub returns-clause-leaves : goal.returns-clause-leaves
 returns-clause-leaves g c =
-    ended_leaves c.args.valid.now.view (map (λ b. (goal.Component-dyn g (b.vtable, b.value)).loaded b.value) c.args.shells.now.items) (map (λ b. (goal.Component-dyn g (b.vtable, b.value)).kept b.value) c.args.shells.now.items) (map (λ b. (goal.Component-dyn g (b.vtable, b.value)).kept b.value) c.hear_all-result.new.shells.items) c.args.self.now c.hear_all-result.new.self c.end_at.new.self (batch (numbered_parts c.args.valid.now.view c.args.component c.args.parts.now) c.args.component c.args.replica) c.hear_all-result.result
+    ended_leaves c.args.valid.now.view (map (λ b. (goal.Component-dyn g (b.vtable, b.value)).program b.value) c.args.shells.now.items) (map (λ b. (goal.Component-dyn g (b.vtable, b.value)).kept b.value) c.args.shells.now.items) (map (λ b. (goal.Component-dyn g (b.vtable, b.value)).kept b.value) c.hear_all-result.new.shells.items) c.args.self.now c.hear_all-result.new.self c.end_at.new.self (batch (numbered_parts c.args.valid.now.view c.args.component c.args.parts.now) c.args.component c.args.replica) c.hear_all-result.result
     (c.hear_all-result.ensures.leaves (batch (numbered_parts c.args.valid.now.view c.args.component c.args.parts.now) c.args.component c.args.replica) (batch_is (numbered_parts c.args.valid.now.view c.args.component c.args.parts.now) c.args.component c.args.replica)) c.end_at.ensures

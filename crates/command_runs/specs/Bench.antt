@@ -1,4 +1,4 @@
--- A bench before and after a call: no shell is lost, and after a run its last shells are those of the instances.
+-- A bench before and after a call: as many shells of each kind, and after a run its last shells are those of the instances.
 use Rattle.std.specs.Prelude.{◌≡◌, ◌++◌, List, Option, map}
 use Rattle.std.specs.List.Sorted.{IsPermutation}
 use Rattle.bloom_ast.specs.declared.program.Program.{Program}

@@ -24,7 +24,7 @@ RepliesWith Said files bench (Err stop) script = Stopped files stop script
 abbrev pub RepliesAtOnce : {A : Type 0} → (A → BenchStates → Answer → Type 0) → BenchStates → Result Reply Stop → Script A → Type 0
 RepliesAtOnce Said bench result script = (files : Source) → RepliesWith Said (files_states files files) bench result script
 
--- no shell is lost, unless memory runs out
+-- as many shells of each kind as before, unless memory runs out
 abbrev pub KeepsKinds : BenchStates → Result Reply Stop → Type 0
 KeepsKinds bench (Ok reply) = HasSameKinds bench
 KeepsKinds bench (Err (Refused line)) = HasSameKinds bench

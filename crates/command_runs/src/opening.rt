@@ -62,7 +62,7 @@ pub fn opened<'a>(
     ensures stands { IfOk result (λ net. Stands valid.now.view given [] (map (λ b. program b) net.shells.items) (map (λ b. kept b) net.shells.items) net.books) }
     ensures valid { IfOk result (λ net. net.valid.now ≡ valid.now) }
 
-    // Shells come off the bench, and are neither made nor lost.
+    // Of each kind the bench and the net together have as many shells as the bench had.
     ensures kinds { IfOk result (λ net. IsPermutation (map (λ b. kind b) bench.old.items) (map (λ b. kind b) bench.new.items ++ map (λ b. kind b) net.shells.items)) }
     ensures unopened { OnErr result (IsPermutation (map (λ b. kind b) bench.old.items) (map (λ b. kind b) bench.new.items)) }
 {

@@ -5,7 +5,7 @@ use Rattle.blz_boxes.specs.declared.kind.ProgramKind.{ProgramKind}
 use Rattle.command_files.specs.declared.stop.Stop.{Stop}
 use Rattle.command_files.specs.declared.stop.Stop.TheVariants.{Refused, Failed, NoMemory}
 
--- no shell is lost, unless memory runs out
+-- as many shells of each kind as before, unless memory runs out
 abbrev pub LosesNone : {X : Type 0} → (kinds kinds_after : List ProgramKind) → Result X Stop → Type 0
 LosesNone kinds kinds_after (Ok x) = IsPermutation kinds kinds_after
 LosesNone kinds kinds_after (Err (Refused line)) = IsPermutation kinds kinds_after

@@ -4,5 +4,6 @@ pub mod CountsLemmas
 pub mod Tallies
 pub mod ListLoops
 pub mod FaultLemmas
+pub mod SubjectLemmas
 pub mod Ids
 pub mod SealedSources

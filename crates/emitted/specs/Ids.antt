@@ -1,11 +1,10 @@
 -- The ids of the records of an emitted list.
-use Rattle.std.specs.Prelude.{◌≡◌, ℕ, ◌==◌, ◌++◌, Bool, false, Option, Some, None, List, [], ◌∷◌, if◌then◌else◌}
-use Rattle.std.specs.List.{list_any, filter_map}
+use Rattle.std.specs.Prelude.{ℕ, ◌==◌, ◌++◌, Bool, false, Option, Some, None, List, [], ◌∷◌, if◌then◌else◌}
+use Rattle.std.specs.List.{list_any}
 use Rattle.blz_value.specs.Record.{Row as Record}
 use Rattle.blz_value.specs.Operators.{cells}
 use Rattle.messages.specs.Message.{is_same_row}
 use Rattle.messages.specs.Log.{row_with_id}
-use Rattle.messages.specs.Numbers.{has_number}
 use Rattle.messages.specs.declared.message.Message.{Message as IdMessage}
 use Rattle.messages.specs.declared.message.Message.TheVariants.{Row, Seal}
 
@@ -13,23 +12,10 @@ abbrev pub id_in : IdMessage → Option ℕ
 id_in (Row id) = Some id
 id_in (Seal key count) = None
 
--- the partition of a message, where it is a seal
-abbrev pub sealed_by : IdMessage → Option Record
-sealed_by (Row id) = None
-sealed_by (Seal key count) = Some key
-
--- the partitions of the seals of a list
-abbrev pub all_sealed : List IdMessage → List Record
-all_sealed list = filter_map sealed_by list
-
 -- the message is the record with this id
 abbrev pub is_row_with : (id : ℕ) → IdMessage → Bool
 is_row_with id (Row other) = id == other
 is_row_with id (Seal key count) = false
-
--- exactly the ids of a list's records have their bits in these words
-abbrev pub AreIdsOf : (words : List ℕ) → List IdMessage → Type 0
-AreIdsOf words list = (id : ℕ) → has_number words id ≡ list_any (is_row_with id) list
 
 -- the message is a seal of this partition
 abbrev pub is_seal_of : (key : Record) → IdMessage → Bool

@@ -1,36 +1,35 @@
 //! One emitted list, by the ids of its records.
-ghost use Rattle.std.specs.Prelude.{◌≡◌, ◌≤◌, ◌++◌, ◌∷◌, [], length, slice_get, false, OnOk, OnErr, option_copied};
+ghost use Rattle.std.specs.Prelude.{◌≡◌, ◌++◌, ◌∷◌, [], length, slice_get, false, IfOk, OnOk, OnErr, option_copied};
 ghost use Rattle.std.specs.List.{list_any};
 ghost use Rattle.emitted.specs.Ids.{is_row_with, is_seal_of};
 ghost use Rattle.messages.specs.declared.message.Message.TheVariants.{Row, Seal};
 
+use crate::subject::Subject;
 use blz_pool::Id;
 use blz_value::Record;
-use messages::{Message, NumberSet};
+use indexmap::IndexMap;
+use messages::Message;
 use std::alloc::{AllocError, Global};
-use std::collections::BTreeSet;
 use std::marker::Model;
 
-/// The messages that a sender of a stream emitted, in order. Indexes tell whether a record stands
-/// among them, by a bit for each id up to the greatest, and whether a seal of a partition does.
+/// The messages that a sender of a stream emitted, in order, by what they are about. So no two are
+/// about one record or about one partition.
 #[derive(Drop)]
 pub struct Emitted {
-    messages: Vec<Message>,
-    ids: NumberSet,
-    seals: BTreeSet<Record>,
+    messages: IndexMap<Subject, Message>,
 }
 
 impl Model for Emitted {
-    ghost use Rattle.std.specs.Prelude.{◌≡◌, List};
-    ghost use Rattle.blz_value.specs.Sets.{set_of};
+    ghost use Rattle.std.specs.Prelude.{◌≡◌, List, map};
+    ghost use Rattle.indexmap.specs.IndexMap.{keys, values};
     ghost use Rattle.messages.specs.declared.message.Message.{Message};
-    ghost use Rattle.emitted.specs.Ids.{AreIdsOf, all_sealed};
+    ghost use Rattle.emitted.specs.Subject.{subject_of};
 
     ghost Value = { List Message };
 
-    ghost view = { λ list. list.messages.items };
+    ghost view = { λ list. values list.messages };
 
-    ghost invariant = { λ list. AreIdsOf list.ids list.messages.items × (list.seals.keys ≡ set_of (all_sealed list.messages.items)) };
+    ghost invariant = { λ list. keys list.messages ≡ map subject_of (values list.messages) };
 }
 
 impl Emitted {
@@ -39,9 +38,7 @@ impl Emitted {
         ensures { result ≡ [] }
     {
         Emitted {
-            messages: Vec::new(alloc),
-            ids: NumberSet::new(alloc),
-            seals: BTreeSet::new(alloc),
+            messages: IndexMap::new(alloc),
         }
     }
 
@@ -49,35 +46,35 @@ impl Emitted {
     pub fn len(&self) -> usize
         ensures { result ≡ length self.now }
     {
-        self.messages.len()
+        self.messages().len()
     }
 
     /// The messages in order.
     pub fn messages(&self) -> &[Message]
         ensures { result.now ≡ self.now }
     {
-        self.messages.as_slice()
+        self.messages.values().as_slice()
     }
 
     /// The message at a place, counted from 0, None exactly past the end.
     pub fn message(&self, index: usize) -> Option<&Message>
         ensures { option_copied result ≡ slice_get self.now index }
     {
-        self.messages.get(index)
+        self.messages().get(index)
     }
 
-    /// Whether the record with an id stands in the list, by the index.
+    /// Whether the record with an id stands in the list.
     pub fn has_row(&self, id: Id) -> bool
         ensures { result ≡ list_any (is_row_with id) self.now }
     {
-        self.ids.contains(id.number())
+        self.messages.contains_key(&Subject::Row(id.number()))
     }
 
-    /// Whether a seal of a partition stands in the list, by the index.
-    pub fn has_seal(&self, key: &Record) -> bool
-        ensures { result ≡ list_any (is_seal_of key.now) self.now }
+    /// Whether a seal of a partition stands in the list. The error is want of memory.
+    pub fn has_seal(&self, key: &Record) -> Result<bool, AllocError>
+        ensures { IfOk result (λ has. has ≡ list_any (is_seal_of key.now) self.now) }
     {
-        self.seals.contains(key)
+        Ok(self.messages.contains_key(&Subject::Partition(key.copy()?)))
     }
 
     /// Puts a record behind the others that isn't there yet. The error is want of memory and leaves
@@ -87,31 +84,20 @@ impl Emitted {
         ensures ok { OnOk result (self.new ≡ self.old ++ Row id ∷ []) }
         ensures err { OnErr result (self.new ≡ self.old) }
     {
-        self.messages.push(Message::Row(id))?;
-        match self.ids.add(id.number()) {
-            Ok(_) => Ok(()),
-            Err(error) => {
-                let _ = self.messages.pop();
-                Err(error)
-            }
-        }
+        self.messages
+            .insert(Subject::Row(id.number()), Message::Row(id))?;
+        Ok(())
     }
 
-    /// Puts a seal behind the others. The error is want of memory and leaves the list as it was.
+    /// Puts a seal of a partition behind the others that has none yet. The error is want of memory and
+    /// leaves the list as it was.
     pub fn push_seal(&mut self, key: Record, count: u32) -> Result<(), AllocError>
+        requires { list_any (is_seal_of key) self.old ≡ false }
         ensures ok { OnOk result (self.new ≡ self.old ++ Seal key count ∷ []) }
         ensures err { OnErr result (self.new ≡ self.old) }
     {
-        self.messages.push(Message::Seal {
-            key: key.copy()?,
-            count,
-        })?;
-        match self.seals.insert(key) {
-            Ok(_) => Ok(()),
-            Err(error) => {
-                let _ = self.messages.pop();
-                Err(AllocError::from(error))
-            }
-        }
+        let subject = Subject::Partition(key.copy()?);
+        self.messages.insert(subject, Message::Seal { key, count })?;
+        Ok(())
     }
 }

@@ -7,6 +7,7 @@ mod fault;
 mod keys;
 mod limits;
 mod lists;
+mod subject;
 
 pub use fault::EventFault;
 pub use keys::key_of;

@@ -11,7 +11,7 @@ ghost use Rattle.emitted.specs.Lists.{message_limit};
 ghost use Rattle.emitted.specs.Lists.{OneListBecomes, AllAreGiven, IsExact, read_lists, list_at, total};
 ghost use Rattle.emitted.specs.Counts.{count_of, seals_of, HasRoom, IsTallyOf, IsTallied};
 ghost use Rattle.emitted.specs.Faults.{IsLimit};
-ghost use Rattle.emitted.specs.Ids.{is_row_with, with_id, counts_in};
+ghost use Rattle.emitted.specs.Ids.{is_row_with, is_seal_of, with_id, counts_in};
 ghost use Rattle.emitted.specs.declared.fault.EventFault.TheVariants.{TooManyMessages};
 
 use crate::counts::{Tally, with_one};
@@ -258,10 +258,19 @@ impl Lists {
         Ok(count)
     }
 
-    // Puts a seal behind a list, where there is room.
+    // Whether a seal of a partition stands in a list. The error is want of memory.
+    fn has_seal(&self, place: usize, key: &Record) -> Result<bool, AllocError>
+        requires { place < length self.now.lists }
+        ensures { IfOk result (λ has. has ≡ list_any (is_seal_of key.now) (list_at self.now.lists place)) }
+    {
+        self.lists[place].has_seal(key)
+    }
+
+    // Puts a seal behind a list, where there is room and the list has none of its partition.
     fn push_seal(&mut self, place: usize, key: &Record, count: u32) -> Result<(), AllocError>
         requires place { place < length self.old.lists }
         requires room { total self.old.lists < message_limit }
+        requires new { list_any (is_seal_of key.now) (list_at self.old.lists place) ≡ false }
         ensures records { self.new.records ≡ self.old.records }
         ensures lists { OnOk result (self.new.lists ≡ slice_set self.old.lists place (list_at self.old.lists place ++ Seal key.now count ∷ [])) }
     {
@@ -273,6 +282,7 @@ impl Lists {
     // Puts a new seal behind a list.
     fn put_seal(&mut self, place: usize, key: &Record, count: u32) -> Result<(), EventFault>
         requires place { place < length self.old.lists }
+        requires new { list_any (is_seal_of key.now) (list_at self.old.lists place) ≡ false }
         ensures records { self.new.records ≡ self.old.records }
         ensures lists { OnOk result (self.new.lists ≡ slice_set self.old.lists place (list_at self.old.lists place ++ Seal key.now count ∷ [])) }
         ensures too_many { result ≡ Err TooManyMessages → total self.old.lists ≡ message_limit }
@@ -302,7 +312,8 @@ impl Lists {
         ensures legal { IsLimit result }
     {
         self.known();
-        if self.lists[place].has_seal(key) {
+        let is_sealed = self.has_seal(place, key)?;
+        if is_sealed {
             return Ok(());
         }
         let count = self.count_with_key(place, columns, key)?;
@@ -334,7 +345,8 @@ impl Lists {
     }
 
     /// Emits a seal of each of some partitions behind a list, where there is room, with the number of
-    /// its records there. Takes a look-up for each partition, and the walk that makes the list's tally.
+    /// its records there. Takes two look-ups for each partition, and the walk that makes the list's
+    /// tally. The error is want of memory; it comes too where a seal of one stands in the list.
     pub fn seal_partitions(
         &mut self,
         place: usize,
@@ -348,6 +360,10 @@ impl Lists {
         ensures exact { OnOk result (IsExact self.new) }
     {
         for key in keys {
+            let is_sealed = self.has_seal(place, key)?;
+            if is_sealed {
+                return Err(AllocError);
+            }
             let count = self.count_with_key(place, columns, key)?;
             self.push_seal(place, key, count)?;
         }

@@ -1,9 +1,10 @@
-use Rattle.emitted.proofs.Ids.{ids_seal, sealed_push}
+use Rattle.emitted.proofs.SubjectLemmas.{seal_pushed}
 use Rattle.emitted.proofs.emitted.Emitted.push_seal.Goals as goal
 
-pub invariant_of-self-in-Ok : goal.invariant_of-self-in-Ok
-invariant_of-self-in-Ok c = (
-  ids_seal c.self.inside.messages.items c.push.new.self.items c.self.inside.ids c.in_ok-copy.field-0 c.args.count c.self.invariant.0 c.in_ok-push.ensures.items,
-  sealed_push c.self.inside.messages.items c.push.new.self.items c.self.inside.seals.keys c.insert.new.self.keys c.args.key c.in_ok-copy.field-0 c.args.count
-      c.in_ok-copy.ensures c.self.invariant.1 c.in-Ok.ensures.keys c.in_ok-push.ensures.items,
-)
+pub invariant_of-self-2 : goal.invariant_of-self-2
+invariant_of-self-2 c =
+    (seal_pushed c.self.inside.messages.entries c.insert.new.self.entries c.args.self.now c.args.key c.in_ok-copy.field-0 c.args.count c.in_ok-copy.ensures c.self.invariant c.self.view_is c.requires c.in_ok-insert.ensures.entries).by
+
+pub returns-clause-ok : goal.returns-clause-ok
+returns-clause-ok c =
+    (seal_pushed c.self.inside.messages.entries c.insert.new.self.entries c.args.self.now c.args.key c.in_ok-copy.field-0 c.args.count c.in_ok-copy.ensures c.self.invariant c.self.view_is c.requires c.in_ok-insert.ensures.entries).list

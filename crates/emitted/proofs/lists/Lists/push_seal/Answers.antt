@@ -1,10 +1,18 @@
-use Rattle.std.proofs.Common.{◌<◌, ◌∙◌, ap, length, subst, sym, arith}
+use Rattle.std.proofs.Common.{◌≡◌, ◌<◌, ◌∙◌, ap, length, refl, subst, sym, arith}
+use Rattle.std.specs.List.{list_any}
 use Rattle.std.proofs.lemmas.List.{length-set}
 use Rattle.messages.specs.declared.message.Message.TheVariants.{Seal}
-use Rattle.emitted.specs.Lists.{Listed, total}
+use Rattle.emitted.specs.Ids.{is_seal_of}
+use Rattle.emitted.specs.Lists.{Listed, list_at, total}
 use Rattle.emitted.proofs.Ids.{pushed_keeps}
+use Rattle.emitted.proofs.ListSeals.{list_found}
 use Rattle.emitted.proofs.Tallies.{tallied_sealed}
 use Rattle.emitted.proofs.lists.Lists.push_seal.Goals as goal
+
+pub push_seal-requires : goal.push_seal-requires
+push_seal-requires c =
+    let here : c.index_mut.result.now ≡ list_at c.args.self.now.lists c.args.place = list_found c.self.inside.lists.items c.args.self.now c.args.place c.index_mut.result.now c.index_mut.result.now (ap (λ (l : Listed). l.lists) c.self.view_is) c.requires.place c.index_mut.ensures.value refl in
+    ap (λ k. list_any (is_seal_of k) c.index_mut.result.now) c.in_ok-copy.ensures ∙ ap (list_any (is_seal_of c.args.key.now)) here ∙ c.requires.new
 
 pub invariant_of-self-2 : goal.invariant_of-self-2
 invariant_of-self-2 c =

@@ -1,8 +1,13 @@
-use Rattle.std.proofs.Common.{◌≡◌, ◌∙◌, ◌++◌, ◌∷◌, [], set, ap, subst}
+use Rattle.std.proofs.Common.{◌≡◌, ◌∙◌, ◌++◌, ◌∷◌, [], set, ap, sym, subst}
+use Rattle.std.specs.List.{list_any}
 use Rattle.messages.specs.declared.message.Message.TheVariants.{Seal}
+use Rattle.emitted.specs.Ids.{is_seal_of}
 use Rattle.emitted.specs.Lists.{Listed, list_at}
 use Rattle.emitted.proofs.SealedSources.{IsSealedBy, sealed_next, count_stays}
 use Rattle.emitted.proofs.lists.Lists.seal_partitions.Goals as goal
+
+pub push_seal-requires-clause-new : goal.push_seal-requires-clause-new
+push_seal-requires-clause-new c = ap (λ (l : Listed). list_any (is_seal_of c.in-Some.key.now) (list_at l.lists c.args.place)) c.count_with_key.ensures.same ∙ sym c.in_ok-is_sealed.ensures ∙ c.if-is_sealed.false
 
 pub loop-key-preserved : goal.loop-key-preserved
 loop-key-preserved c =

@@ -1,0 +1,86 @@
+"""The streams of a topology: their labels, and who sends and hears what."""
+import re
+from collections import namedtuple
+
+LABELS = ["Seal", "Async", "Run", "Inst", "Diverge"]
+
+# A label, and a line with one: of `label`, and of a source and an output under `derive`.
+LABEL = r"((?:Seal|Async|Run|Inst|Diverge)(?:\[.*?\])?)"
+LABELLED = re.compile(rf"^(\w+) {LABEL}$|^(?:source|  out) (\w+) {LABEL}(?: |$)", re.M)
+
+
+def labels_of(text):
+    """The label of each stream, out of what `label` or `derive` writes."""
+    return {found[1] or found[3]: found[2] or found[4] for found in LABELLED.finditer(text.decode())}
+
+
+def severity(label):
+    """The place of a label between the best, 0, and the worst."""
+    return LABELS.index(label.split("[")[0])
+
+
+def is_bad(label):
+    """Whether contents may vary under this label."""
+    return severity(label) > LABELS.index("Async")
+
+
+def changed(before, after):
+    """The streams whose label became better, and those whose label became worse, as lines."""
+    lines = {True: [], False: []}
+    for name, label in before.items():
+        if severity(label) != severity(after[name]):
+            lines[severity(label) > severity(after[name])].append(f"{name} {label} -> {after[name]}")
+    return lines[True], lines[False]
+
+
+# What goes from one sending replica of a stream to a port: `receiver` is a replica, or nothing where the
+# component has a log.
+Lane = namedtuple("Lane", "stream sender component port receiver")
+
+
+class Wiring:
+    """Which replicas of a topology send to which."""
+
+    def __init__(self, topology):
+        self.components = {it["name"]: it for it in topology.get("component", [])}
+        self.streams = {it["name"]: it for it in topology.get("source", []) + topology.get("stream", [])}
+
+    def replicas(self, component):
+        return range(self.components[component].get("replicas", 1))
+
+    def senders(self, stream):
+        origin = self.streams[stream].get("from")
+        return self.replicas(origin.split(".")[0]) if origin else range(1)
+
+    def is_ordered(self, component):
+        return self.components[component].get("mode") == "order"
+
+    def lanes(self):
+        """All lanes, in the order of the streams."""
+        for stream, table in self.streams.items():
+            for place in table.get("to", []):
+                component, port = place.split(".")
+                for sender in self.senders(stream):
+                    for receiver in self.receivers(stream, sender, component):
+                        yield Lane(stream, sender, component, port, receiver)
+
+    def receivers(self, stream, sender, component):
+        """The replicas that hear a sending one: the one of the same number, but all where one side is one."""
+        if self.is_ordered(component):
+            return [None]
+        if len(self.senders(stream)) == 1 or len(self.replicas(component)) == 1:
+            return self.replicas(component)
+        return [sender]
+
+
+def contents_of(text):
+    """Out of what `run` writes the contents of each sending replica, by stream, and whether the run is complete."""
+    lines = text.decode().split("\n")
+    found = {}
+    for number, line in enumerate(lines):
+        words = line.split(" ")
+        # Behind 'STREAM REPLICA COUNT' stand so many records; those begin with two spaces.
+        if len(words) == 3 and words[0]:
+            records = lines[number + 1 : number + 1 + int(words[2])]
+            found.setdefault(words[0], []).append(tuple(it[2:] for it in records))
+    return found, lines[-2] == "complete"

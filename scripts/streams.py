@@ -52,6 +52,14 @@ class Wiring:
         origin = self.streams[stream].get("from")
         return self.replicas(origin.split(".")[0]) if origin else range(1)
 
+    def is_source(self, stream):
+        return "from" not in self.streams[stream]
+
+    def may_seal(self, stream):
+        """Whether a stream may send seals, for all that its own entry and that of its component say."""
+        table = self.streams[stream]
+        return bool(table.get("seal")) if self.is_source(stream) else "key" in self.components[table["from"].split(".")[0]]
+
     def is_ordered(self, component):
         return self.components[component].get("mode") == "order"
 

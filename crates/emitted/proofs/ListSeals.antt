@@ -30,13 +30,6 @@ seal-read records (Seal other count ∷ list) key = ap (λ b. is_same_row key ot
 pub seal-at : (l : Listed) (place : ℕ) (key : Record) → list_any (is_seal_of key) (list_at l.lists place) ≡ has_seal (list_at (read_lists l) place) key
 seal-at l place key = seal-read l.records (list_at l.lists place) key ∙ ap (λ list. has_seal list key) (read-at l.records l.lists place)
 
--- what a search of one list says
-pub seal_found : (lists : List (List IdMessage)) (l : Listed) (place : ℕ) (key : Record) (list : List IdMessage) (found said : Bool) → lists ≡ l.lists → place < length l.lists → list ≡ get_or lists place list → found ≡ list_any (is_seal_of key) list → found ≡ said
-    → list_any (is_seal_of key) (list_at l.lists place) ≡ said
-seal_found lists l place key list found said same within at is was =
-    let here : list ≡ list_at l.lists place = at ∙ ap (λ ls. get_or ls place list) same ∙ get_or_default l.lists place list [] within in
-    ap (list_any (is_seal_of key)) (sym here) ∙ sym is ∙ was
-
 -- a list that is borrowed is that at its place
 pub list_found : (lists : List (List IdMessage)) (l : Listed) (place : ℕ) (list seen : List IdMessage) → lists ≡ l.lists → place < length l.lists → list ≡ get_or lists place list → seen ≡ list → seen ≡ list_at l.lists place
 list_found lists l place list seen same within at is = is ∙ at ∙ ap (λ ls. get_or ls place list) same ∙ get_or_default l.lists place list [] within

@@ -1,5 +1,6 @@
 -- What an emitted list's map of messages says of the list.
-use Rattle.std.proofs.Common.{◌≡◌, ◌||◌, ℕ, Bool, true, false, cond, Some, List, [], ◌∷◌, ◌++◌, map, is_some, refl, ap, ◌∙◌, sym, true≢false, if◌then◌else◌}
+use Rattle.std.proofs.Common.{◌≡◌, ◌||◌, ℕ, Bool, true, false, cond, Some, List, [], ◌∷◌, ◌++◌, map, is_some, refl, ap, ◌∙◌, sym, true≢false, subst, not, Option, if◌then◌else◌}
+use Rattle.std.specs.Cmp.{unsigned_Decides}
 use Rattle.std.specs.List.{list_any}
 use Rattle.std.specs.Map.{keys_of, values_of, lookup}
 use Rattle.std.proofs.lemmas.List.{map-append}
@@ -8,7 +9,7 @@ use Rattle.blz_value.specs.Record.{Row as Record}
 use Rattle.messages.specs.Message.{is_same_row}
 use Rattle.messages.specs.declared.message.Message.{Message as IdMessage}
 use Rattle.messages.specs.declared.message.Message.TheVariants as message
-use Rattle.emitted.specs.Ids.{is_row_with, is_seal_of}
+use Rattle.emitted.specs.Ids.{is_row_with, is_seal_of, with_id}
 use Rattle.emitted.specs.Subject.{subject_of, is_same_subject}
 use Rattle.emitted.specs.declared.subject.Subject.{Subject}
 use Rattle.emitted.specs.declared.subject.Subject.TheVariants.{Row, Partition}
@@ -87,12 +88,73 @@ pushed old new before s m about by is none inserted =
           ∙ sym (ap (map subject_of) list ∙ map-append subject_of (values_of old) (m ∷ []));
     }
 
-pub row_pushed : (old new : List (Subject × IdMessage)) (before : List IdMessage) (id n : ℕ) → n ≡ id → IsBySubject old → values_of old ≡ before → list_any (is_row_with id) before ≡ false → new ≡ insert_entry is_same_subject old (Row n) (message.Row id)
-    → IsPushed before new (message.Row id)
-row_pushed old new before id n same by is none inserted =
-    pushed old new before (Row n) (message.Row id) (ap Row same) by is
-    (ap (λ k. list_any (is_same_subject (Row k)) (keys_of old)) same ∙ row_keys id old by ∙ ap (list_any (is_row_with id)) is ∙ none)
-    inserted
+abbrev head_or : {X : Type 0} → X → List X → X
+head_or d [] = d
+head_or d (x ∷ xs) = x
+
+abbrev tail_of : {X : Type 0} → List X → List X
+tail_of [] = []
+tail_of (x ∷ xs) = xs
+
+row_is : (id : ℕ) (m : IdMessage) → is_same_subject (Row id) (subject_of m) ≡ true → m ≡ message.Row id
+row_is id (message.Row other) same = ap message.Row (sym ((unsigned_Decides id other).0 same))
+row_is id (message.Seal key count) same = absurd (true≢false (sym same))
+
+-- a record that stands there stays where it is
+known_stays : (id : ℕ) (entries : List (Subject × IdMessage)) → IsBySubject entries → list_any (is_same_subject (Row id)) (keys_of entries) ≡ true → insert_entry is_same_subject entries (Row id) (message.Row id) ≡ entries
+known_stays id [] by there = absurd (true≢false (sym there))
+known_stays id (e ∷ entries) by there = go (is_same_subject (Row id) e.0) refl there (known_stays id entries (ap tail_of by))
+  where
+    go : (b : Bool) → is_same_subject (Row id) e.0 ≡ b → (b || list_any (is_same_subject (Row id)) (keys_of entries)) ≡ true
+        → (list_any (is_same_subject (Row id)) (keys_of entries) ≡ true → insert_entry is_same_subject entries (Row id) (message.Row id) ≡ entries)
+        → (if b then (e.0, message.Row id) ∷ entries else e ∷ insert_entry is_same_subject entries (Row id) (message.Row id)) ≡ e ∷ entries
+    go true same there rest = ap (λ m. (e.0, m) ∷ entries) (sym (row_is id e.1 (ap (is_same_subject (Row id)) (sym (ap (head_or e.0) by)) ∙ same)))
+    go false same there rest = ap (λ l. e ∷ l) (rest there)
+
+-- a record goes last, unless it stands there
+pub record IsAdded (before : List IdMessage) (new : List (Subject × IdMessage)) (id : ℕ) : Type 0 where
+  pub list : values_of new ≡ with_id before id
+  pub by : IsBySubject new
+
+pub row_added : (old new : List (Subject × IdMessage)) (before : List IdMessage) (id n : ℕ) → n ≡ id → IsBySubject old → values_of old ≡ before → new ≡ insert_entry is_same_subject old (Row n) (message.Row id) → IsAdded before new id
+row_added old new before id n same by is inserted = go (list_any (is_row_with id) before) refl
+  where
+    here : list_any (is_same_subject (Row id)) (keys_of old) ≡ list_any (is_row_with id) before
+    here = row_keys id old by ∙ ap (list_any (is_row_with id)) is
+
+    put : new ≡ insert_entry is_same_subject old (Row id) (message.Row id)
+    put = inserted ∙ ap (λ k. insert_entry is_same_subject old (Row k) (message.Row id)) same
+
+    go : (b : Bool) → list_any (is_row_with id) before ≡ b → IsAdded before new id
+    go true there =
+        let stays : new ≡ old = put ∙ known_stays id old by (here ∙ there) in
+        record {
+          list = ap values_of stays ∙ is ∙ sym (ap (λ b. if b then before else before ++ message.Row id ∷ []) there);
+          by = subst IsBySubject (sym stays) by;
+        }
+    go false none =
+        let last = pushed old new before (Row id) (message.Row id) refl by is (here ∙ none) put in
+        record {
+          list = last.list ∙ sym (ap (λ b. if b then before else before ++ message.Row id ∷ []) none);
+          by = last.by;
+        }
+
+-- it is new where the map had nothing under it
+pub is_new_row : (id n : ℕ) (old : List (Subject × IdMessage)) (before : List IdMessage) (had : Option IdMessage) (is_new : Bool) → n ≡ id → IsBySubject old → values_of old ≡ before → had ≡ lookup (is_same_subject (Row n)) old → is_some had ≡ not is_new
+    → is_new ≡ not (list_any (is_row_with id) before)
+is_new_row id n old before had is_new same by is was says = twice is_new ∙ ap not (sym says ∙ ap is_some was ∙ row_test id n old before same by is)
+  where
+    twice : (b : Bool) → b ≡ not (not b)
+    twice true = refl
+    twice false = refl
+
+-- a record that is new goes last
+pub new_goes_last : (list new : List IdMessage) (id : ℕ) (is_new : Bool) → is_new ≡ not (list_any (is_row_with id) list) → is_new ≡ true → new ≡ with_id list id → new ≡ list ++ message.Row id ∷ []
+new_goes_last list new id is_new says so is = is ∙ ap (λ b. if b then list else list ++ message.Row id ∷ []) (turned (list_any (is_row_with id) list) (sym says ∙ so))
+  where
+    turned : (b : Bool) → not b ≡ true → b ≡ false
+    turned true e = sym e
+    turned false e = refl
 
 pub seal_pushed : (old new : List (Subject × IdMessage)) (before : List IdMessage) (key copy : Record) (count : ℕ) → copy ≡ key → IsBySubject old → values_of old ≡ before → list_any (is_seal_of key) before ≡ false
     → new ≡ insert_entry is_same_subject old (Partition copy) (message.Seal key count) → IsPushed before new (message.Seal key count)

@@ -1,8 +1,8 @@
 //! One emitted list, by the ids of its records.
-ghost use Rattle.std.specs.Prelude.{◌≡◌, ◌++◌, ◌∷◌, [], length, slice_get, false, IfOk, OnOk, OnErr, option_copied};
+ghost use Rattle.std.specs.Prelude.{◌≡◌, ◌++◌, ◌∷◌, [], length, slice_get, not, false, IfOk, OnOk, OnErr, option_copied};
 ghost use Rattle.std.specs.List.{list_any};
-ghost use Rattle.emitted.specs.Ids.{is_row_with, is_seal_of};
-ghost use Rattle.messages.specs.declared.message.Message.TheVariants.{Row, Seal};
+ghost use Rattle.emitted.specs.Ids.{is_row_with, is_seal_of, with_id};
+ghost use Rattle.messages.specs.declared.message.Message.TheVariants.{Seal};
 
 use crate::subject::Subject;
 use blz_pool::Id;
@@ -77,16 +77,17 @@ impl Emitted {
         Ok(self.messages.contains_key(&Subject::Partition(key.copy()?)))
     }
 
-    /// Puts a record behind the others that isn't there yet. The error is want of memory and leaves
-    /// the list as it was.
-    pub fn push_row(&mut self, id: Id) -> Result<(), AllocError>
-        requires { list_any (is_row_with id) self.old ≡ false }
-        ensures ok { OnOk result (self.new ≡ self.old ++ Row id ∷ []) }
+    /// Puts a record behind the others, unless it stands there, and gives whether it is new. The error is
+    /// want of memory and leaves the list as it was.
+    pub fn add_row(&mut self, id: Id) -> Result<bool, AllocError>
+        ensures new { IfOk result (λ is_new. is_new ≡ not (list_any (is_row_with id) self.old)) }
+        ensures ok { OnOk result (self.new ≡ with_id self.old id) }
         ensures err { OnErr result (self.new ≡ self.old) }
     {
-        self.messages
+        let known = self
+            .messages
             .insert(Subject::Row(id.number()), Message::Row(id))?;
-        Ok(())
+        Ok(known.is_none())
     }
 
     /// Puts a seal of a partition behind the others that has none yet. The error is want of memory and

@@ -1,5 +1,5 @@
 //! All emitted lists, and the pool of their records.
-ghost use Rattle.std.specs.Prelude.{◌≡◌, ◌<◌, ◌≤◌, ◌+◌, ◌++◌, ◌∷◌, ℕ, [], length, replicate, slice_get, slice_index_or, slice_set, false, None, Some, Err, IfOk, OnOk, if◌then◌else◌};
+ghost use Rattle.std.specs.Prelude.{◌≡◌, ◌<◌, ◌≤◌, ◌+◌, ◌++◌, ◌∷◌, ℕ, [], length, replicate, slice_get, slice_index_or, slice_set, false, true, None, Some, Err, IfOk, OnOk, if◌then◌else◌};
 ghost use Rattle.std.specs.List.{All, list_any};
 ghost use Rattle.blz_pool.specs.Pool.{IsPool, record_limit, with_record};
 ghost use Rattle.blz_value.specs.Members.{Has};
@@ -135,6 +135,20 @@ impl Lists {
         }
     }
 
+    // Ok where the record with an id stands in a list, and else there are too many messages.
+    fn known_id(&self, place: usize, id: Id) -> Result<(), EventFault>
+        requires place { place < length self.now.lists }
+        ensures known { OnOk result (list_any (is_row_with id) (list_at self.now.lists place) ≡ true) }
+        ensures too_many { result ≡ Err TooManyMessages → list_any (is_row_with id) (list_at self.now.lists place) ≡ false }
+        ensures legal { IsLimit result }
+    {
+        if self.lists[place].has_row(id) {
+            Ok(())
+        } else {
+            Err(EventFault::TooManyMessages)
+        }
+    }
+
     // Puts the record with an id behind a list, unless it stands there.
     fn put_id(&mut self, place: usize, id: Id) -> Result<(), EventFault>
         requires place { place < length self.old.lists }
@@ -144,13 +158,13 @@ impl Lists {
         ensures too_many { result ≡ Err TooManyMessages → (total self.old.lists ≡ message_limit) × (list_any (is_row_with id) (list_at self.old.lists place) ≡ false) }
         ensures legal { IsLimit result }
     {
-        if self.lists[place].has_row(id) {
+        if self.count == MAX_MESSAGES {
+            return self.known_id(place, id);
+        }
+        let is_new = self.lists[place].add_row(id)?;
+        if !is_new {
             return Ok(());
         }
-        if self.count == MAX_MESSAGES {
-            return Err(EventFault::TooManyMessages);
-        }
-        self.lists[place].push_row(id)?;
         self.count += 1;
         let tally = take_tally(&mut self.tallies, place);
         self.tallies[place] = with_one(self.alloc, tally, self.pool.get(id))?;

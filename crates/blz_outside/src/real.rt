@@ -35,6 +35,13 @@ impl<R: rt::Files> RealFiles<R> {
     {
         RealFiles { runtime, faults: 0 }
     }
+
+    /// How many reads failed, up to the last value of a count.
+    pub fn faults(&self) -> u64
+        ensures { result ≡ self.now.faults }
+    {
+        self.faults
+    }
 }
 
 // Reads the rest of the file, or at most one byte more than the limit. A read that takes nothing is
@@ -105,6 +112,13 @@ impl<R: Print> RealSink<R> {
         ensures { result ≡ record { faults = 0 } }
     {
         RealSink { runtime, faults: 0 }
+    }
+
+    /// How many writes failed, up to the last value of a count.
+    pub fn faults(&self) -> u64
+        ensures { result ≡ self.now.faults }
+    {
+        self.faults
     }
 }
 

@@ -1,1 +1,4 @@
 pub mod Ports
+pub mod NetRuns
+pub mod TableCounts
+pub mod RunsLemmas

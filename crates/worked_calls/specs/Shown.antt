@@ -23,7 +23,7 @@ line_shown bad = codes "line " ++ (decimal 1 ++ codes "\n")
 abbrev pub IsModuleShown : (bytes text : List ℕ) → Type 0
 IsModuleShown bytes text = (m : Form) × IsTextOf bytes m × (text ≡ printed m)
 
--- what is shown of a schedule, of a line and of a module; of tokens and of shells nothing is said
+-- what is shown of a schedule, of a line and of a module; of tokens, of roots and of shells nothing is said
 pub record IsShown (kind bytes text : List ℕ) : Type 0 where
   pub shows_schedule : kind ≡ codes "printed" → IsScheduleShown bytes text
   pub shows_line : kind ≡ codes "event" → text ≡ line_shown (event_reading bytes)

@@ -4,16 +4,14 @@ ghost use Rattle.blz_outside.specs.MemFiles.{bytes_at};
 ghost use Rattle.sched_text.specs.Reading.{event_reading};
 ghost use Rattle.worked_calls.specs.Shown.{AreShown, IsScheduleShown, IsShown, line_shown};
 
+use crate::inputs::{FILE_LIMIT, bytes_in};
 use crate::modules::module_shown;
 use crate::shells::shells_shown;
 use crate::sides::sides_shown;
 use anyhow::{Result, bail};
-use blz_outside::{End, Files, MemFiles};
+use blz_outside::MemFiles;
 use sched_text::{Schedule, ScheduleFault, print, read_line};
 use std::alloc::Global;
-
-/// The most bytes of a file.
-const FILE_LIMIT: usize = 16_777_216;
 
 /// What is shown for these words over files:
 ///
@@ -36,19 +34,6 @@ pub fn shown(alloc: Global, words: &[String], files: &mut MemFiles) -> Result<Ve
         kind.as_str(),
         &bytes_in(alloc, name.as_str(), files)?,
     )
-}
-
-// The bytes of a file.
-fn bytes_in(alloc: Global, name: &str, files: &mut MemFiles) -> Result<Vec<u8>>
-    ensures within { IfOk result (λ bytes. vec_len bytes ≤ FILE_LIMIT) }
-    ensures bytes { IfOk result (λ bytes. bytes_at files.old.files name.now ≡ Some bytes.items) }
-    ensures files { files.new.files ≡ files.old.files }
-{
-    let mut bytes = Vec::new(alloc);
-    match files.read(name, FILE_LIMIT, &mut bytes)? {
-        End::Whole => Ok(bytes),
-        End::More => bail!("{name} is too long"),
-    }
 }
 
 // What is shown of the bytes of a file.

@@ -4,9 +4,16 @@
 
 mod benches;
 mod calls;
+mod inboxes;
+mod inputs;
 mod modules;
+mod nets;
+mod roots;
+mod runs;
 mod shells;
 mod sides;
+mod works;
 
 pub use benches::{PoorShell, TellingShell};
 pub use calls::shown;
+pub use works::work_shown;

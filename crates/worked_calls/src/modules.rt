@@ -1,7 +1,8 @@
-//! What is shown of the text of a module: its tokens, or what is printed of it.
+//! What is shown of the text of a module: its tokens, what is printed of it, or the roots of its outputs.
 ghost use Rattle.std.specs.Prelude.{◌≡◌, ◌<◌, ◌-◌, ◌^◌, IfOk, codes, length};
 ghost use Rattle.worked_calls.specs.Shown.{IsModuleShown};
 
+use crate::roots::roots_shown;
 use anyhow::{Result, bail};
 use bloom_check::check;
 use bloom_parse::{ParseFault, parse, print, tokens};
@@ -12,6 +13,7 @@ use std::alloc::{AllocError, Global};
 /// - `tokens`: its tokens, each with the numbers of its first byte and of the byte behind it, or the place
 ///   of its first bad token.
 /// - `module`: the module that it is, once that was checked, as it is printed.
+/// - `roots`: the root of each column of each of its outputs.
 pub(crate) fn module_shown(alloc: Global, kind: &str, text: &[u8]) -> Result<Vec<u8>>
     requires { length text.now < 2 ^ 32 - 1 }
     ensures { IfOk result (λ shown. kind.now ≡ codes "module" → IsModuleShown text.now shown.items) }
@@ -19,6 +21,7 @@ pub(crate) fn module_shown(alloc: Global, kind: &str, text: &[u8]) -> Result<Vec
     match kind {
         "tokens" => tokens_shown(alloc, text),
         "module" => printed(alloc, text),
+        "roots" => roots_shown(alloc, text),
         _ => bail!("nothing of a module is shown as {kind}"),
     }
 }

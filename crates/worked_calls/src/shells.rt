@@ -157,7 +157,11 @@ fn kept_and_cleared(
 }
 
 // Adds a line with the first table of a loaded shell.
-fn show_kept(alloc: Global, shell: &Box<dyn Component>, shown: &mut Vec<u8>) -> Result<()>
+pub(crate) fn show_kept(
+    alloc: Global,
+    shell: &Box<dyn Component>,
+    shown: &mut Vec<u8>,
+) -> Result<()>
     requires loaded { IsSome (program shell.now) }
     requires table { 0 < length (kept shell.now) }
 {

@@ -4,7 +4,7 @@ use anyhow::Result;
 use blazes_cli::Status;
 use blz_outside::{Files, MemFiles, MemSink, RealFiles, Sink};
 use std::alloc::{AllocError, Global};
-use worked_calls::shown;
+use worked_calls::{shown, work_shown};
 
 // The most bytes of a file of rows, of a file beside it, and of what is written where no other room is
 // given.
@@ -148,7 +148,10 @@ impl Question {
         let mut files = self.copied(alloc)?;
         let text = match plan_shown(alloc, &self.words, &mut files)? {
             Some(text) => text,
-            None => shown(alloc, &self.words, &mut files)?,
+            None => match work_shown(alloc, &self.words, &mut files)? {
+                Some(text) => text,
+                None => shown(alloc, &self.words, &mut files)?,
+            },
         };
         match out.put(text.as_slice()) {
             Ok(()) => Ok((Status::Done, out)),

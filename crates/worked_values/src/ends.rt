@@ -19,6 +19,11 @@ pub(crate) fn show_read<F: Files>(
     }
 }
 
+/// How many faults an end counted.
+pub(crate) fn show_faults(lines: &mut Lines, faults: u64) -> Result<(), AllocError> {
+    lines.number("faults", i64::try_from(faults).unwrap_or(i64::MAX))
+}
+
 // Files in memory, of which the first with a name counts, and whose second read fails.
 fn mem_files(lines: &Lines) -> Result<MemFiles, AllocError> {
     let alloc = lines.alloc();

@@ -1,0 +1,23 @@
+-- A net that is opened runs, seen by an equal topology, and so it does after steps of which none was refused.
+use Rattle.std.proofs.Common.{◌≡◌, ◌++◌, ℕ, OnOk, List, [], Option, Result, Ok, Err, sym, subst}
+use Rattle.bloom_ast.specs.declared.program.Program.{Program}
+use Rattle.bloom_ast.specs.Step.{Sets}
+use Rattle.topo_types.specs.Data.{Data}
+use Rattle.topo_types.specs.View.{View}
+use Rattle.sched_hear.specs.Net.{BooksRun, Runs, Stands}
+use Rattle.sched_hear.specs.declared.books.Books.{Books}
+use Rattle.sched_run.specs.Making.{RunsFirst}
+use Rattle.replay_run.specs.Steps.{Applies, steps_in}
+use Rattle.replay_run.specs.declared.running.StepRefusal.{StepRefusal}
+use Rattle.replay_run.specs.declared.step.Step.{Step as NamedStep}
+
+pub first_runs : (v w : View) (given : Data) (loaded : List (Option Program)) (tables : List Sets) (b : Books) → w ≡ v → Stands v given [] loaded tables b → RunsFirst w loaded tables b
+first_runs v w given loaded tables b same stands =
+    subst (λ (u : View). RunsFirst u loaded tables b) (sym same) (record { given = given; stands = stands })
+
+pub still_runs : {X : Type 0} (step : X → NamedStep) (v w : View) (lines : List (ℕ × X)) (loaded : List (Option Program)) (tables next : List Sets) (old new : Books) (applied : Result (Unit {0}) StepRefusal)
+    → w ≡ v → Runs v loaded tables old → Applies step v loaded tables next old new lines applied → OnOk applied (BooksRun w new)
+still_runs step v w lines loaded tables next old new (Ok done) same runs applies =
+    let reaches = applies runs.given runs.steps runs.stands in
+    subst (λ (u : View). BooksRun u new) (sym same) (record { given = runs.given; steps = runs.steps ++ steps_in step v lines; stand = reaches.stands.books })
+still_runs step v w lines loaded tables next old new (Err refusal) same runs applies = tt

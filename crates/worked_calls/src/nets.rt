@@ -1,0 +1,167 @@
+//! What is shown of a net: the schedule that it makes, how many records it keeps, and what was emitted.
+ghost use Rattle.std.specs.Prelude.{◌≡◌, ◌<◌, IfOk, length, map};
+ghost use Rattle.sched_hear.specs.Net.{BooksRun, Runs};
+ghost use Rattle.sched_run.specs.Making.{RunsFirst};
+ghost use Rattle.topo_types.specs.Data.{IsData};
+
+use crate::benches::PoorShell;
+use crate::inputs::{given_of, schedule_of, valid_of};
+use anyhow::{Result, bail};
+use blz_boxes::{Component, PlainShell, SplitShell};
+use blz_outside::MemFiles;
+use blz_value::write_record;
+use data_read::Data;
+use inbox::Message;
+use replay_run::run;
+use sched_run::{Net, make};
+use sched_text::{Event, print};
+use std::alloc::Global;
+use topo_types::Valid;
+
+/// The schedule that is made of the seed 0 over a topology and data, as it is printed.
+pub(crate) fn made_shown(
+    alloc: Global,
+    topology: &str,
+    given: &str,
+    files: &mut MemFiles,
+) -> Result<Vec<u8>> {
+    let valid = valid_of(alloc, topology, files)?;
+    let given = given_of(alloc, &valid, given, files)?;
+    shown_over(alloc, &valid, given, "made", &[])
+}
+
+/// What is shown, by this word, of a net after the events of a schedule.
+pub(crate) fn run_shown(
+    alloc: Global,
+    kind: &str,
+    names: (&str, &str, &str),
+    files: &mut MemFiles,
+) -> Result<Vec<u8>> {
+    let valid = valid_of(alloc, names.0, files)?;
+    let given = given_of(alloc, &valid, names.1, files)?;
+    let schedule = schedule_of(alloc, names.2, files)?;
+    shown_over(alloc, &valid, given, kind, schedule.lines())
+}
+
+// The same over shells of its own, where one for modules may want memory at each step.
+fn shown_over(
+    alloc: Global,
+    valid: &Valid,
+    given: Data,
+    kind: &str,
+    lines: &[(u32, Event)],
+) -> Result<Vec<u8>>
+    requires { IsData valid.now.view given }
+{
+    let mut bench: Vec<Box<dyn Component>> = Vec::new(alloc);
+    bench.push(Box::new(alloc, SplitShell::new(alloc))?)?;
+    if kind == "poor" {
+        bench.push(Box::new(alloc, PoorShell::new(PlainShell::new(alloc)))?)?;
+    }
+    for _ in 0..8 {
+        bench.push(Box::new(alloc, PlainShell::new(alloc))?)?;
+    }
+    opened_shown(alloc, valid, given, &mut bench, kind, lines)
+}
+
+fn opened_shown(
+    alloc: Global,
+    valid: &Valid,
+    given: Data,
+    bench: &mut Vec<Box<dyn Component>>,
+    kind: &str,
+    lines: &[(u32, Event)],
+) -> Result<Vec<u8>>
+    requires { IsData valid.now.view given }
+{
+    let mut net = Net::open(alloc, valid, given, bench)?;
+    match kind {
+        "made" => made_text(alloc, &mut net),
+        "emitted" => emitted_text(alloc, &mut net, lines),
+        _ => placed_text(alloc, &mut net, lines),
+    }
+}
+
+// The schedule that a net makes.
+fn made_text(alloc: Global, net: &mut Net<'_>) -> Result<Vec<u8>>
+    requires { RunsFirst net.old.valid.now.view (map (λ b. program b) net.old.shells.items) (map (λ b. kept b) net.old.shells.items) net.old.books }
+{
+    Ok(print(alloc, &make(net, 0)?)?)
+}
+
+// How many records a net keeps after some events, or the line that is refused; and whether it is ended.
+fn placed_text(alloc: Global, net: &mut Net<'_>, lines: &[(u32, Event)]) -> Result<Vec<u8>>
+    requires { Runs net.old.valid.now.view (map (λ b. program b) net.old.shells.items) (map (λ b. kept b) net.old.shells.items) net.old.books }
+{
+    let mut shown = String::new(alloc);
+    match run(net, lines) {
+        Ok(()) => writeln!(shown, "placed {}\npool {}", net.placed(), net.pool().len())?,
+        Err(refusal) => writeln!(shown, "refused {}", refusal.line)?,
+    }
+    writeln!(shown, "ended {}", net.is_ended())?;
+    Ok(shown.into_bytes())
+}
+
+// The messages of all emitted lists after some events.
+fn emitted_text(alloc: Global, net: &mut Net<'_>, lines: &[(u32, Event)]) -> Result<Vec<u8>>
+    requires { Runs net.old.valid.now.view (map (λ b. program b) net.old.shells.items) (map (λ b. kept b) net.old.shells.items) net.old.books }
+{
+    match run(net, lines) {
+        Ok(()) => lists_text(alloc, net),
+        Err(refusal) => bail!("the event in line {} can't happen", refusal.line),
+    }
+}
+
+fn lists_text(alloc: Global, net: &Net<'_>) -> Result<Vec<u8>>
+    requires { BooksRun net.now.valid.now.view net.now.books }
+{
+    let mut shown = Vec::new(alloc);
+    for stream in 0..net.valid().stream_count() {
+        stream_shown(alloc, net, stream, &mut shown)?;
+    }
+    Ok(shown)
+}
+
+fn stream_shown(alloc: Global, net: &Net<'_>, stream: u32, shown: &mut Vec<u8>) -> Result<()>
+    requires runs { BooksRun net.now.valid.now.view net.now.books }
+    requires stream { stream < length net.now.valid.now.view.streams }
+{
+    for replica in 0..net.valid().stream_replicas(stream) {
+        list_shown(alloc, net, stream, replica, shown)?;
+    }
+    Ok(())
+}
+
+// Adds a line for each message of an emitted list, with its stream, its replica and its index.
+fn list_shown(
+    alloc: Global,
+    net: &Net<'_>,
+    stream: u32,
+    replica: u32,
+    shown: &mut Vec<u8>,
+) -> Result<()>
+    requires runs { BooksRun net.now.valid.now.view net.now.books }
+    requires stream { stream < length net.now.valid.now.view.streams }
+{
+    let name = net.valid().stream_name(stream).as_str();
+    let messages = net.books().messages(net.valid(), stream, replica);
+    for (index, message) in messages.iter().enumerate() {
+        let front = format!(in alloc; "{name} {replica} {index} ")?;
+        shown.extend_from_slice(front.as_bytes())?;
+        match message {
+            Message::Row(_) => {
+                if let Some(row) = net.record_at(stream, replica, index as u32) {
+                    write_record(row, shown)?;
+                }
+            }
+            Message::Seal { key, count } => {
+                shown.extend_from_slice(b"seal ")?;
+                write_record(key, shown)?;
+                let counted = format!(in alloc; " of {count}")?;
+                shown.extend_from_slice(counted.as_bytes())?;
+            }
+        }
+        shown.push(b'\n')?;
+    }
+    Ok(())
+}

@@ -1,0 +1,76 @@
+//! What is shown of the roots of a module's outputs.
+ghost use Rattle.std.specs.Prelude.{◌<◌, ◌-◌, ◌^◌, IfOk, length};
+ghost use Rattle.bloom_ast.specs.Program.{IsStock, output_columns};
+
+use anyhow::Result;
+use bloom_ast::{Checked, Collection, Kind, Program};
+use bloom_check::check;
+use bloom_parse::parse;
+use fd_closure::AttrNames;
+use path_trace::roots;
+use std::alloc::Global;
+
+/// A line for each output of the module of a text, with the root of each of its columns. The attributes are
+/// the names of its ports' columns.
+pub(crate) fn roots_shown(alloc: Global, text: &[u8]) -> Result<Vec<u8>>
+    requires { length text.now < 2 ^ 32 - 1 }
+{
+    let module = parse(alloc, text)?;
+    let checked = check(alloc, &module)?;
+    let names = port_names(alloc, &checked)?;
+    let program = Program::Module(checked);
+    let mut shown = Vec::new(alloc);
+    for output in 0..program.output_count() {
+        output_shown(alloc, &program, &names, output, &mut shown)?;
+    }
+    Ok(shown)
+}
+
+// The names of the columns of a module's ports, each once.
+fn port_names(alloc: Global, checked: &Checked) -> Result<AttrNames> {
+    let mut names = AttrNames::new(alloc);
+    for collection in checked.module().collections.as_slice() {
+        if collection.kind == Kind::Input {
+            add_columns(collection, &mut names)?;
+        }
+    }
+    Ok(names)
+}
+
+fn add_columns(collection: &Collection, names: &mut AttrNames) -> Result<()> {
+    for column in collection.columns.as_slice() {
+        let _ = names.add(column)?;
+    }
+    Ok(())
+}
+
+// Adds a line with the root of each column of an output.
+fn output_shown(
+    alloc: Global,
+    program: &Program,
+    names: &AttrNames,
+    output: u32,
+    shown: &mut Vec<u8>,
+) -> Result<()>
+    requires stock { IsStock program.now }
+    requires within { output < length (output_columns program.now) }
+{
+    shown.extend_from_slice(b"roots")?;
+    for root in &roots(alloc, program, names, output)? {
+        shown.push(b' ')?;
+        shown.extend_from_slice(name_of(names, *root).as_bytes())?;
+    }
+    shown.push(b'\n')?;
+    Ok(())
+}
+
+// The name of a root, or that there is none.
+fn name_of(names: &AttrNames, root: Option<u8>) -> &str {
+    match root {
+        Some(number) => match names.names().get(number as usize) {
+            Some(name) => name.as_str(),
+            None => "unknown",
+        },
+        None => "none",
+    }
+}

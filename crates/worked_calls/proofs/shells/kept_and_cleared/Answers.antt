@@ -4,6 +4,6 @@ use Rattle.worked_calls.proofs.shells.kept_and_cleared.Goals as goal
 
 pub show_kept-requires-2-clause-table : goal.show_kept-requires-2-clause-table
 show_kept-requires-2-clause-table g c =
-    let loaded = subst (λ p. (g.dyn-1.0.entry p.0).1.program p.1 ≡ Some c.args.program.now) (sym c.deref_box_mut-1.ensures.value.1) c.requires.loaded in
-    let one = emptied_tables _ c.args.program.now _ loaded c.clear.ensures.1.1 ∙ c.requires.table in
+    let loaded = subst (λ p. (g.dyn-1.0.entry p.0).1.program p.1 ≡ Some c.args.given.now) (sym c.deref_box_mut-1.ensures.value.1) c.requires.loaded in
+    let one = emptied_tables _ c.args.given.now _ loaded c.clear.ensures.1.1 ∙ c.requires.table in
     omega (arith, one)

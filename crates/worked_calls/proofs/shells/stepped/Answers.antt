@@ -3,4 +3,4 @@ use Rattle.blz_boxes.proofs.Tables.{stepped_tables}
 use Rattle.worked_calls.proofs.shells.stepped.Goals as goal
 
 pub returns-clause-kept : goal.returns-clause-kept
-returns-clause-kept g c = stepped_tables _ c.args.program.now _ _ _ (subst (λ p. (g.dyn-1.0.entry p.0).1.program p.1 ≡ Some c.args.program.now) (sym c.deref_box_mut-1.ensures.value.1) c.requires.loaded) c.in_ok-step.ensures.1.1.0
+returns-clause-kept g c = stepped_tables _ c.args.given.now _ _ _ (subst (λ p. (g.dyn-1.0.entry p.0).1.program p.1 ≡ Some c.args.given.now) (sym c.deref_box_mut-1.ensures.value.1) c.requires.loaded) c.in_ok-step.ensures.1.1.0

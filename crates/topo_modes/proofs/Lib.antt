@@ -3,7 +3,7 @@ pub mod KeyNames
 pub mod NamedAttributes
 pub mod OtherModes
 pub mod OtherSites
-pub mod WithMode
+pub mod WithModeLaw
 pub mod Remoding
 pub mod ValidEnds
 pub mod NextWhole

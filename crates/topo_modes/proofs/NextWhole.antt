@@ -15,7 +15,7 @@ use Rattle.topo_types.proofs.Faults.NoFault.{length_sites}
 use Rattle.topo_modes.proofs.ValidEnds.{has_ends}
 use Rattle.topo_types.proofs.Views.ValidViews.{valid_law}
 use Rattle.topo_types.proofs.Views.ViewBounds.{view_bounded}
-use Rattle.topo_modes.proofs.WithMode.{with_mode_law}
+use Rattle.topo_modes.proofs.WithModeLaw.{with_mode_law}
 
 module _ (seen : Validated) (c : ℕ) (mode : Mode) (whole : IsWhole seen) (can : CanHaveMode seen.view c mode) where
   abbrev modules : List Accepted

@@ -1,4 +1,4 @@
-use Rattle.topo_modes.proofs.WithMode.{with_mode_law}
+use Rattle.topo_modes.proofs.WithModeLaw.{with_mode_law}
 use Rattle.topo_modes.proofs.laws.with_mode_law.Goals as goal
 
 pub returns : goal.returns

@@ -1,11 +1,13 @@
-//! The plans of a topology that the program doesn't make, as they are written.
-use anyhow::{Result, bail};
+//! The plans of a topology that the program doesn't make, and the topology with another mode, as they are
+//! written.
+use anyhow::{Result, bail, ensure};
 use blz_outside::MemFiles;
 use command_checks::valid_topology;
 use coord_synth::{order_plan, seal_plan};
 use std::alloc::Global;
+use topo_modes::WithMode;
 use topo_read::{topology_of, write};
-use topo_types::Valid;
+use topo_types::{Mode, Valid};
 
 // The valid topology of a file.
 fn valid_of(alloc: Global, name: &str, files: &mut MemFiles) -> Result<Valid> {
@@ -20,8 +22,16 @@ fn text_of(alloc: Global, planned: &Valid) -> Result<Vec<u8>> {
     Ok(write(alloc, &topology_of(alloc, planned)?)?)
 }
 
+// A topology with its first component free, as it is written.
+fn freed_text(alloc: Global, valid: &Valid) -> Result<Vec<u8>> {
+    ensure!(valid.component_count() > 0, "there is a component");
+    ensure!(valid.mode(0) != Mode::Order, "it isn't under a sequencer");
+    text_of(alloc, &valid.with_mode(alloc, 0, Mode::Free)?)
+}
+
 /// The plan of the topology of a file as it is written, without sequencers for `seals FILE`, without
-/// keys for `sequencers FILE`; None for other words.
+/// keys for `sequencers FILE`; the topology with its first component free for `freed FILE`; None for
+/// other words.
 pub(crate) fn plan_shown(
     alloc: Global,
     words: &[String],
@@ -38,6 +48,10 @@ pub(crate) fn plan_shown(
         "sequencers" => {
             let valid = valid_of(alloc, name.as_str(), files)?;
             Ok(Some(text_of(alloc, &order_plan(alloc, &valid)?)?))
+        }
+        "freed" => {
+            let valid = valid_of(alloc, name.as_str(), files)?;
+            Ok(Some(freed_text(alloc, &valid)?))
         }
         _ => Ok(None),
     }

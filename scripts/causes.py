@@ -21,7 +21,7 @@ def listed(names):
 def lacking(owner, kind, name, names):
     """That something has no such name, and which it has, the nearest first."""
     names = list(names)
-    nearest = difflib.get_close_matches(name, names, len(names), 0.5)
+    nearest = difflib.get_close_matches(name, names, 1)
     return f"{owner} has no {kind} {name}; it has {listed(nearest + [it for it in names if it not in nearest])}"
 
 

@@ -20,7 +20,8 @@ YES, NO, NO_ANSWER = 0, 1, 2
 UNREAD, INCOMPLETE = 3, 5
 
 ROOT = os.path.dirname(os.path.dirname(os.path.realpath(__file__)))
-PROGRAM = os.environ.get("BLAZES") or os.path.join(ROOT, "blazes")
+SCRIPT = os.path.join(ROOT, "blazes")
+PROGRAM = os.environ.get("BLAZES") or SCRIPT
 
 
 def end(why):
@@ -48,8 +49,8 @@ def given(page, least, most):
 
 def advice(text, words):
     """Where a module lies that the program couldn't read; ./blazes says that by itself."""
-    if os.environ.get("BLAZES") and text.startswith(b"cannot read "):
-        return "".join(f"{it}\n" for it in modules_here.advice(words[1:2])).encode()
+    if PROGRAM != SCRIPT and text.startswith(b"cannot read "):
+        return "".join(f"blazes: {it}\n" for it in modules_here.advice(words[1:2])).encode()
     return b""
 
 

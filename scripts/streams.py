@@ -33,6 +33,23 @@ def changed(before, after):
     return lines[True], lines[False]
 
 
+def sides(component, side):
+    """The ports or the outputs of a component (`input` or `output`), each with its columns; those of the output
+    of a stock body aren't told."""
+    if "module" in component:
+        with open(component["module"], encoding="utf-8") as file:
+            text = re.sub(r"#.*", "", file.read())
+        found = re.findall(rf"\b{side}\s+(\w+)\s*\(([^)]*)\)", text)
+        return {name: columns.replace(",", " ").split() for name, columns in found}
+    if "stock" not in component:
+        return {it["name"]: it["columns"] for it in component.get(f"{side}s", [])}
+    if side == "output":
+        return {"out": []}
+    if component["stock"] == "latest":
+        return {"put": component["columns"], "ask": component["keys"]}
+    return {"in": component["columns"]}
+
+
 # What goes from one sending replica of a stream to a port: `receiver` is a replica, or nothing where the
 # component has a log.
 Lane = namedtuple("Lane", "stream sender component port receiver")

@@ -2,6 +2,8 @@
 import json
 import re
 
+from streams import sides
+
 TEXT_OR_NUMBER = re.compile(r'"(?:\\.|[^"\\])*"|-?\d+')
 
 
@@ -21,19 +23,12 @@ class Waiting:
 
     # ---- columns and keys
 
-    def port_columns(self, component, port):
-        table = self.wiring.components[component]
-        if "module" in table:
-            with open(table["module"], encoding="utf-8") as file:
-                text = re.sub(r"#.*", "", file.read())
-            return re.search(rf"\binput\s+{port}\s*\(([^)]*)\)", text)[1].replace(",", " ").split()
-        if "stock" in table:
-            return table["keys"] if (table["stock"], port) == ("latest", "ask") else table["columns"]
-        return next(it["columns"] for it in table["inputs"] if it["name"] == port)
-
     def columns(self, stream):
         table = self.wiring.streams[stream]
-        return table["columns"] if "columns" in table else self.port_columns(*table["to"][0].split("."))
+        if "columns" in table:
+            return table["columns"]
+        component, port = table["to"][0].split(".")
+        return sides(self.wiring.components[component], "input")[port]
 
     def key(self, component):
         """The key of a component, in the order in which its names first occur."""

@@ -1,4 +1,2 @@
 pub mod Ports
 pub mod NetRuns
-pub mod TableCounts
-pub mod RunsLemmas

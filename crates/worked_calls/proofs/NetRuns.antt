@@ -4,7 +4,7 @@ use Rattle.bloom_ast.specs.declared.program.Program.{Program}
 use Rattle.bloom_ast.specs.Step.{Sets}
 use Rattle.topo_types.specs.Data.{Data}
 use Rattle.topo_types.specs.View.{View}
-use Rattle.sched_hear.specs.Net.{BooksRun, Runs, Stands}
+use Rattle.sched_hear.specs.Net.{BooksRun, Stands}
 use Rattle.sched_hear.specs.declared.books.Books.{Books}
 use Rattle.sched_run.specs.Making.{RunsFirst}
 use Rattle.replay_run.specs.Steps.{Applies, steps_in}
@@ -16,8 +16,8 @@ first_runs v w given loaded tables b same stands =
     subst (λ (u : View). RunsFirst u loaded tables b) (sym same) (record { given = given; stands = stands })
 
 pub still_runs : {X : Type 0} (step : X → NamedStep) (v w : View) (lines : List (ℕ × X)) (loaded : List (Option Program)) (tables next : List Sets) (old new : Books) (applied : Result (Unit {0}) StepRefusal)
-    → w ≡ v → Runs v loaded tables old → Applies step v loaded tables next old new lines applied → OnOk applied (BooksRun w new)
+    → w ≡ v → RunsFirst v loaded tables old → Applies step v loaded tables next old new lines applied → OnOk applied (BooksRun w new)
 still_runs step v w lines loaded tables next old new (Ok done) same runs applies =
-    let reaches = applies runs.given runs.steps runs.stands in
-    subst (λ (u : View). BooksRun u new) (sym same) (record { given = runs.given; steps = runs.steps ++ steps_in step v lines; stand = reaches.stands.books })
+    let reaches = applies runs.given [] runs.stands in
+    subst (λ (u : View). BooksRun u new) (sym same) (record { given = runs.given; steps = [] ++ steps_in step v lines; stand = reaches.stands.books })
 still_runs step v w lines loaded tables next old new (Err refusal) same runs applies = tt

@@ -1,5 +1,5 @@
 //! What is shown of an inbox that hears batches whose records a small pool keeps.
-ghost use Rattle.std.specs.Prelude.{◌≡◌, ◌<◌, All, IfOk, OnOk, length};
+ghost use Rattle.std.specs.Prelude.{◌≡◌, ◌<◌, All, IfOk, List, OnOk, length};
 ghost use Rattle.blz_value.specs.Record.{Row};
 ghost use Rattle.inbox.specs.Inbox.{IsFrom, feeds_in};
 ghost use Rattle.messages.specs.Ids.{IsGiven};
@@ -13,6 +13,13 @@ use blz_value::{Record, Value, write_record};
 use inbox::{Inbox, Message, Timesteps};
 use std::alloc::Global;
 use topo_types::{Mode, Valid};
+
+// A message of a batch: a record by its id, or the seal of a key, which counts so many records.
+#[derive(Clone, Copy)]
+enum Said {
+    Record(Id),
+    Seal(i64, u32),
+}
 
 // The pairs that are placed in a pool.
 const PAIRS: [(i64, i64); 4] = [(1, 10), (1, 11), (2, 20), (1, 12)];
@@ -44,38 +51,39 @@ fn batches_shown(
     ids: &[Id],
     shown: &mut Vec<u8>,
 ) -> Result<()> {
+    let mut inbox = inbox_of(alloc, valid)?;
+    five_shown(alloc, &mut inbox, pool, ids, shown)
+}
+
+fn five_shown(
+    alloc: Global,
+    inbox: &mut Inbox,
+    pool: &Pool,
+    ids: &[Id],
+    shown: &mut Vec<u8>,
+) -> Result<()>
+    requires feeds { feeds_in inbox.old ≡ 1 }
+    requires kept { IsFrom pool.now inbox.old }
+{
     let [ten, eleven, twenty, twelve] = ids else {
         return Ok(());
     };
-    let mut inbox = inbox_of(alloc, valid)?;
     // Two records are counted for 1, and one has come.
-    let batch = vec![in alloc; seal(alloc, 1, 2)?, record(pool, *ten)?]?;
-    hear_shown(alloc, &mut inbox, pool, batch, shown)?;
+    let said = [Said::Seal(1, 2), Said::Record(*ten)];
+    hear_shown(alloc, inbox, pool, &said, shown)?;
     // No seal for 2 has come.
-    hear_shown(
-        alloc,
-        &mut inbox,
-        pool,
-        vec![in alloc; record(pool, *twenty)?]?,
-        shown,
-    )?;
+    hear_shown(alloc, inbox, pool, &[Said::Record(*twenty)], shown)?;
     // Both are whole now.
-    let batch = vec![in alloc;
-        record(pool, *eleven)?,
-        record(pool, *twenty)?,
-        seal(alloc, 2, 1)?,
-    ]?;
-    hear_shown(alloc, &mut inbox, pool, batch, shown)?;
+    let said = [
+        Said::Record(*eleven),
+        Said::Record(*twenty),
+        Said::Seal(2, 1),
+    ];
+    hear_shown(alloc, inbox, pool, &said, shown)?;
     // A repeat sets nothing off, and what is new in a whole partition goes at once.
-    hear_shown(
-        alloc,
-        &mut inbox,
-        pool,
-        vec![in alloc; record(pool, *ten)?]?,
-        shown,
-    )?;
-    let batch = vec![in alloc; record(pool, *twelve)?, record(pool, *eleven)?]?;
-    hear_shown(alloc, &mut inbox, pool, batch, shown)
+    hear_shown(alloc, inbox, pool, &[Said::Record(*ten)], shown)?;
+    let said = [Said::Record(*twelve), Said::Record(*eleven)];
+    hear_shown(alloc, inbox, pool, &said, shown)
 }
 
 // The inbox of the first instance of a topology, which has one feed.
@@ -85,28 +93,39 @@ fn inbox_of(alloc: Global, valid: &Valid) -> Result<Inbox>
 {
     ensure!(valid.component_count() > 0, "there is a component");
     ensure!(valid.replicas(0) > 0, "it has an instance");
-    ensure!(valid.mode(0) != Mode::Order, "it hears messages");
+    ensure!(!matches!(valid.mode(0), Mode::Order), "it hears messages");
     let inbox = Inbox::new(alloc, valid, 0, 0)?;
     ensure!(inbox.feed_count() == 1, "it has one feed");
     Ok(inbox)
 }
 
-// A record on the first feed, whose id the pool gave.
-fn record(pool: &Pool, id: Id) -> Result<(u32, Message)>
-    ensures feed { IfOk result (λ pair. pair.0 ≡ 0) }
-    ensures given { IfOk result (λ pair. IsGiven pool.now pair.1) }
+// The messages of a batch, on the first feed.
+fn batch_of(alloc: Global, inbox: &Inbox, pool: &Pool, said: &[Said]) -> Result<Vec<(u32, Message)>>
+    requires { feeds_in inbox.now ≡ 1 }
+    ensures feeds { IfOk result (λ batch. All (λ pair. pair.0 < feeds_in inbox.now) batch.items) }
+    ensures given { IfOk result (λ batch. All (λ pair. IsGiven pool.now pair.1) batch.items) }
 {
-    ensure!((id.number() as usize) < pool.len(), "the pool gave the id");
-    Ok((0, Message::Row(id)))
+    let mut batch = Vec::new(alloc);
+    for one in said {
+        let message = message_of(alloc, pool, *one)?;
+        batch.push((0, message))?;
+    }
+    Ok(batch)
 }
 
-// The seal of a key on the first feed, which counts so many records.
-fn seal(alloc: Global, key: i64, count: u32) -> Result<(u32, Message)>
-    ensures feed { IfOk result (λ pair. pair.0 ≡ 0) }
-    ensures given { IfOk result (λ pair. (records : List Row) → IsGiven records pair.1) }
+fn message_of(alloc: Global, pool: &Pool, said: Said) -> Result<Message>
+    ensures { IfOk result (IsGiven pool.now) }
 {
-    let key = Record::from_values(vec![in alloc; Value::Int(key)]?);
-    Ok((0, Message::Seal { key, count }))
+    match said {
+        Said::Record(id) => {
+            ensure!((id.number() as usize) < pool.len(), "the pool gave the id");
+            Ok(Message::Row(id))
+        }
+        Said::Seal(key, count) => {
+            let key = Record::from_values(vec![in alloc; Value::Int(key)]?);
+            Ok(Message::Seal { key, count })
+        }
+    }
 }
 
 // Adds what a batch sets off, and how many records wait after it.
@@ -114,15 +133,15 @@ fn hear_shown(
     alloc: Global,
     inbox: &mut Inbox,
     pool: &Pool,
-    batch: Vec<(u32, Message)>,
+    said: &[Said],
     shown: &mut Vec<u8>,
 ) -> Result<()>
-    requires feeds { All (λ pair. pair.0 < feeds_in inbox.old) batch.items }
-    requires given { All (λ pair. IsGiven pool.now pair.1) batch.items }
+    requires feeds { feeds_in inbox.old ≡ 1 }
     requires kept { IsFrom pool.now inbox.old }
-    ensures feeds { OnOk result (feeds_in inbox.new ≡ feeds_in inbox.old) }
+    ensures feeds { OnOk result (feeds_in inbox.new ≡ 1) }
     ensures kept { OnOk result (IsFrom pool.now inbox.new) }
 {
+    let batch = batch_of(alloc, inbox, pool, said)?;
     let set_off = inbox.hear(pool, batch)?;
     set_off_shown(&set_off, shown)?;
     let held = format!(in alloc; "holds {}\n", inbox.held())?;

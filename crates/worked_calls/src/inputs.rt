@@ -5,7 +5,7 @@ ghost use Rattle.command_checks.specs.Checks as check;
 ghost use Rattle.command_files.specs.Ends.{Ends};
 ghost use Rattle.command_files.specs.Script.{Ending};
 ghost use Rattle.topo_types.specs.Data.{IsData};
-ghost use Rattle.worked_calls.specs.Runs.{told_of};
+ghost use Rattle.worked_calls.specs.Told.{told_of};
 
 use anyhow::{Result, bail};
 use blz_outside::{End, Files, MemFiles};
@@ -17,10 +17,10 @@ use std::alloc::Global;
 use topo_types::Valid;
 
 /// The most bytes of a file.
-pub(crate) const FILE_LIMIT: usize = 16_777_216;
+pub const FILE_LIMIT: usize = 16_777_216;
 
 /// The bytes of a file.
-pub(crate) fn bytes_in(alloc: Global, name: &str, files: &mut MemFiles) -> Result<Vec<u8>>
+pub fn bytes_in(alloc: Global, name: &str, files: &mut MemFiles) -> Result<Vec<u8>>
     ensures within { IfOk result (λ bytes. vec_len bytes ≤ FILE_LIMIT) }
     ensures bytes { IfOk result (λ bytes. bytes_at files.old.files name.now ≡ Some bytes.items) }
     ensures files { files.new.files ≡ files.old.files }
@@ -33,7 +33,7 @@ pub(crate) fn bytes_in(alloc: Global, name: &str, files: &mut MemFiles) -> Resul
 }
 
 /// The valid topology of a file.
-pub(crate) fn valid_of(alloc: Global, name: &str, files: &mut MemFiles) -> Result<Valid>
+pub fn valid_of(alloc: Global, name: &str, files: &mut MemFiles) -> Result<Valid>
     ensures told { IfOk result (λ valid. told_of files.new ≡ told_of files.old) }
     ensures ends { IfOk result (λ valid. Ends (told_of files.old) (check.valid_topology name.now) (Ending.gave valid)) }
 {

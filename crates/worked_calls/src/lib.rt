@@ -9,11 +9,12 @@ mod inputs;
 mod modules;
 mod nets;
 mod roots;
-mod runs;
 mod shells;
 mod sides;
 mod works;
 
 pub use benches::{PoorShell, TellingShell};
 pub use calls::shown;
+pub use inputs::{FILE_LIMIT, bytes_in, valid_of};
+pub use shells::show_kept;
 pub use works::work_shown;

@@ -1,6 +1,6 @@
 //! What is shown of a net: the schedule that it makes, how many records it keeps, and what was emitted.
-ghost use Rattle.std.specs.Prelude.{◌≡◌, ◌<◌, IfOk, length, map};
-ghost use Rattle.sched_hear.specs.Net.{BooksRun, Runs};
+ghost use Rattle.std.specs.Prelude.{◌≡◌, ◌<◌, OnOk, length, map};
+ghost use Rattle.sched_hear.specs.Net.{BooksRun};
 ghost use Rattle.sched_run.specs.Making.{RunsFirst};
 ghost use Rattle.topo_types.specs.Data.{IsData};
 
@@ -9,10 +9,10 @@ use crate::inputs::{given_of, schedule_of, valid_of};
 use anyhow::{Result, bail};
 use blz_boxes::{Component, PlainShell, SplitShell};
 use blz_outside::MemFiles;
-use blz_value::write_record;
+use blz_value::{Record, write_record};
 use data_read::Data;
 use inbox::Message;
-use replay_run::run;
+use replay_run::{StepRefusal, run};
 use sched_run::{Net, make};
 use sched_text::{Event, print};
 use std::alloc::Global;
@@ -43,7 +43,7 @@ pub(crate) fn run_shown(
     shown_over(alloc, &valid, given, kind, schedule.lines())
 }
 
-// The same over shells of its own, where one for modules may want memory at each step.
+// The same over shells of its own.
 fn shown_over(
     alloc: Global,
     valid: &Valid,
@@ -54,14 +54,20 @@ fn shown_over(
     requires { IsData valid.now.view given }
 {
     let mut bench: Vec<Box<dyn Component>> = Vec::new(alloc);
+    fill(alloc, &mut bench, kind == "poor")?;
+    opened_shown(alloc, valid, given, &mut bench, kind, lines)
+}
+
+// Adds a shell of Split and eight for modules, before which one may come that wants memory at each step.
+fn fill(alloc: Global, bench: &mut Vec<Box<dyn Component>>, is_poor: bool) -> Result<()> {
     bench.push(Box::new(alloc, SplitShell::new(alloc))?)?;
-    if kind == "poor" {
+    if is_poor {
         bench.push(Box::new(alloc, PoorShell::new(PlainShell::new(alloc)))?)?;
     }
     for _ in 0..8 {
         bench.push(Box::new(alloc, PlainShell::new(alloc))?)?;
     }
-    opened_shown(alloc, valid, given, &mut bench, kind, lines)
+    Ok(())
 }
 
 fn opened_shown(
@@ -75,26 +81,38 @@ fn opened_shown(
     requires { IsData valid.now.view given }
 {
     let mut net = Net::open(alloc, valid, given, bench)?;
+    net_shown(alloc, &mut net, kind, lines)
+}
+
+fn net_shown(
+    alloc: Global,
+    net: &mut Net<'_>,
+    kind: &str,
+    lines: &[(u32, Event)],
+) -> Result<Vec<u8>>
+    requires { RunsFirst net.old.valid.now.view (map (λ b. program (b.vtable, b.value)) net.old.shells.items) (map (λ b. kept (b.vtable, b.value)) net.old.shells.items) net.old.books }
+{
     match kind {
-        "made" => made_text(alloc, &mut net),
-        "emitted" => emitted_text(alloc, &mut net, lines),
-        _ => placed_text(alloc, &mut net, lines),
+        "made" => Ok(print(alloc, &make(net, 0)?)?),
+        "emitted" => emitted_text(alloc, net, lines),
+        _ => placed_text(alloc, net, lines),
     }
 }
 
-// The schedule that a net makes.
-fn made_text(alloc: Global, net: &mut Net<'_>) -> Result<Vec<u8>>
-    requires { RunsFirst net.old.valid.now.view (map (λ b. program b) net.old.shells.items) (map (λ b. kept b) net.old.shells.items) net.old.books }
+// Applies events to a net.
+fn ran(net: &mut Net<'_>, lines: &[(u32, Event)]) -> Result<(), StepRefusal>
+    requires { RunsFirst net.old.valid.now.view (map (λ b. program (b.vtable, b.value)) net.old.shells.items) (map (λ b. kept (b.vtable, b.value)) net.old.shells.items) net.old.books }
+    ensures { OnOk result (BooksRun net.new.valid.now.view net.new.books) }
 {
-    Ok(print(alloc, &make(net, 0)?)?)
+    run(net, lines)
 }
 
 // How many records a net keeps after some events, or the line that is refused; and whether it is ended.
 fn placed_text(alloc: Global, net: &mut Net<'_>, lines: &[(u32, Event)]) -> Result<Vec<u8>>
-    requires { Runs net.old.valid.now.view (map (λ b. program b) net.old.shells.items) (map (λ b. kept b) net.old.shells.items) net.old.books }
+    requires { RunsFirst net.old.valid.now.view (map (λ b. program (b.vtable, b.value)) net.old.shells.items) (map (λ b. kept (b.vtable, b.value)) net.old.shells.items) net.old.books }
 {
     let mut shown = String::new(alloc);
-    match run(net, lines) {
+    match ran(net, lines) {
         Ok(()) => writeln!(shown, "placed {}\npool {}", net.placed(), net.pool().len())?,
         Err(refusal) => writeln!(shown, "refused {}", refusal.line)?,
     }
@@ -104,64 +122,79 @@ fn placed_text(alloc: Global, net: &mut Net<'_>, lines: &[(u32, Event)]) -> Resu
 
 // The messages of all emitted lists after some events.
 fn emitted_text(alloc: Global, net: &mut Net<'_>, lines: &[(u32, Event)]) -> Result<Vec<u8>>
-    requires { Runs net.old.valid.now.view (map (λ b. program b) net.old.shells.items) (map (λ b. kept b) net.old.shells.items) net.old.books }
+    requires { RunsFirst net.old.valid.now.view (map (λ b. program (b.vtable, b.value)) net.old.shells.items) (map (λ b. kept (b.vtable, b.value)) net.old.shells.items) net.old.books }
 {
-    match run(net, lines) {
-        Ok(()) => lists_text(alloc, net),
+    match ran(net, lines) {
+        Ok(()) => lists_text(alloc, net.valid(), net),
         Err(refusal) => bail!("the event in line {} can't happen", refusal.line),
     }
 }
 
-fn lists_text(alloc: Global, net: &Net<'_>) -> Result<Vec<u8>>
-    requires { BooksRun net.now.valid.now.view net.now.books }
+// The messages of all emitted lists of a net of this topology.
+fn lists_text(alloc: Global, valid: &Valid, net: &Net<'_>) -> Result<Vec<u8>>
+    requires runs { BooksRun net.now.valid.now.view net.now.books }
+    requires valid { net.now.valid.now.view ≡ valid.now.view }
 {
     let mut shown = Vec::new(alloc);
-    for stream in 0..net.valid().stream_count() {
-        stream_shown(alloc, net, stream, &mut shown)?;
+    for stream in 0..valid.stream_count() {
+        stream_shown(alloc, valid, net, stream, &mut shown)?;
     }
     Ok(shown)
 }
 
-fn stream_shown(alloc: Global, net: &Net<'_>, stream: u32, shown: &mut Vec<u8>) -> Result<()>
+fn stream_shown(
+    alloc: Global,
+    valid: &Valid,
+    net: &Net<'_>,
+    stream: u32,
+    shown: &mut Vec<u8>,
+) -> Result<()>
     requires runs { BooksRun net.now.valid.now.view net.now.books }
-    requires stream { stream < length net.now.valid.now.view.streams }
+    requires valid { net.now.valid.now.view ≡ valid.now.view }
+    requires stream { stream < length valid.now.view.streams }
 {
-    for replica in 0..net.valid().stream_replicas(stream) {
-        list_shown(alloc, net, stream, replica, shown)?;
+    let name = valid.stream_name(stream);
+    for replica in 0..valid.stream_replicas(stream) {
+        for (index, message) in list_of(net, stream, replica).iter().enumerate() {
+            let front = format!(in alloc; "{} {replica} {index} ", name.as_str())?;
+            shown.extend_from_slice(front.as_bytes())?;
+            let row = match u32::try_from(index) {
+                Ok(index) => net.record_at(stream, replica, index),
+                Err(_) => None,
+            };
+            message_shown(alloc, message, row, shown)?;
+        }
     }
     Ok(())
 }
 
-// Adds a line for each message of an emitted list, with its stream, its replica and its index.
-fn list_shown(
-    alloc: Global,
-    net: &Net<'_>,
-    stream: u32,
-    replica: u32,
-    shown: &mut Vec<u8>,
-) -> Result<()>
-    requires runs { BooksRun net.now.valid.now.view net.now.books }
-    requires stream { stream < length net.now.valid.now.view.streams }
+// An emitted list.
+fn list_of<'n>(net: &'n Net<'_>, stream: u32, replica: u32) -> &'n [Message]
+    requires { BooksRun net.now.valid.now.view net.now.books }
 {
-    let name = net.valid().stream_name(stream).as_str();
-    let messages = net.books().messages(net.valid(), stream, replica);
-    for (index, message) in messages.iter().enumerate() {
-        let front = format!(in alloc; "{name} {replica} {index} ")?;
-        shown.extend_from_slice(front.as_bytes())?;
-        match message {
-            Message::Row(_) => {
-                if let Some(row) = net.record_at(stream, replica, index as u32) {
-                    write_record(row, shown)?;
-                }
-            }
-            Message::Seal { key, count } => {
-                shown.extend_from_slice(b"seal ")?;
-                write_record(key, shown)?;
-                let counted = format!(in alloc; " of {count}")?;
-                shown.extend_from_slice(counted.as_bytes())?;
+    net.books().messages(net.valid(), stream, replica)
+}
+
+// Adds the rest of the line of a message, whose record is this.
+fn message_shown(
+    alloc: Global,
+    message: &Message,
+    row: Option<&Record>,
+    shown: &mut Vec<u8>,
+) -> Result<()> {
+    match message {
+        Message::Row(_) => {
+            if let Some(row) = row {
+                write_record(row, shown)?;
             }
         }
-        shown.push(b'\n')?;
+        Message::Seal { key, count } => {
+            shown.extend_from_slice(b"seal ")?;
+            write_record(key, shown)?;
+            let counted = format!(in alloc; " of {count}")?;
+            shown.extend_from_slice(counted.as_bytes())?;
+        }
     }
+    shown.push(b'\n')?;
     Ok(())
 }

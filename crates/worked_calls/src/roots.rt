@@ -18,10 +18,16 @@ pub(crate) fn roots_shown(alloc: Global, text: &[u8]) -> Result<Vec<u8>>
     let module = parse(alloc, text)?;
     let checked = check(alloc, &module)?;
     let names = port_names(alloc, &checked)?;
-    let program = Program::Module(checked);
+    program_shown(alloc, &Program::Module(checked), &names)
+}
+
+// The same of its program.
+fn program_shown(alloc: Global, program: &Program, names: &AttrNames) -> Result<Vec<u8>>
+    requires { IsStock program.now }
+{
     let mut shown = Vec::new(alloc);
     for output in 0..program.output_count() {
-        output_shown(alloc, &program, &names, output, &mut shown)?;
+        output_shown(alloc, program, names, output, &mut shown)?;
     }
     Ok(shown)
 }

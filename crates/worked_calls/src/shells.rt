@@ -156,12 +156,8 @@ fn kept_and_cleared(
     show_kept(alloc, shell, shown)
 }
 
-// Adds a line with the first table of a loaded shell.
-pub(crate) fn show_kept(
-    alloc: Global,
-    shell: &Box<dyn Component>,
-    shown: &mut Vec<u8>,
-) -> Result<()>
+/// Adds a line with the first table of a loaded shell.
+pub fn show_kept(alloc: Global, shell: &Box<dyn Component>, shown: &mut Vec<u8>) -> Result<()>
     requires loaded { IsSome (program shell.now) }
     requires table { 0 < length (kept shell.now) }
 {

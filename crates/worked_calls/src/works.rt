@@ -1,7 +1,6 @@
 //! What the rows themselves show of nets, inboxes and benches, of calls that the program doesn't make.
 use crate::inboxes::heard_shown;
 use crate::nets::{made_shown, run_shown};
-use crate::runs::kept_shown;
 use anyhow::Result;
 use blz_outside::MemFiles;
 use std::alloc::Global;
@@ -13,8 +12,6 @@ use std::alloc::Global;
 /// - `placed TOPOLOGY DATA SCHEDULE`: how many records a net keeps after the schedule, and whether it is ended.
 /// - `poor TOPOLOGY DATA SCHEDULE`: the same where a shell for modules wants memory at each step.
 /// - `emitted TOPOLOGY DATA SCHEDULE`: each message that was emitted, list by list.
-/// - `run TOPOLOGY DATA SCHEDULE`: what the last shell of a bench keeps once the program ran, as
-///   [`kept_shown`] says.
 pub fn work_shown(
     alloc: Global,
     words: &[String],
@@ -30,7 +27,6 @@ pub fn work_shown(
         [kind, topology, given, schedule] => {
             let names = (topology.as_str(), given.as_str(), schedule.as_str());
             match kind.as_str() {
-                "run" => Ok(Some(kept_shown(alloc, words, files)?)),
                 "placed" | "poor" | "emitted" => {
                     Ok(Some(run_shown(alloc, kind.as_str(), names, files)?))
                 }

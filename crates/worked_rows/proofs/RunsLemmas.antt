@@ -1,7 +1,7 @@
 -- Where words ask for a run of a topology of one instance, the last shell of the bench has its program and its tables.
 -- The checks end in one way over files that are steady. They begin with the topology, which is known, and all that they
 -- give is an execution of it. So the answer under Done or Incomplete says what the bench ends with.
-use Rattle.std.proofs.Common.{◌≡◌, ◌⊎◌, ◌∙◌, ◌++◌, inl, inr, true, ℕ, List, [], ◌∷◌, Option, None, Some, IsTrue, length, map, replicate, refl, sym, subst, ap}
+use Rattle.std.proofs.Common.{◌≡◌, ◌⊎◌, ◌∙◌, ◌++◌, inl, inr, true, List, [], ◌∷◌, Option, None, Some, IsTrue, map, replicate, refl, sym, subst, ap}
 use Rattle.std.specs.List.{flat_map}
 use Rattle.std.specs.Option.{option_map_or}
 use Rattle.blz_outside.specs.Files.{FileMap}
@@ -21,7 +21,7 @@ use Rattle.blazes_words.specs.Words.{Asked, RunFiles, request_of}
 use Rattle.command_files.specs.Script.{Bytes, Script, Ending, ◌>>=◌}
 use Rattle.command_files.specs.Script.Script.{gives, refuses, reads}
 use Rattle.command_files.specs.Script.Ending.{gave, refused, failed}
-use Rattle.command_files.specs.Ends.{Told, FilesStates, Ends, ended}
+use Rattle.command_files.specs.Ends.{FilesStates, Ends, ended}
 use Rattle.command_files.specs.Reply.{Answer}
 use Rattle.command_files.specs.declared.status.Status.{Status}
 use Rattle.command_files.specs.declared.status.Status.TheVariants.{Done, Incomplete}

@@ -1,11 +1,10 @@
 -- An instance with a program keeps one set for each of its tables, whatever came to it.
-use Rattle.std.proofs.Common.{◌≡◌, ◌∙◌, ℕ, List, [], ◌∷◌, Option, Some, length, map, refl, sym, subst, ap}
+use Rattle.std.proofs.Common.{◌≡◌, ◌∙◌, List, [], ◌∷◌, Option, Some, length, sym, subst, ap}
 use Rattle.std.specs.List.{fold}
 use Rattle.std.proofs.lemmas.List.{length-map}
 use Rattle.bloom_ast.specs.declared.program.Program.{Program}
 use Rattle.bloom_ast.specs.Program.{table_columns}
 use Rattle.bloom_ast.specs.Query.{Name}
-use Rattle.bloom_ast.specs.Step.{Sets}
 use Rattle.blz_boxes.proofs.Tables.{as_many_tables}
 use Rattle.inbox.specs.Emission.{Kept, emit, emit_of, emit_step, first_tables, begin_life, nothing_emitted}
 use Rattle.inbox.specs.Instances.{Instance}

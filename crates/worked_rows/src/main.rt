@@ -29,6 +29,7 @@
 
 mod plans;
 mod question;
+mod runs;
 
 use crate::question::{Question, bytes_of};
 use anyhow::{Result, bail};

@@ -1,5 +1,6 @@
 //! What the rows of a file ask, heading by heading, and the answer to it.
 use crate::plans::plan_shown;
+use crate::runs::run_shown;
 use anyhow::Result;
 use blazes_cli::Status;
 use blz_outside::{Files, MemFiles, MemSink, RealFiles, Sink};
@@ -146,18 +147,26 @@ impl Question {
     pub(crate) fn shown(&self, alloc: Global) -> Result<(Status, MemSink)> {
         let mut out = MemSink::new(alloc, self.room)?;
         let mut files = self.copied(alloc)?;
-        let text = match plan_shown(alloc, &self.words, &mut files)? {
-            Some(text) => text,
-            None => match work_shown(alloc, &self.words, &mut files)? {
-                Some(text) => text,
-                None => shown(alloc, &self.words, &mut files)?,
-            },
-        };
+        let text = text_shown(alloc, &self.words, &mut files)?;
         match out.put(text.as_slice()) {
             Ok(()) => Ok((Status::Done, out)),
             Err(_) => Ok((Status::WriteFault, out)),
         }
     }
+}
+
+// What the rows show for their words: a plan, what a run leaves, or what calls give.
+fn text_shown(alloc: Global, words: &[String], files: &mut MemFiles) -> Result<Vec<u8>> {
+    if let Some(text) = plan_shown(alloc, words, files)? {
+        return Ok(text);
+    }
+    if let Some(text) = run_shown(alloc, words, files)? {
+        return Ok(text);
+    }
+    if let Some(text) = work_shown(alloc, words, files)? {
+        return Ok(text);
+    }
+    shown(alloc, words, files)
 }
 
 // A text so many times, the first star in it being the number of the time.

@@ -1,0 +1,2 @@
+mod TableCounts
+mod RunsLemmas

@@ -43,7 +43,8 @@ pub(crate) fn run_shown(
     shown_over(alloc, &valid, given, kind, schedule.lines())
 }
 
-// The same over shells of its own.
+// The same over shells of its own: one of Split and eight for modules, before which one may come that wants
+// memory at each step.
 fn shown_over(
     alloc: Global,
     valid: &Valid,
@@ -54,20 +55,14 @@ fn shown_over(
     requires { IsData valid.now.view given }
 {
     let mut bench: Vec<Box<dyn Component>> = Vec::new(alloc);
-    fill(alloc, &mut bench, kind == "poor")?;
-    opened_shown(alloc, valid, given, &mut bench, kind, lines)
-}
-
-// Adds a shell of Split and eight for modules, before which one may come that wants memory at each step.
-fn fill(alloc: Global, bench: &mut Vec<Box<dyn Component>>, is_poor: bool) -> Result<()> {
     bench.push(Box::new(alloc, SplitShell::new(alloc))?)?;
-    if is_poor {
+    if kind == "poor" {
         bench.push(Box::new(alloc, PoorShell::new(PlainShell::new(alloc)))?)?;
     }
     for _ in 0..8 {
         bench.push(Box::new(alloc, PlainShell::new(alloc))?)?;
     }
-    Ok(())
+    opened_shown(alloc, valid, given, &mut bench, kind, lines)
 }
 
 fn opened_shown(

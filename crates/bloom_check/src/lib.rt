@@ -1,5 +1,4 @@
-//! The check of a module: its first fault, or the module with its heads in order; and the words that
-//! are no names.
+//! The check of a module: its first fault, or the module with its heads in order.
 #![tactic(auto)]
 
 mod bounds;
@@ -9,9 +8,7 @@ mod fits;
 mod kinds;
 mod laws;
 mod reads;
-mod reserved;
 
 pub use checking::check;
 pub use fits::repeats_column;
 pub use laws::fault_law;
-pub use reserved::{has_own_names, is_reserved};

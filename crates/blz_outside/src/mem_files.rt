@@ -10,7 +10,7 @@ use crate::files::{End, Files, ReadFail};
 use std::marker::Model;
 
 /// Files in memory. The first file with a name counts, and a read of a missing name is a fault.
-#[derive(Debug, Drop)]
+#[derive(Drop)]
 pub struct MemFiles {
     files: Vec<(String, Vec<u8>)>,
     failing: Vec<u64>,

@@ -10,7 +10,7 @@ use std::alloc::{AllocError, Global};
 use std::cmp::Ordering;
 
 /// A row, with its value in the first of some columns at hand.
-#[derive(Clone, Copy, Debug)]
+#[derive(Clone, Copy)]
 pub(crate) struct Entry<'a> {
     first: ValueRef<'a>,
     row: &'a Record,

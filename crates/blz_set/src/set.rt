@@ -24,7 +24,7 @@ use std::marker::Model;
 pub(crate) const ROW_LIMIT: usize = 262_144;
 
 /// At most 262,144 records, each once, in record order.
-#[derive(Debug, Drop)]
+#[derive(Drop)]
 pub struct RecordSet {
     rows: Vec<Record>,
 }

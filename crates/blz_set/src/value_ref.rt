@@ -14,7 +14,7 @@ use std::alloc::{AllocError, Global};
 use std::cmp::Ordering;
 
 /// A value that is lent: its number itself, so that comparing it reads nothing else, or its text.
-#[derive(Clone, Copy, Debug)]
+#[derive(Clone, Copy)]
 pub(crate) enum ValueRef<'a> {
     Number(i64),
     Letters(&'a str),

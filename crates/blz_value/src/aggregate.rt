@@ -1,7 +1,7 @@
 //! What a group makes of the rows of one key.
 
 /// What a group computes of the rows with one key. A column is a number from 0.
-#[derive(Clone, Copy, Debug, PartialEq, Eq)]
+#[derive(Clone, Copy, PartialEq, Eq)]
 pub enum Agg {
     /// The number of rows.
     Count,

@@ -9,7 +9,7 @@ use report_print::{Refusal, refusal_text};
 use std::alloc::{AllocError, Global};
 
 /// Why the checks of a command stop.
-#[derive(Debug, Drop)]
+#[derive(Drop)]
 pub enum Stop {
     /// A check fails, with this line.
     Refused(Vec<u8>),

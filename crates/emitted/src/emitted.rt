@@ -1,5 +1,5 @@
 //! One emitted list, by the ids of its records.
-ghost use Rattle.std.specs.Prelude.{◌≡◌, ◌++◌, ◌∷◌, [], length, slice_get, not, false, IfOk, OnOk, OnErr, option_copied};
+ghost use Rattle.std.specs.Prelude.{◌≡◌, ◌++◌, ◌∷◌, [], length, not, false, IfOk, OnOk, OnErr};
 ghost use Rattle.std.specs.List.{list_any};
 ghost use Rattle.emitted.specs.Ids.{is_row_with, is_seal_of, with_id};
 ghost use Rattle.messages.specs.declared.message.Message.TheVariants.{Seal};
@@ -54,13 +54,6 @@ impl Emitted {
         ensures { result.now ≡ self.now }
     {
         self.messages.values().as_slice()
-    }
-
-    /// The message at a place, counted from 0, None exactly past the end.
-    pub fn message(&self, index: usize) -> Option<&Message>
-        ensures { option_copied result ≡ slice_get self.now index }
-    {
-        self.messages().get(index)
     }
 
     /// Whether the record with an id stands in the list.

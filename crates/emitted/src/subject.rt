@@ -9,7 +9,7 @@ use std::hash::{BuildHasher, BuildHasherDefault, DefaultHasher, Hash, Hasher};
 
 /// What a message is about: a record, by its id in a pool, or a partition, by its key value. One list
 /// has one message at most about it.
-#[derive(Debug, Drop)]
+#[derive(Drop)]
 pub enum Subject {
     Row(u32),
     Partition(Record),

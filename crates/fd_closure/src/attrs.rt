@@ -4,14 +4,14 @@ ghost use Rattle.std.specs.Int.{IsBitSet};
 
 /// A set of attribute numbers below 64. Attribute a is in it exactly where bit a, counted from the
 /// lowest, is 1.
-#[derive(Clone, Copy, Debug, PartialEq, Eq)]
+#[derive(Clone, Copy, PartialEq, Eq)]
 pub struct Attrs {
     /// One bit for each attribute.
     pub bits: u64,
 }
 
 /// A dependency: a set that holds all of `from` is to hold all of `to`.
-#[derive(Clone, Copy, Debug, PartialEq, Eq)]
+#[derive(Clone, Copy, PartialEq, Eq)]
 pub struct Fd {
     /// The attributes from which the dependency leads.
     pub from: Attrs,

@@ -40,7 +40,7 @@ impl<T: Drop> From<AllocFailed<T>> for NamesFault {
 
 /// The names of attributes, at most 64 and each once. An attribute's number is the place of its
 /// name.
-#[derive(Debug, Drop)]
+#[derive(Drop)]
 pub struct AttrNames {
     names: Vec<Str>,
 }

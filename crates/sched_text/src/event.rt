@@ -3,7 +3,7 @@
 use blz_value::{Items, Str};
 
 /// A message of the emitted list of a stream.
-#[derive(Debug, Drop)]
+#[derive(Drop)]
 pub struct Sent {
     /// The stream's name.
     pub stream: Str,
@@ -14,7 +14,7 @@ pub struct Sent {
 }
 
 /// A message that goes to a port.
-#[derive(Debug, Drop)]
+#[derive(Drop)]
 pub struct Part {
     /// The message.
     pub sent: Sent,
@@ -23,7 +23,7 @@ pub struct Part {
 }
 
 /// An event of an execution.
-#[derive(Debug, Drop)]
+#[derive(Drop)]
 pub enum Event {
     /// One replica of a component hears a message at a port.
     Deliver {

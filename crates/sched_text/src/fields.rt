@@ -107,7 +107,7 @@ fn spot_of(field: &[u8]) -> Option<(&str, &str)>
 
 /// What is left of the fields of a line, seen as the list of these fields. Fields are divided by
 /// spaces and tabs.
-#[derive(Debug, Drop)]
+#[derive(Drop)]
 pub struct Fields<'a> {
     rest: &'a [u8],
 }

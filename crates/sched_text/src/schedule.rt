@@ -5,7 +5,7 @@ use crate::event::Event;
 use std::marker::Model;
 
 /// Events in order, each with the number of its line.
-#[derive(Debug, Drop)]
+#[derive(Drop)]
 pub struct Schedule {
     lines: Vec<(u32, Event)>,
 }

@@ -10,7 +10,7 @@ pub(crate) const FACTOR: u64 = 6_364_136_223_846_793_005;
 pub(crate) const SUMMAND: u64 = 1_442_695_040_888_963_407;
 
 /// Draws, seen as their state.
-#[derive(Debug, Drop)]
+#[derive(Drop)]
 pub struct Draws {
     state: u64,
 }

@@ -6,7 +6,7 @@ use std::alloc::{AllocError, Global};
 use std::marker::Model;
 
 /// Sizes side by side.
-#[derive(Debug, Drop)]
+#[derive(Drop)]
 pub(crate) struct Level {
     sizes: Vec<usize>,
 }

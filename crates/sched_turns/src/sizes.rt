@@ -12,7 +12,7 @@ use std::alloc::{AllocError, Global};
 use std::marker::Model;
 
 /// Sizes, seen as their list.
-#[derive(Debug, Drop)]
+#[derive(Drop)]
 pub struct Sizes {
     levels: Vec<Level>,
 }

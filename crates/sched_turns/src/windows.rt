@@ -23,7 +23,7 @@ pub trait OpenPlaces {
 }
 
 /// Which of the places that a window shows may be stale: no longer open.
-#[derive(Clone, Copy, Debug)]
+#[derive(Clone, Copy)]
 pub enum Stale {
     Nothing,
     Place(u32),
@@ -31,7 +31,7 @@ pub enum Stale {
 }
 
 /// A window on a list.
-#[derive(Debug, Drop)]
+#[derive(Drop)]
 pub struct Window {
     places: Vec<u32>,
     next: u32,

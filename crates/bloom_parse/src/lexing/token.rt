@@ -16,7 +16,7 @@ pub enum Class {
 }
 
 /// A token, by the numbers of its first byte and of the byte behind it, counted from 0.
-#[derive(Clone, Copy, Debug, PartialEq, Eq)]
+#[derive(Clone, Copy, PartialEq, Eq)]
 pub struct Token {
     pub from: usize,
     pub to: usize,

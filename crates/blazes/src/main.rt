@@ -1,10 +1,12 @@
 //! The program: the real files, standard output, a bench of shells, and the one call over them.
 #![tactic(auto)]
 
-use blazes_cli::{Status, blazes};
+use blazes_cli::blazes;
+use bloom_eval::Component;
 use bloom_index::IndexShell;
-use blz_boxes::{Component, LatestShell, NumberShell, SplitShell};
+use blz_boxes::{LatestShell, NumberShell, SplitShell};
 use blz_outside::{RealFiles, RealSink};
+use command_checks::Status;
 use std::alloc::AllocError;
 use std::env::Env;
 use std::process::ExitCode;

@@ -2,20 +2,20 @@
 use Rattle.std.proofs.Common.{◌≡◌, ◌≢◌, ◌∙◌, ◌<◌, ◌⊎◌, inl, inr, List, Option, Some, None, IfSome, IsSomeAnd, IsTrue, refl, sym, subst, ap, arith}
 use Rattle.blz_outside.specs.Counts.{Rose}
 use Rattle.blz_outside.specs.Files.{FileMap}
-use Rattle.blz_boxes.specs.declared.kind.ProgramKind.{ProgramKind}
-use Rattle.command_runs.specs.Bench.{BenchStates}
-use Rattle.command_files.specs.Script.{Bytes, Script, Ending, IsFailed}
-use Rattle.command_files.specs.Script.Ending.{gave, refused, failed}
-use Rattle.command_files.specs.Ends.{FilesStates, Came, Ends, ended}
+use Rattle.bloom_eval.specs.declared.kind.ProgramKind.{ProgramKind}
+use Rattle.blazes_commands.specs.Runs.Bench.{BenchStates}
+use Rattle.command_checks.specs.Script.{Bytes, Script, Ending, IsFailed}
+use Rattle.command_checks.specs.Script.Ending.{gave, refused, failed}
+use Rattle.command_checks.specs.Ends.{FilesStates, Came, Ends, ended}
 use Rattle.blazes_words.specs.Words.{Asked, request_of}
-use Rattle.command_files.specs.Reply.{Answer}
+use Rattle.command_checks.specs.Reply.{Answer}
 use Rattle.blazes_commands.specs.Commands.{Work, script}
 use Rattle.blazes_commands.specs.Commands.Work.{labelled, derived, planned, ran, made, soaked, sharded, witnessed, explained}
 use Rattle.blazes_commands.specs.Answer.{Answers}
 use Rattle.blazes_cli.specs.Answer.{IsReply}
 use Rattle.blazes_cli.specs.Outcome.{SinkStates, WroteAll, IsSaid, IsOutcome, IsUsageOrLost, IsReadFaultOrLost}
-use Rattle.command_files.specs.declared.status.Status.{Status}
-use Rattle.command_files.specs.declared.status.Status.TheVariants.{Done, Refused, Usage, ReadFault, WriteFault, Incomplete, NoMemory}
+use Rattle.command_checks.specs.declared.status.Status.{Status}
+use Rattle.command_checks.specs.declared.status.Status.TheVariants.{Done, Refused, Usage, ReadFault, WriteFault, Incomplete, NoMemory}
 use Rattle.blazes_cli.proofs.SteadyLemmas.{steady_ends}
 
 -- the statuses that there may be at the end of a script

@@ -2,10 +2,10 @@
 use Rattle.std.proofs.Common.{◌≡◌, inl, inr, true, Option, Some, None, IfSome, IsSome, refl, sym, subst}
 use Rattle.std.specs.Option.{option_map_or}
 use Rattle.blz_outside.specs.Files.{FileMap}
-use Rattle.command_files.specs.Script.{Bytes, Script, Ending}
-use Rattle.command_files.specs.Script.Script.{gives, refuses, reads}
-use Rattle.command_files.specs.Script.Ending.{failed}
-use Rattle.command_files.specs.Ends.{Ends, ended}
+use Rattle.command_checks.specs.Script.{Bytes, Script, Ending}
+use Rattle.command_checks.specs.Script.Script.{gives, refuses, reads}
+use Rattle.command_checks.specs.Script.Ending.{failed}
+use Rattle.command_checks.specs.Ends.{Ends, ended}
 
 -- what is told where something is
 told_one : (o : Option Bytes) (bytes : Bytes) → IfSome o (λ h. bytes ≡ h) → IsSome o → o ≡ Some bytes

@@ -1,12 +1,12 @@
 -- What the program answers to its words and to the files that it reads.
 use Rattle.std.specs.Prelude.{◌≡◌, Option, Some, None}
 use Rattle.blazes_commands.specs.Answer.{IsAnswered}
-use Rattle.command_runs.specs.Bench.{BenchStates}
-use Rattle.command_files.specs.Reply.{Answer}
+use Rattle.blazes_commands.specs.Runs.Bench.{BenchStates}
+use Rattle.command_checks.specs.Reply.{Answer}
 use Rattle.blazes_commands.specs.Commands.{script}
-use Rattle.command_files.specs.Ends.{FilesStates}
+use Rattle.command_checks.specs.Ends.{FilesStates}
 use Rattle.blazes_words.specs.Words.{Asked}
-use Rattle.command_files.specs.declared.status.Status.TheVariants.{Usage}
+use Rattle.command_checks.specs.declared.status.Status.TheVariants.{Usage}
 use Rattle.blazes_cli.specs.Lines.{usage_line}
 
 -- the usage line, and no file was read

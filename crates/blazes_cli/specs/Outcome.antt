@@ -3,16 +3,16 @@ use Rattle.std.specs.Prelude.{◌≡◌, ◌⊎◌, ℕ, ◌<◌, ◌≤◌, Lis
 use Rattle.blz_outside.specs.Counts.{Rose}
 use Rattle.blz_outside.specs.Files.{FileMap}
 use Rattle.blz_outside.specs.Sink.{Grows, Falls}
-use Rattle.blz_boxes.specs.declared.kind.ProgramKind.{ProgramKind}
-use Rattle.command_runs.specs.Bench.{BenchStates}
-use Rattle.command_files.specs.Script.{Bytes, IsFailed}
-use Rattle.command_files.specs.Ends.{FilesStates, ended}
+use Rattle.bloom_eval.specs.declared.kind.ProgramKind.{ProgramKind}
+use Rattle.blazes_commands.specs.Runs.Bench.{BenchStates}
+use Rattle.command_checks.specs.Script.{Bytes, IsFailed}
+use Rattle.command_checks.specs.Ends.{FilesStates, ended}
 use Rattle.blazes_words.specs.Words.{request_of}
-use Rattle.command_files.specs.Reply.{Answer}
+use Rattle.command_checks.specs.Reply.{Answer}
 use Rattle.blazes_commands.specs.Commands.{script}
 use Rattle.blazes_cli.specs.Answer.{IsReply}
-use Rattle.command_files.specs.declared.status.Status.{Status}
-use Rattle.command_files.specs.declared.status.Status.TheVariants.{Done, Refused, Usage, ReadFault, WriteFault, Incomplete, NoMemory}
+use Rattle.command_checks.specs.declared.status.Status.{Status}
+use Rattle.command_checks.specs.declared.status.Status.TheVariants.{Done, Refused, Usage, ReadFault, WriteFault, Incomplete, NoMemory}
 
 -- a sink before and after the call
 pub record SinkStates : Type 0 where

@@ -4,5 +4,5 @@
 
 mod program;
 
-pub use command_files::Status;
+pub use command_checks::Status;
 pub use program::blazes;

@@ -1,10 +1,10 @@
 //! The call that the program makes.
 ghost use Rattle.std.specs.Prelude.{◌≡◌, ◌≢◌, ◌<◌, None, Some, IfOk, IfSome, IsTrue, map, string_bytes};
 ghost use Rattle.blz_outside.specs.Counts.{Rose};
-ghost use Rattle.command_runs.specs.Bench.{bench_states, HasSameKinds};
-ghost use Rattle.command_files.specs.Ran.{answer_of};
+ghost use Rattle.blazes_commands.specs.Runs.Bench.{bench_states, HasSameKinds};
+ghost use Rattle.command_checks.specs.Ran.{answer_of};
 ghost use Rattle.blazes_words.specs.Requests.{asked_by};
-ghost use Rattle.command_files.specs.Ends.{files_states, source};
+ghost use Rattle.command_checks.specs.Ends.{files_states, source};
 ghost use Rattle.blazes_words.specs.Words.{IsWithin, request_of};
 ghost use Rattle.blazes_cli.specs.Answer.{IsReply};
 ghost use Rattle.blazes_cli.specs.Lines.{usage_line};
@@ -12,9 +12,9 @@ ghost use Rattle.blazes_cli.specs.Outcome.{sink_states, IsSaid, IsOutcome, IsUsa
 
 use blazes_commands::outcome_of;
 use blazes_words::{Request, request_of};
-use blz_boxes::Component;
+use bloom_eval::Component;
 use blz_outside::{Files, Sink};
-use command_files::{Reply, Status, conclusion, line};
+use command_checks::{Reply, Status, conclusion, line};
 use std::alloc::{AllocError, Global};
 
 const USAGE: &str =

@@ -1,16 +1,16 @@
 -- The end of a command is the answer at the end of its script.
 use Rattle.std.proofs.Common.{Ok, Err, IfOk, Result, sym, subst}
 use Rattle.std.specs.declared.alloc.AllocError.{AllocError}
-use Rattle.command_files.specs.Script.{Script}
-use Rattle.command_files.specs.Script.Ending.{gave, refused, failed}
-use Rattle.command_files.specs.Ends.{FilesStates}
-use Rattle.command_files.specs.Reply.{Answer}
-use Rattle.command_files.specs.Ran.{Concludes, answer_of}
-use Rattle.command_files.specs.declared.reply.Reply.{Reply}
-use Rattle.command_files.specs.declared.stop.Stop.{Stop}
-use Rattle.command_files.specs.declared.stop.Stop.TheVariants.{Refused, Failed, NoMemory}
-use Rattle.command_runs.specs.Bench.{BenchStates, HasSameKinds}
-use Rattle.command_runs.specs.Replies.{KeepsKinds, RepliesWith}
+use Rattle.command_checks.specs.Script.{Script}
+use Rattle.command_checks.specs.Script.Ending.{gave, refused, failed}
+use Rattle.command_checks.specs.Ends.{FilesStates}
+use Rattle.command_checks.specs.Reply.{Answer}
+use Rattle.command_checks.specs.Ran.{Concludes, answer_of}
+use Rattle.command_checks.specs.declared.reply.Reply.{Reply}
+use Rattle.command_checks.specs.declared.stop.Stop.{Stop}
+use Rattle.command_checks.specs.declared.stop.Stop.TheVariants.{Refused, Failed, NoMemory}
+use Rattle.blazes_commands.specs.Runs.Bench.{BenchStates, HasSameKinds}
+use Rattle.blazes_commands.specs.Runs.Replies.{KeepsKinds, RepliesWith}
 use Rattle.blazes_commands.specs.Answer.{IsAnswered}
 use Rattle.blazes_commands.specs.Commands.{Work, Says}
 

@@ -1,13 +1,13 @@
 -- A command that finds something in executions is a part of the program that replies of what its checks gave.
 use Rattle.std.proofs.Common.{Result}
 use Rattle.blazes_words.specs.Words.{Asked, WhyWords, WitnessFiles}
-use Rattle.command_files.specs.Ends.{Source, files_states}
-use Rattle.command_files.specs.declared.reply.Reply.{Reply}
-use Rattle.command_files.specs.declared.stop.Stop.{Stop}
-use Rattle.command_finds.specs.Finds.{SaysReasons, SaysWitness, explaining, witnessing}
-use Rattle.command_runs.specs.Bench.{BenchStates}
-use Rattle.command_runs.specs.Replies.{RepliesWith}
-use Rattle.command_runs.proofs.RepliesLemmas.{work_replies}
+use Rattle.command_checks.specs.Ends.{Source, files_states}
+use Rattle.command_checks.specs.declared.reply.Reply.{Reply}
+use Rattle.command_checks.specs.declared.stop.Stop.{Stop}
+use Rattle.blazes_commands.specs.Finds.Finds.{SaysReasons, SaysWitness, explaining, witnessing}
+use Rattle.blazes_commands.specs.Runs.Bench.{BenchStates}
+use Rattle.blazes_commands.specs.Runs.Replies.{RepliesWith}
+use Rattle.blazes_commands.proofs.Runs.RepliesLemmas.{work_replies}
 use Rattle.blazes_commands.specs.Code.Ran.{RepliesTo}
 use Rattle.blazes_commands.specs.Commands.{Says}
 use Rattle.blazes_commands.specs.Commands.Work.{explained, witnessed}

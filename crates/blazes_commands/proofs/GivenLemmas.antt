@@ -2,15 +2,15 @@
 use Rattle.std.proofs.Common.{List, Result, Err, ap}
 use Rattle.inbox.specs.Events.{Event}
 use Rattle.inbox.specs.Wiring.{Wiring}
-use Rattle.report_print.specs.declared.refusal.MakeKind.TheVariants as make_kinds
-use Rattle.report_print.specs.declared.refusal.Refusal.TheVariants as refusal
+use Rattle.report_lines.specs.declared.refusal.MakeKind.TheVariants as make_kinds
+use Rattle.report_lines.specs.declared.refusal.Refusal.TheVariants as refusal
 use Rattle.sched_run.specs.Made.{AnswersSo}
 use Rattle.sched_run.specs.declared.fault.MakeFault.{MakeFault}
 use Rattle.sched_run.specs.declared.fault.MakeFault.TheVariants as make_faults
-use Rattle.topo_types.specs.Data.{Data}
-use Rattle.command_files.specs.Ran.{Gives, IsStopAt}
-use Rattle.command_files.specs.declared.stop.Stop.{Stop}
-use Rattle.command_files.proofs.RefusedLemmas.{memory_gives, refused_gives}
+use Rattle.topo_forms.specs.Data.{Data}
+use Rattle.command_checks.specs.Ran.{Gives, IsStopAt}
+use Rattle.command_checks.specs.declared.stop.Stop.{Stop}
+use Rattle.command_checks.proofs.RefusedLemmas.{memory_gives, refused_gives}
 use Rattle.blazes_commands.specs.Checks as check
 
 -- a schedule that can't be made

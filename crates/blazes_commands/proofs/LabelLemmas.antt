@@ -1,23 +1,23 @@
 -- A command that knows no data is a part of the program that replies of what its checks gave.
 use Rattle.std.proofs.Common.{Result, Ok, Err, subst}
-use Rattle.report_derivation.specs.DeriveText.{derive_text}
-use Rattle.report_print.specs.LabelText.{label_text}
-use Rattle.topo_types.specs.Valid.{Validated}
-use Rattle.command_files.specs.Ends.{Source, files_states}
-use Rattle.command_files.specs.Ran.{answer_of}
-use Rattle.command_files.specs.Reply.{Answer}
-use Rattle.command_files.specs.Script.{Bytes, Script, ◌>>=◌}
-use Rattle.command_files.specs.Script.Script.{gives}
-use Rattle.command_files.specs.declared.reply.Reply.{Reply}
-use Rattle.command_files.specs.declared.stop.Stop.{Stop}
-use Rattle.command_files.proofs.ScriptLemmas.{stop_then}
-use Rattle.command_labels.specs.Answers.{HasLabels, HasPlan, HasShards}
-use Rattle.command_labels.specs.Replies.{RepliesOf}
-use Rattle.command_labels.specs.Shards.{shards}
+use Rattle.report_lines.specs.DeriveText.{derive_text}
+use Rattle.report_lines.specs.LabelText.{label_text}
+use Rattle.topo_forms.specs.Valid.{Validated}
+use Rattle.command_checks.specs.Ends.{Source, files_states}
+use Rattle.command_checks.specs.Ran.{answer_of}
+use Rattle.command_checks.specs.Reply.{Answer}
+use Rattle.command_checks.specs.Script.{Bytes, Script, ◌>>=◌}
+use Rattle.command_checks.specs.Script.Script.{gives}
+use Rattle.command_checks.specs.declared.reply.Reply.{Reply}
+use Rattle.command_checks.specs.declared.stop.Stop.{Stop}
+use Rattle.command_checks.proofs.ScriptLemmas.{stop_then}
+use Rattle.blazes_commands.specs.Labels.Answers.{HasLabels, HasPlan, HasShards}
+use Rattle.blazes_commands.specs.Labels.Replies.{RepliesOf}
+use Rattle.blazes_commands.specs.Labels.Shards.{shards}
 use Rattle.blazes_words.specs.Words.{Asked, ShardWords}
-use Rattle.command_runs.specs.Bench.{BenchStates}
-use Rattle.command_runs.specs.Replies.{RepliesWith}
-use Rattle.command_runs.proofs.RepliesLemmas.{followed, in_turn}
+use Rattle.blazes_commands.specs.Runs.Bench.{BenchStates}
+use Rattle.blazes_commands.specs.Runs.Replies.{RepliesWith}
+use Rattle.blazes_commands.proofs.Runs.RepliesLemmas.{followed, in_turn}
 use Rattle.blazes_commands.specs.Checks as check
 use Rattle.blazes_commands.specs.Code.Ran.{RepliesTo}
 use Rattle.blazes_commands.specs.Commands.{Work, Says}

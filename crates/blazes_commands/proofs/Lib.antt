@@ -6,3 +6,6 @@ pub mod GivenLemmas
 pub mod MakeLemmas
 pub mod TweetsLemmas
 pub mod SoakLemmas
+pub mod Finds
+pub mod Labels
+pub mod Runs

@@ -1,7 +1,7 @@
 -- A command that makes a schedule replies as its script says: the net is opened, a seed chooses the events, and the shells go back.
 use Rattle.std.proofs.Common.{◌≡◌, ◌∙◌, ℕ, List, [], Option, Result, Ok, Err, OnOk, IfOk, map, sym, subst, ap}
-use Rattle.bloom_ast.specs.declared.program.Program.{Program}
-use Rattle.bloom_ast.specs.Step.{Sets}
+use Rattle.bloom_forms.specs.declared.program.Program.{Program}
+use Rattle.bloom_forms.specs.Step.{Sets}
 use Rattle.inbox.specs.Events.{Event, event}
 use Rattle.inbox.specs.Executions.{Execution, execution_of_events}
 use Rattle.inbox.specs.Wiring.{wiring_of}
@@ -10,29 +10,29 @@ use Rattle.sched_bench.specs.Bench.{fault_of_opening}
 use Rattle.sched_run.specs.Made.{AnswersSo, LeavesNothing, execution_after, made_of}
 use Rattle.sched_run.specs.Making.{AnswersNumbered, HasMadeNumbered, LeavesNumbered, RunsFirst}
 use Rattle.sched_run.specs.Naming.{CanBeWritten}
-use Rattle.sched_hear.specs.Net.{Stands, BooksRun, execution_in}
-use Rattle.sched_hear.specs.declared.books.Books.{Books}
+use Rattle.sched_net.specs.Net.{Stands, BooksRun, execution_in}
+use Rattle.sched_net.specs.declared.books.Books.{Books}
 use Rattle.sched_run.specs.declared.fault.MakeFault.{MakeFault}
-use Rattle.topo_types.specs.Data.{Data}
-use Rattle.topo_types.specs.View.{View}
+use Rattle.topo_forms.specs.Data.{Data}
+use Rattle.topo_forms.specs.View.{View}
 use Rattle.blazes_commands.specs.Checks as check
 use Rattle.blazes_commands.specs.Code.Made.{IsMade, IsMadeOf, PrintsBooks}
-use Rattle.command_files.specs.Ran.{answer_of}
-use Rattle.command_files.specs.Reply.{Answer}
+use Rattle.command_checks.specs.Ran.{answer_of}
+use Rattle.command_checks.specs.Reply.{Answer}
 use Rattle.blazes_commands.specs.Commands.{Work, making, making_for, Says}
 use Rattle.blazes_commands.specs.Commands.Work.{made}
-use Rattle.command_files.specs.Ends.{Source, files_states}
-use Rattle.command_files.specs.Script.{Script, ◌>>=◌}
-use Rattle.command_files.specs.Script.Script.{gives}
-use Rattle.command_files.specs.declared.reply.Reply.{Reply}
-use Rattle.command_files.specs.declared.stop.Stop.{Stop}
-use Rattle.command_runs.specs.Bench.{BenchStates}
-use Rattle.command_runs.specs.Contents.{IsStatusOf}
-use Rattle.command_runs.specs.Replies.{RepliesWith}
-use Rattle.command_runs.proofs.OpeningLemmas.{opened_then}
-use Rattle.command_runs.proofs.RepliesLemmas.{followed}
+use Rattle.command_checks.specs.Ends.{Source, files_states}
+use Rattle.command_checks.specs.Script.{Script, ◌>>=◌}
+use Rattle.command_checks.specs.Script.Script.{gives}
+use Rattle.command_checks.specs.declared.reply.Reply.{Reply}
+use Rattle.command_checks.specs.declared.stop.Stop.{Stop}
+use Rattle.blazes_commands.specs.Runs.Bench.{BenchStates}
+use Rattle.blazes_commands.specs.Runs.Contents.{IsStatusOf}
+use Rattle.blazes_commands.specs.Runs.Replies.{RepliesWith}
+use Rattle.blazes_commands.proofs.Runs.OpeningLemmas.{opened_then}
+use Rattle.blazes_commands.proofs.Runs.RepliesLemmas.{followed}
 use Rattle.blazes_commands.proofs.GivenLemmas.{made_gives}
-use Rattle.command_files.proofs.ScriptLemmas.{came_checked, gives_ran, memory_stops, stop_then}
+use Rattle.command_checks.proofs.ScriptLemmas.{came_checked, gives_ran, memory_stops, stop_then}
 
 -- ---- the events
 

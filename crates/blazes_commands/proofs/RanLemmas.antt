@@ -1,20 +1,20 @@
 -- A command that runs a schedule is a part of the program that replies of the execution which its checks gave.
 use Rattle.std.proofs.Common.{◌≡◌, List, Result, subst}
-use Rattle.blz_boxes.specs.declared.kind.ProgramKind.{ProgramKind}
+use Rattle.bloom_eval.specs.declared.kind.ProgramKind.{ProgramKind}
 use Rattle.inbox.specs.Executions.{Execution}
-use Rattle.topo_types.specs.Data.{Data}
-use Rattle.topo_types.specs.Valid.{Validated}
-use Rattle.topo_types.specs.View.{View}
+use Rattle.topo_forms.specs.Data.{Data}
+use Rattle.topo_forms.specs.Valid.{Validated}
+use Rattle.topo_forms.specs.View.{View}
 use Rattle.blazes_words.specs.Words.{Asked, RunFiles}
-use Rattle.command_files.specs.Ends.{Source, files_states}
-use Rattle.command_files.specs.Script.{Script, ◌>>=◌}
-use Rattle.command_files.specs.Script.Script.{gives}
-use Rattle.command_files.specs.declared.reply.Reply.{Reply}
-use Rattle.command_files.specs.declared.stop.Stop.{Stop}
-use Rattle.command_runs.specs.Bench.{BenchStates}
-use Rattle.command_runs.specs.Replies.{RepliesWith}
-use Rattle.command_runs.specs.Runs.{RunWork, SaysRun, run_work, restarts, running_by, runs}
-use Rattle.command_runs.proofs.RepliesLemmas.{in_turn, turned, work_replies}
+use Rattle.command_checks.specs.Ends.{Source, files_states}
+use Rattle.command_checks.specs.Script.{Script, ◌>>=◌}
+use Rattle.command_checks.specs.Script.Script.{gives}
+use Rattle.command_checks.specs.declared.reply.Reply.{Reply}
+use Rattle.command_checks.specs.declared.stop.Stop.{Stop}
+use Rattle.blazes_commands.specs.Runs.Bench.{BenchStates}
+use Rattle.blazes_commands.specs.Runs.Replies.{RepliesWith}
+use Rattle.blazes_commands.specs.Runs.Runs.{RunWork, SaysRun, run_work, restarts, running_by, runs}
+use Rattle.blazes_commands.proofs.Runs.RepliesLemmas.{in_turn, turned, work_replies}
 use Rattle.blazes_commands.specs.Checks as check
 use Rattle.blazes_commands.specs.Code.Ran.{RepliesTo}
 use Rattle.blazes_commands.specs.Commands.{Work, Says, running}

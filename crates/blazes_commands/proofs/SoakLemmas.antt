@@ -1,34 +1,34 @@
 -- A soak replies as its script says: the word count is checked and planned, its data are made, and a net that made a schedule over them is summed up.
 use Rattle.std.proofs.Common.{◌≡◌, ℕ, List, [], Option, Result, Ok, Err, OnOk, map, refl, subst}
 use Rattle.std.specs.Result.{IsErrAnd}
-use Rattle.bloom_ast.specs.declared.program.Program.{Program}
-use Rattle.bloom_ast.specs.Step.{Sets}
+use Rattle.bloom_forms.specs.declared.program.Program.{Program}
+use Rattle.bloom_forms.specs.Step.{Sets}
 use Rattle.inbox.specs.Executions.{Execution}
 use Rattle.inbox.specs.Events.{Event, event}
 use Rattle.sched_bench.specs.Bench.{fault_of_opening}
 use Rattle.sched_run.specs.Making.{AnswersNumbered, LeavesNumbered}
-use Rattle.sched_hear.specs.Net.{Stands, BooksRun}
-use Rattle.sched_hear.specs.declared.books.Books.{Books}
+use Rattle.sched_net.specs.Net.{Stands, BooksRun}
+use Rattle.sched_net.specs.declared.books.Books.{Books}
 use Rattle.sched_run.specs.declared.fault.MakeFault.{MakeFault}
-use Rattle.topo_types.specs.Data.{Data}
-use Rattle.topo_types.specs.View.{View}
+use Rattle.topo_forms.specs.Data.{Data}
+use Rattle.topo_forms.specs.View.{View}
 use Rattle.blazes_commands.specs.Checks as check
-use Rattle.command_files.specs.Ran.{Gives, RanAtOnce}
+use Rattle.command_checks.specs.Ran.{Gives, RanAtOnce}
 use Rattle.blazes_commands.specs.Code.Soaked.{IsSummaryOf, SumsBooks}
 use Rattle.blazes_commands.specs.Commands.{Work, Says, making_for, soaking, script, HasSummary}
 use Rattle.blazes_commands.specs.Commands.Work.{soaked}
-use Rattle.command_files.specs.Ends.{Source, files_states}
-use Rattle.command_files.specs.Script.{Script}
-use Rattle.command_labels.specs.BuiltIn.{planned_count}
+use Rattle.command_checks.specs.Ends.{Source, files_states}
+use Rattle.command_checks.specs.Script.{Script}
+use Rattle.blazes_commands.specs.Labels.BuiltIn.{planned_count}
 use Rattle.blazes_commands.specs.Soak.{tweets_data}
 use Rattle.blazes_words.specs.Words.{Asked, SoakWords}
-use Rattle.command_files.specs.declared.reply.Reply.{Reply}
-use Rattle.command_files.specs.declared.stop.Stop.{Stop}
-use Rattle.command_runs.specs.Bench.{BenchStates}
-use Rattle.command_runs.specs.Replies.{RepliesAtOnce, RepliesWith}
-use Rattle.command_runs.proofs.RepliesLemmas.{stop_replies, then_replies}
+use Rattle.command_checks.specs.declared.reply.Reply.{Reply}
+use Rattle.command_checks.specs.declared.stop.Stop.{Stop}
+use Rattle.blazes_commands.specs.Runs.Bench.{BenchStates}
+use Rattle.blazes_commands.specs.Runs.Replies.{RepliesAtOnce, RepliesWith}
+use Rattle.blazes_commands.proofs.Runs.RepliesLemmas.{stop_replies, then_replies}
 use Rattle.blazes_commands.proofs.MakeLemmas.{after_events, making_replies, runs_made}
-use Rattle.command_files.proofs.ScriptLemmas.{came_checked, gives_ran}
+use Rattle.command_checks.proofs.ScriptLemmas.{came_checked, gives_ran}
 
 -- the net of a topology runs after it made a schedule
 pub runs_on : (v : View) (given : Data) (loaded : List (Option Program)) (tables next : List Sets) (old new : Books) (w : View) (result : Result (List Event) MakeFault) → w ≡ v → Stands v given [] loaded tables old → LeavesNumbered w loaded tables next old new result → OnOk result (BooksRun v new)

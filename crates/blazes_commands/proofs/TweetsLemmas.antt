@@ -4,9 +4,9 @@ use Rattle.std.specs.List.{All, flat_map}
 use Rattle.std.proofs.lemmas.List.Concat.{flat_map-cons}
 use Rattle.std.proofs.lemmas.List.Elements.{All-map, All-append}
 use Rattle.blz_value.specs.Record.{Row}
-use Rattle.topo_types.specs.Data.{IsData, FitsSource, source_data}
-use Rattle.topo_types.specs.Sets.{below}
-use Rattle.topo_types.specs.View.{View, source_count, stream_at}
+use Rattle.topo_forms.specs.Data.{IsData, FitsSource, source_data}
+use Rattle.blz_value.specs.NumberSets.{below}
+use Rattle.topo_forms.specs.View.{View, source_count, stream_at}
 use Rattle.blazes_commands.specs.Soak.{tweet, tweets, tweets_of, one_source, takes_tweets}
 
 abbrev IsWide : Row → Type 0

@@ -1,12 +1,12 @@
 -- What a command answers to the files that it reads.
 use Rattle.std.specs.Prelude.{◌≡◌}
-use Rattle.command_files.specs.Script.{Script, Ending}
-use Rattle.command_files.specs.Ends.{FilesStates, Came}
-use Rattle.command_files.specs.Reply.{Answer}
+use Rattle.command_checks.specs.Script.{Script, Ending}
+use Rattle.command_checks.specs.Ends.{FilesStates, Came}
+use Rattle.command_checks.specs.Reply.{Answer}
 use Rattle.blazes_commands.specs.Commands.{Work, Says}
-use Rattle.command_runs.specs.Bench.{BenchStates}
-use Rattle.command_files.specs.Lines.{cannot_read}
-use Rattle.command_files.specs.declared.status.Status.TheVariants.{Refused, ReadFault}
+use Rattle.blazes_commands.specs.Runs.Bench.{BenchStates}
+use Rattle.command_checks.specs.Lines.{cannot_read}
+use Rattle.command_checks.specs.declared.status.Status.TheVariants.{Refused, ReadFault}
 
 -- the answer where a script has ended so
 abbrev pub Answers : Ending Work → BenchStates → Answer → Type 0

@@ -5,17 +5,17 @@ use Rattle.inbox.specs.Wiring.{wiring_of}
 use Rattle.sched_run.specs.Made.{event_limit, made_of}
 use Rattle.sched_run.specs.declared.fault.MakeFault.{MakeFault}
 use Rattle.sched_run.specs.declared.fault.MakeFault.TheVariants as make_faults
-use Rattle.topo_types.specs.Data.{Data}
-use Rattle.topo_types.specs.View.{View}
-use Rattle.report_print.specs.declared.refusal.Refusal.{Refusal}
-use Rattle.report_print.specs.declared.refusal.Refusal.TheVariants as refusal
-use Rattle.report_print.specs.declared.refusal.MakeKind.TheVariants as make_kinds
-use Rattle.command_files.specs.Checks.{line_of}
-use Rattle.command_files.specs.Script.{Bytes, Script}
-pub use Rattle.command_files.specs.Checks.{checked, schedule_file}
+use Rattle.topo_forms.specs.Data.{Data}
+use Rattle.topo_forms.specs.View.{View}
+use Rattle.report_lines.specs.declared.refusal.Refusal.{Refusal}
+use Rattle.report_lines.specs.declared.refusal.Refusal.TheVariants as refusal
+use Rattle.report_lines.specs.declared.refusal.MakeKind.TheVariants as make_kinds
+use Rattle.command_checks.specs.FileChecks.{line_of}
+use Rattle.command_checks.specs.Script.{Bytes, Script}
+pub use Rattle.command_checks.specs.FileChecks.{checked, schedule_file}
 pub use Rattle.command_checks.specs.Checks.{with_modules, valid_topology, data_file}
-pub use Rattle.command_labels.specs.Shards.{sharding}
-pub use Rattle.command_runs.specs.Checks.{opened, opening, execution, restarted, steps_file}
+pub use Rattle.blazes_commands.specs.Labels.Shards.{sharding}
+pub use Rattle.blazes_commands.specs.Runs.Checks.{opened, opening, execution, restarted, steps_file}
 
 -- ---- a schedule that is made
 

@@ -1,9 +1,9 @@
 -- What each command does, check by check, and what it has to write.
 use Rattle.std.specs.Prelude.{◌≡◌, ℕ, List}
-use Rattle.blz_boxes.specs.declared.kind.ProgramKind.{ProgramKind}
-use Rattle.topo_types.specs.Data.{Data}
-use Rattle.topo_types.specs.Valid.{Validated}
-use Rattle.topo_types.specs.View.{View}
+use Rattle.bloom_eval.specs.declared.kind.ProgramKind.{ProgramKind}
+use Rattle.topo_forms.specs.Data.{Data}
+use Rattle.topo_forms.specs.Valid.{Validated}
+use Rattle.topo_forms.specs.View.{View}
 use Rattle.label_rules.specs.declared.label.Label.{Label}
 use Rattle.label_walk.specs.Labels.{AreLabels}
 use Rattle.confluence.specs.Sound.{Sound, RestartSound}
@@ -11,25 +11,25 @@ use Rattle.inbox.specs.Events.{Event}
 use Rattle.inbox.specs.Executions.{Execution}
 use Rattle.inbox.specs.Wiring.{wiring_of}
 use Rattle.coord_synth.specs.Laws.{AreCoordinated}
-use Rattle.report_derivation.specs.DeriveText.{derive_text}
-use Rattle.report_print.specs.LabelText.{label_text}
-use Rattle.report_runs.specs.SoakText.{soak_text}
+use Rattle.report_lines.specs.DeriveText.{derive_text}
+use Rattle.report_lines.specs.LabelText.{label_text}
+use Rattle.report_print.specs.SoakText.{soak_text}
 use Rattle.sched_run.specs.Made.{LeavesNothing, execution_after}
-use Rattle.sched_run.specs.Making.{events_of, Line}
-use Rattle.shard_copies.specs.declared.sharded.Sharded.{Sharded}
+use Rattle.sched_net.specs.ScheduleLines.{events_of, Line}
+use Rattle.shard_route.specs.declared.sharded.Sharded.{Sharded}
 use Rattle.sched_text.specs.Reading.{ReadsAs, event_reading}
 use Rattle.sched_text.specs.Text.{schedule_text}
-use Rattle.command_runs.specs.Bench.{BenchStates}
-use Rattle.command_runs.specs.Contents.{HasRun, IsStatusOf}
-use Rattle.command_finds.specs.Finds.{Witnessed, Explained, HasWitness, HasReasons, witnessing, explaining}
-use Rattle.command_files.specs.Reply.{Answer}
-use Rattle.command_files.specs.Script.{Script, ◌>>=◌}
-use Rattle.command_labels.specs.Answers.{HasLabels, HasPlan, HasShards}
+use Rattle.blazes_commands.specs.Runs.Bench.{BenchStates}
+use Rattle.blazes_commands.specs.Runs.Contents.{HasRun, IsStatusOf}
+use Rattle.blazes_commands.specs.Finds.Finds.{Witnessed, Explained, HasWitness, HasReasons, witnessing, explaining}
+use Rattle.command_checks.specs.Reply.{Answer}
+use Rattle.command_checks.specs.Script.{Script, ◌>>=◌}
+use Rattle.blazes_commands.specs.Labels.Answers.{HasLabels, HasPlan, HasShards}
 use Rattle.blazes_words.specs.Words.{Asked}
 use Rattle.blazes_commands.specs.Checks as check
-use Rattle.command_labels.specs.BuiltIn.{planned_count}
+use Rattle.blazes_commands.specs.Labels.BuiltIn.{planned_count}
 use Rattle.blazes_commands.specs.Soak.{tweets_data}
-use Rattle.command_files.specs.declared.status.Status.TheVariants.{Done}
+use Rattle.command_checks.specs.declared.status.Status.TheVariants.{Done}
 
 -- what a command has found that no check refused
 pub data Work : Type 0 where

@@ -4,14 +4,14 @@ use Rattle.std.specs.Fmt.{decimal}
 use Rattle.std.specs.List.{flat_map}
 use Rattle.blz_value.specs.Record.{Row}
 use Rattle.blz_value.specs.declared.value.Value.TheVariants.{Int, Text}
-use Rattle.topo_types.specs.Data.{Data, SourceData}
-use Rattle.topo_types.specs.Sets.{below}
-use Rattle.topo_types.specs.View.{View, source_count, stream_at}
+use Rattle.topo_forms.specs.Data.{Data, SourceData}
+use Rattle.blz_value.specs.NumberSets.{below}
+use Rattle.topo_forms.specs.View.{View, source_count, stream_at}
 use Rattle.data_read.specs.Making.{data_from, sources_of}
-use Rattle.report_print.specs.declared.refusal.Refusal.TheVariants as refusal
-use Rattle.report_print.specs.Refusals.{refusal_line}
+use Rattle.report_lines.specs.declared.refusal.Refusal.TheVariants as refusal
+use Rattle.report_lines.specs.Refusals.{refusal_line}
 use Rattle.command_checks.specs.Checks as check
-use Rattle.command_files.specs.Script.{Bytes}
+use Rattle.command_checks.specs.Script.{Bytes}
 
 -- ---- its tweets; batches and places are numbered from 0
 

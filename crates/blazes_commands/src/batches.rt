@@ -2,17 +2,16 @@
 ghost use Rattle.std.specs.Prelude.{◌≡◌, ◌<◌, ◌++◌, [], ◌∷◌, IfOk, OnOk};
 ghost use Rattle.data_read.specs.Gives as reading;
 ghost use Rattle.data_read.specs.Making.{data_from};
-ghost use Rattle.topo_types.specs.Data.{IsData};
-ghost use Rattle.command_files.specs.Ran.{Gives};
+ghost use Rattle.topo_forms.specs.Data.{IsData};
+ghost use Rattle.command_checks.specs.Ran.{Gives};
 ghost use Rattle.blazes_commands.specs.Soak as spec;
 
 use blz_value::{Record, Str, Value};
-use command_checks::data_refusal;
-use command_files::{Stop, refused, stop_at};
-use data_read::{Data, DataFault, of_lists};
-use report_print::Refusal;
+use command_checks::{Stop, data_refusal, refused, stop_at};
+use data_read::{DataFault, of_lists};
+use report_lines::Refusal;
 use std::alloc::{AllocError, Global};
-use topo_types::Valid;
+use topo_forms::{Data, Valid};
 
 // How many tweets a batch has.
 const BATCH: u64 = 16;
@@ -63,7 +62,7 @@ fn tweets(alloc: Global, batches: u32) -> Result<Vec<Record>, AllocError>
 }
 
 // Whether a topology has one source, of three columns.
-#[tactic(auto, using(report_derivation::proofs::Streams::source_within))]
+#[tactic(auto, using(report_lines::proofs::Streams::source_within))]
 fn takes_tweets(valid: &Valid) -> bool
     ensures { result ≡ spec.takes_tweets valid.now.view }
 {

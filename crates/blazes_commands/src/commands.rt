@@ -2,20 +2,20 @@
 ghost use Rattle.std.specs.Prelude.{map};
 ghost use Rattle.blazes_commands.specs.Code.Ran.{RepliesTo};
 ghost use Rattle.blazes_words.specs.Requests.{asked_by};
-ghost use Rattle.command_files.specs.Ends.{files_states, source};
+ghost use Rattle.command_checks.specs.Ends.{files_states, source};
 ghost use Rattle.blazes_words.specs.Words.{IsWithin};
-ghost use Rattle.command_runs.specs.Bench.{bench_states};
-ghost use Rattle.command_runs.specs.Replies.{KeepsKinds};
+ghost use Rattle.blazes_commands.specs.Runs.Bench.{bench_states};
+ghost use Rattle.blazes_commands.specs.Runs.Replies.{KeepsKinds};
 
+use crate::find_calls::{why, witness};
+use crate::label_calls::{derive, label, plan, shard};
 use crate::making::make;
+use crate::run_calls::{restart, run};
 use crate::soaking::soak;
 use blazes_words::Request;
-use blz_boxes::Component;
+use bloom_eval::Component;
 use blz_outside::Files;
-use command_files::{Reply, Stop};
-use command_finds::{why, witness};
-use command_labels::{derive, label, plan, shard};
-use command_runs::{restart, run};
+use command_checks::{Reply, Stop};
 use std::alloc::Global;
 
 /// The reply of the command that is asked for, or what stopped it: its checks go in their order, and it

@@ -1,31 +1,30 @@
 //! The command that makes a schedule.
 ghost use Rattle.std.specs.Prelude.{◌≡◌, IfOk, OnOk, Some, map};
-ghost use Rattle.report_print.specs.declared.refusal.Refusal.TheVariants as refusal;
+ghost use Rattle.report_lines.specs.declared.refusal.Refusal.TheVariants as refusal;
 ghost use Rattle.sched_run.specs.Naming.{CanBeWritten};
-ghost use Rattle.sched_hear.specs.Net.{BooksRun};
-ghost use Rattle.topo_types.specs.Data.{IsData};
+ghost use Rattle.sched_net.specs.Net.{BooksRun};
+ghost use Rattle.topo_forms.specs.Data.{IsData};
 ghost use Rattle.blazes_commands.specs.Checks as check;
 ghost use Rattle.blazes_commands.specs.Code.Made.{IsMadeOf, PrintsBooks};
-ghost use Rattle.command_files.specs.Ran.{answer_of};
+ghost use Rattle.command_checks.specs.Ran.{answer_of};
 ghost use Rattle.blazes_commands.specs.Code.Ran.{RepliesTo};
 ghost use Rattle.blazes_words.specs.Requests.{make_shown};
 ghost use Rattle.blazes_commands.specs.Commands.{Says, making};
-ghost use Rattle.command_files.specs.Ends.{files_states, source};
+ghost use Rattle.command_checks.specs.Ends.{files_states, source};
 ghost use Rattle.blazes_words.specs.Words.{Asked};
-ghost use Rattle.command_runs.specs.Bench.{bench_states};
-ghost use Rattle.command_runs.specs.Replies.{KeepsKinds, RepliesAtOnce};
+ghost use Rattle.blazes_commands.specs.Runs.Bench.{bench_states};
+ghost use Rattle.blazes_commands.specs.Runs.Replies.{KeepsKinds, RepliesAtOnce};
 
+use crate::run_calls::{opened, status_of};
 use blazes_words::MakeWords;
-use blz_boxes::Component;
+use bloom_eval::Component;
 use blz_outside::Files;
-use command_checks::{data_file, valid_topology};
-use command_files::{Reply, Stop, stop_at};
-use command_runs::{opened, status_of};
-use data_read::Data;
-use report_print::{MakeKind, Refusal};
-use sched_run::{Made, MakeFault, Net, make_numbered};
+use command_checks::{Reply, Stop, data_file, stop_at, valid_topology};
+use report_lines::{MakeKind, Refusal};
+use sched_net::Net;
+use sched_run::{Made, MakeFault, make_numbered};
 use std::alloc::{AllocError, Global};
-use topo_types::Valid;
+use topo_forms::{Data, Valid};
 
 // The number of the first event that is one too many.
 const FIRST_TOO_MANY: u32 = 1_000_001;

@@ -1,28 +1,28 @@
 //! The command that makes and runs a schedule of the built-in word count, and sums up what came of it.
 ghost use Rattle.std.specs.Prelude.{◌≡◌, IfOk, OnOk, map};
-ghost use Rattle.sched_hear.specs.Net.{BooksRun};
-ghost use Rattle.topo_types.specs.Data.{IsData};
+ghost use Rattle.sched_net.specs.Net.{BooksRun};
+ghost use Rattle.topo_forms.specs.Data.{IsData};
 ghost use Rattle.coord_synth.specs.Laws.{AreCoordinated};
-ghost use Rattle.command_files.specs.Ran.{answer_of};
+ghost use Rattle.command_checks.specs.Ran.{answer_of};
 ghost use Rattle.blazes_words.specs.Requests.{soak_shown};
 ghost use Rattle.blazes_commands.specs.Code.Soaked.{IsSummaryOf, SumsBooks};
 ghost use Rattle.blazes_commands.specs.Commands.{Says, Work, making_for, script, soaking};
 ghost use Rattle.blazes_words.specs.Words.{Asked};
-ghost use Rattle.command_runs.specs.Bench.{bench_states};
-ghost use Rattle.command_runs.specs.Replies.{KeepsKinds, RepliesAtOnce};
+ghost use Rattle.blazes_commands.specs.Runs.Bench.{bench_states};
+ghost use Rattle.blazes_commands.specs.Runs.Replies.{KeepsKinds, RepliesAtOnce};
 
 use crate::batches::tweets_data;
+use crate::label_calls::{planned_count, sound_labels};
 use crate::making::make_refusal;
+use crate::run_calls::opened;
 use blazes_words::SoakWords;
-use blz_boxes::Component;
-use command_files::{Reply, Stop, done, stop_at};
-use command_labels::{planned_count, sound_labels};
-use command_runs::opened;
-use data_read::Data;
-use report_runs::soak_text;
-use sched_run::{Made, MakeFault, Net, make_numbered};
+use bloom_eval::Component;
+use command_checks::{Reply, Stop, done, stop_at};
+use report_print::soak_text;
+use sched_net::Net;
+use sched_run::{Made, MakeFault, make_numbered};
 use std::alloc::{AllocError, Global};
-use topo_types::Valid;
+use topo_forms::{Data, Valid};
 
 // The summary of a net over so many batches.
 fn summed(alloc: Global, valid: &Valid, batches: u32, net: &Net<'_>) -> Result<Reply, AllocError>

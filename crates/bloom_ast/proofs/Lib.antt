@@ -1,4 +1,5 @@
-pub mod Collections
-pub mod Ends
-pub mod Faults
-pub mod Reach
+mod Heights
+mod Fitting
+mod FaultPlaces
+mod FirstFaultLemmas
+mod WholeCheck

@@ -1,3 +1,3 @@
 -- What private functions give.
-pub mod Paired
-pub mod NumberedParts
+pub mod Fitting
+pub mod Checking

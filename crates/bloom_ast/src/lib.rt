@@ -1,29 +1,21 @@
-//! The module language: modules as trees, what an expression and a step mean, and modules that were
-//! checked.
+//! The front of the module language, and the check of a module: its first fault, or the module with its heads
+//! in order. The types and what they mean lie in `bloom_forms`.
 #![tactic(auto)]
 
-mod checked;
-mod columns;
-mod copying;
-mod expr;
-mod facts;
-mod fault;
+mod bounds;
+mod checking;
+mod faults;
+mod fits;
+mod kinds;
 mod laws;
-mod limits;
-mod lookup;
-mod module;
-mod numbered;
-mod numbering;
-mod program;
+mod reads;
 
-pub use checked::Checked;
-pub use columns::{borrowed, joined, seconds};
-pub use expr::{Expr, NamedAgg, Pred, Term};
-pub use facts::Facts;
-pub use fault::{CheckFault, ModuleFault, ModuleKind, ModulePlace};
-pub use laws::{order_law, reads_law, standing_law, step_law, tables_law};
-pub use limits::{MOST_BYTES, MOST_COMPARISONS, MOST_LEVELS};
-pub use lookup::{collection_named, collection_number, declared};
-pub use module::{Collection, Kind, Module, Rule};
-pub use numbered::{NumberedExpr, NumberedRule};
-pub use program::Program;
+pub use bloom_forms::{
+    CheckFault, Checked, Collection, Expr, Facts, Kind, MOST_BYTES, MOST_COMPARISONS, MOST_LEVELS,
+    Module, ModuleFault, ModuleKind, ModulePlace, NamedAgg, NumberedExpr, NumberedRule, Pred,
+    Program, Rule, Term, borrowed, collection_named, collection_number, declared, joined,
+    order_law, reads_law, seconds, standing_law, step_law, tables_law,
+};
+pub use checking::check;
+pub use fits::repeats_column;
+pub use laws::fault_law;

@@ -7,11 +7,11 @@ use Rattle.std.proofs.lemmas.List.{map-append, get_or-set_same, get_or-set_other
 use Rattle.std.proofs.lemmas.List.Filters.{length-filter_more}
 use Rattle.std.proofs.lemmas.Bool.{cases_eq}
 use Rattle.blz_value.specs.Record.{Row}
-use Rattle.bloom_ast.specs.declared.module.Kind.{Kind}
-use Rattle.bloom_ast.specs.declared.module.Kind.TheVariants.{Input, Output, Table, Scratch}
-use Rattle.bloom_ast.specs.declared.module.Collection.{Collection}
-use Rattle.bloom_ast.specs.Kinds.{same_kind, of_kind, kind_at, place_in_kind}
-use Rattle.bloom_ast.specs.Step.{Sets, set_at, begun, begun_at}
+use Rattle.bloom_forms.specs.declared.module.Kind.{Kind}
+use Rattle.bloom_forms.specs.declared.module.Kind.TheVariants.{Input, Output, Table, Scratch}
+use Rattle.bloom_forms.specs.declared.module.Collection.{Collection}
+use Rattle.bloom_forms.specs.Kinds.{same_kind, of_kind, kind_at, place_in_kind}
+use Rattle.bloom_forms.specs.Step.{Sets, set_at, begun, begun_at}
 use Rattle.std.specs.Option.{option_map}
 use Rattle.std.proofs.lemmas.Option.{slice_get-get_or}
 use Rattle.bloom_eval.specs.declared.rows.Rows.{Rows}

@@ -6,19 +6,19 @@ use Rattle.blz_value.specs.Sets.{set_of}
 use Rattle.blz_value.specs.Test.{TestFits}
 use Rattle.blz_value.specs.Operators.{select_rows, project_rows, join_rows, notin_rows}
 use Rattle.blz_value.specs.Groups.{group_rows, at_least_rows}
-use Rattle.bloom_ast.specs.declared.module.Collection.{Collection}
-use Rattle.bloom_ast.specs.declared.numbered.NumberedExpr.{NumberedExpr, Base, Select', Project', Join', NotIn', Group', AtLeast'}
-use Rattle.bloom_ast.specs.Query.{Name, Query}
-use Rattle.bloom_ast.specs.Query.Query.{base, select, project, join, notin, group, at_least}
-use Rattle.bloom_ast.specs.Columns.{columns_of}
-use Rattle.bloom_ast.specs.Lookup.{declared}
-use Rattle.bloom_ast.specs.Numbered.{IsNumbered}
-use Rattle.bloom_ast.specs.Rows.{rows_of}
-use Rattle.bloom_ast.specs.Step.{Sets, set_at, rows_named}
-use Rattle.bloom_ast.specs.Widths.{AreWide}
+use Rattle.bloom_forms.specs.declared.module.Collection.{Collection}
+use Rattle.bloom_forms.specs.declared.numbered.NumberedExpr.{NumberedExpr, Base, Select', Project', Join', NotIn', Group', AtLeast'}
+use Rattle.bloom_forms.specs.Query.{Name, Query}
+use Rattle.bloom_forms.specs.Query.Query.{base, select, project, join, notin, group, at_least}
+use Rattle.bloom_forms.specs.Columns.{columns_of}
+use Rattle.bloom_forms.specs.Lookup.{declared}
+use Rattle.bloom_forms.specs.Numbered.{IsNumbered}
+use Rattle.bloom_forms.specs.Rows.{rows_of}
+use Rattle.bloom_forms.specs.Step.{Sets, set_at, rows_named}
+use Rattle.bloom_forms.specs.Widths.{AreWide}
 use Rattle.bloom_eval.specs.Code.NumberedRows.{numbered_rows, numbered_sets, TestsFit}
 use Rattle.bloom_eval.specs.StepAnswers.{parts_of, part_sets}
-use Rattle.bloom_ast.proofs.Ends.Wide.{wide_rows}
+use Rattle.bloom_forms.proofs.Ends.Wide.{wide_rows}
 
 module _ (cs : List Collection) (sets : Sets) where
   pub same_rows : (q : Query) (e : NumberedExpr) → IsNumbered cs q e → numbered_rows sets e ≡ rows_of (declared cs) (rows_named cs sets) q

@@ -2,12 +2,12 @@
 use Rattle.std.proofs.Common.{ℕ, List, map, subst}
 use Rattle.blz_value.specs.Members.{HaveEqualMembers}
 use Rattle.blz_value.proofs.Membership.{map_members, append_within}
-use Rattle.bloom_ast.specs.Form.{Accepted}
-use Rattle.bloom_ast.specs.Heads.{IsOrdered}
-use Rattle.bloom_ast.specs.Laws.{with_heads}
-use Rattle.bloom_ast.specs.Lookup.{declared}
-use Rattle.bloom_ast.specs.Step.{Sets, set_at, rows_named, at_end}
-use Rattle.bloom_ast.proofs.Ends.OverTables.{one_end}
+use Rattle.bloom_forms.specs.Form.{Accepted}
+use Rattle.bloom_forms.specs.Heads.{IsOrdered}
+use Rattle.bloom_forms.specs.Laws.{with_heads}
+use Rattle.bloom_forms.specs.Lookup.{declared}
+use Rattle.bloom_forms.specs.Step.{Sets, set_at, rows_named, at_end}
+use Rattle.bloom_forms.proofs.Ends.OverTables.{one_end}
 use Rattle.bloom_eval.specs.Laws.{CountsSame}
 use Rattle.bloom_eval.specs.StepAnswers.{rule_sets, counted_at, counted_sets}
 

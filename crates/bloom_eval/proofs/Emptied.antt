@@ -1,7 +1,7 @@
 -- Sets that are emptied one after another.
 use Rattle.std.proofs.Common.{◌≡◌, ◌<◌, ℕ, zero, suc, List, [], ◌∷◌, ◌++◌, length, map, take, drop, slice_set, refl, arith, ap}
 use Rattle.blz_value.specs.Record.{Row}
-use Rattle.bloom_ast.specs.Step.{Sets}
+use Rattle.bloom_forms.specs.Step.{Sets}
 
 -- the first so many sets are empty, the others as they were
 abbrev pub emptied : ℕ → Sets → Sets

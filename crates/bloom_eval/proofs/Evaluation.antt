@@ -6,8 +6,8 @@ use Rattle.blz_set.specs.RecordSet.{row_limit}
 use Rattle.blz_set.specs.Answers.{Gives}
 use Rattle.blz_set.specs.declared.fault.SetFault.{SetFault}
 use Rattle.blz_set.specs.declared.fault.SetFault.TheVariants.{TooManyRows, NoMemory}
-use Rattle.bloom_ast.specs.declared.numbered.NumberedExpr.{NumberedExpr}
-use Rattle.bloom_ast.specs.Step.{Sets}
+use Rattle.bloom_forms.specs.declared.numbered.NumberedExpr.{NumberedExpr}
+use Rattle.bloom_forms.specs.Step.{Sets}
 use Rattle.bloom_eval.specs.declared.rows.Rows.{Rows}
 use Rattle.bloom_eval.specs.Code.Held.{rows_in}
 use Rattle.bloom_eval.specs.Code.NumberedRows.{numbered_rows, numbered_sets}

@@ -11,14 +11,14 @@ use Rattle.blz_value.proofs.RowSets.{set_of-sorted, set_of-append_set, length-se
 use Rattle.blz_set.specs.RecordSet.{row_limit}
 use Rattle.blz_set.specs.declared.fault.SetFault.{SetFault}
 use Rattle.blz_set.specs.declared.fault.SetFault.TheVariants.{TooManyRows, NoMemory}
-use Rattle.bloom_ast.specs.Query.{Name}
-use Rattle.bloom_ast.specs.Form.{RuleForm}
-use Rattle.bloom_ast.specs.declared.module.Collection.{Collection}
-use Rattle.bloom_ast.specs.declared.numbered.NumberedRule.{NumberedRule}
-use Rattle.bloom_ast.specs.Lookup.{collection_number, declared}
-use Rattle.bloom_ast.specs.Numbered.{IsNumberedRule, AreNumbered}
-use Rattle.bloom_ast.specs.Rows.{rows_of}
-use Rattle.bloom_ast.specs.Step.{Sets, set_at, rows_named, union_of, rules_at}
+use Rattle.bloom_forms.specs.Query.{Name}
+use Rattle.bloom_forms.specs.Form.{RuleForm}
+use Rattle.bloom_forms.specs.declared.module.Collection.{Collection}
+use Rattle.bloom_forms.specs.declared.numbered.NumberedRule.{NumberedRule}
+use Rattle.bloom_forms.specs.Lookup.{collection_number, declared}
+use Rattle.bloom_forms.specs.Numbered.{IsNumberedRule, AreNumbered}
+use Rattle.bloom_forms.specs.Rows.{rows_of}
+use Rattle.bloom_forms.specs.Step.{Sets, set_at, rows_named, union_of, rules_at}
 use Rattle.bloom_eval.specs.Code.NumberedRows.{numbered_rows, numbered_sets}
 use Rattle.bloom_eval.specs.StepAnswers.{part_sets, AllFit, rule_sets}
 use Rattle.bloom_eval.specs.Code.Counted.{AddsRows, Adds, TakesHead}

@@ -1,16 +1,16 @@
 -- A checked module can be run.
 use Rattle.std.proofs.Common.{◌≡◌, ◌≢◌, ℕ, true, false, Option, None, Some, List, slice_get, refl, sym, ◌∙◌}
 use Rattle.std.specs.Option.{option_map, option_map_or}
-use Rattle.bloom_ast.specs.declared.module.Kind.{Kind}
-use Rattle.bloom_ast.specs.declared.module.Kind.TheVariants.{Input}
-use Rattle.bloom_ast.specs.declared.module.Collection.{Collection}
-use Rattle.bloom_ast.specs.Checks.{IsRule, IsChecked}
-use Rattle.bloom_ast.specs.Form.{RuleForm, Form, Accepted}
-use Rattle.bloom_ast.specs.Heads.{IsDerived}
-use Rattle.bloom_ast.specs.Kinds.{has_kind, is_head}
-use Rattle.bloom_ast.specs.Lookup.{collection_named, collection_number}
-use Rattle.bloom_ast.specs.Query.{Name}
-use Rattle.bloom_ast.proofs.Collections.Numbers.{get-number}
+use Rattle.bloom_forms.specs.declared.module.Kind.{Kind}
+use Rattle.bloom_forms.specs.declared.module.Kind.TheVariants.{Input}
+use Rattle.bloom_forms.specs.declared.module.Collection.{Collection}
+use Rattle.bloom_forms.specs.Checks.{IsRule, IsChecked}
+use Rattle.bloom_forms.specs.Form.{RuleForm, Form, Accepted}
+use Rattle.bloom_forms.specs.Heads.{IsDerived}
+use Rattle.bloom_forms.specs.Kinds.{has_kind, is_head}
+use Rattle.bloom_forms.specs.Lookup.{collection_named, collection_number}
+use Rattle.bloom_forms.specs.Query.{Name}
+use Rattle.bloom_forms.proofs.Collections.Numbers.{get-number}
 use Rattle.bloom_eval.specs.StepAnswers.{IsGoodRule, IsRunnable}
 
 -- a head that a rule may have is the name of a collection that is no input

@@ -11,25 +11,25 @@ use Rattle.blz_value.proofs.Membership.{Has-append_left, Has-append_right, Has-a
 use Rattle.blz_value.proofs.SetLaws.{Has-from_set_of}
 use Rattle.blz_set.specs.declared.fault.SetFault.{SetFault}
 use Rattle.blz_set.specs.declared.fault.SetFault.TheVariants.{TooManyRows, NoMemory}
-use Rattle.bloom_ast.specs.declared.module.Kind.{Kind}
-use Rattle.bloom_ast.specs.declared.module.Kind.TheVariants.{Input, Output, Table, Scratch}
-use Rattle.bloom_ast.specs.Query.{Name, Query}
-use Rattle.bloom_ast.specs.Query.Query.{base, select, project, join, notin, group, at_least}
-use Rattle.bloom_ast.specs.Form.{RuleForm, Accepted}
-use Rattle.bloom_ast.specs.Columns.{columns_of}
-use Rattle.bloom_ast.specs.Heads.{names_of, IsDerived, InOrder}
-use Rattle.bloom_ast.specs.Kinds.{kind_at}
-use Rattle.bloom_ast.specs.Lookup.{collection_number, declared}
-use Rattle.bloom_ast.specs.Rows.{rows_of}
-use Rattle.bloom_ast.specs.Step.{Sets, set_at, rows_named, ended, rules_at, union_of, ruled_at, with_head}
-use Rattle.bloom_ast.specs.Equations.{Env}
-use Rattle.bloom_ast.proofs.Collections.Numbers.{get-within, derived-some, derived-no_port}
-use Rattle.bloom_ast.proofs.Ends.Equated.{same_rows, same_union, names_none, untouched}
-use Rattle.bloom_ast.specs.Widths.{AreWide}
+use Rattle.bloom_forms.specs.declared.module.Kind.{Kind}
+use Rattle.bloom_forms.specs.declared.module.Kind.TheVariants.{Input, Output, Table, Scratch}
+use Rattle.bloom_forms.specs.Query.{Name, Query}
+use Rattle.bloom_forms.specs.Query.Query.{base, select, project, join, notin, group, at_least}
+use Rattle.bloom_forms.specs.Form.{RuleForm, Accepted}
+use Rattle.bloom_forms.specs.Columns.{columns_of}
+use Rattle.bloom_forms.specs.Heads.{names_of, IsDerived, InOrder}
+use Rattle.bloom_forms.specs.Kinds.{kind_at}
+use Rattle.bloom_forms.specs.Lookup.{collection_number, declared}
+use Rattle.bloom_forms.specs.Rows.{rows_of}
+use Rattle.bloom_forms.specs.Step.{Sets, set_at, rows_named, ended, rules_at, union_of, ruled_at, with_head}
+use Rattle.bloom_forms.specs.Equations.{Env}
+use Rattle.bloom_forms.proofs.Collections.Numbers.{get-within, derived-some, derived-no_port}
+use Rattle.bloom_forms.proofs.Ends.Equated.{same_rows, same_union, names_none, untouched}
+use Rattle.bloom_forms.specs.Widths.{AreWide}
 use Rattle.bloom_eval.specs.StepAnswers.{parts_of, part_sets, AllFit, SomeIsOver, rule_sets, IsRunnable, counted_at}
 use Rattle.bloom_eval.specs.Code.Counted.{TakesHead}
 use Rattle.bloom_eval.specs.Code.Taken.{AreSetsOfAll, AreBegun, all_taken, TakesHeads}
-use Rattle.bloom_ast.proofs.Ends.Wide.{wide_rows}
+use Rattle.bloom_forms.proofs.Ends.Wide.{wide_rows}
 use Rattle.bloom_eval.proofs.Widths.{columns_at, columns-number, length-sets_of_all, wide_at, set_wide, wide_named}
 
 -- ---- what an expression names decides the rows of its parts

@@ -5,19 +5,19 @@ use Rattle.std.specs.List.{zip}
 use Rattle.std.specs.Option.{option_map_or}
 use Rattle.std.proofs.lemmas.List.FromFn.{length-map-range_with_len}
 use Rattle.blz_value.specs.Record.{Row}
-use Rattle.bloom_ast.specs.declared.module.Kind.{Kind}
-use Rattle.bloom_ast.specs.declared.module.Kind.TheVariants.{Input, Output, Table, Scratch}
-use Rattle.bloom_ast.specs.declared.module.Collection.{Collection}
-use Rattle.bloom_ast.specs.Query.{Name}
-use Rattle.bloom_ast.specs.Kinds.{same_kind, of_kind, kind_at, place_in_kind}
-use Rattle.bloom_ast.specs.Lookup.{collection_number, declared}
-use Rattle.bloom_ast.specs.Program.{columns_of_kind}
-use Rattle.bloom_ast.specs.Step.{Sets, set_at, rows_named, begun, begun_at, at_start, sets_of_kind}
-use Rattle.bloom_ast.proofs.Collections.Numbers.{get-number, derived-no_port}
-use Rattle.bloom_ast.proofs.Ends.Equated.{starts}
+use Rattle.bloom_forms.specs.declared.module.Kind.{Kind}
+use Rattle.bloom_forms.specs.declared.module.Kind.TheVariants.{Input, Output, Table, Scratch}
+use Rattle.bloom_forms.specs.declared.module.Collection.{Collection}
+use Rattle.bloom_forms.specs.Query.{Name}
+use Rattle.bloom_forms.specs.Kinds.{same_kind, of_kind, kind_at, place_in_kind}
+use Rattle.bloom_forms.specs.Lookup.{collection_number, declared}
+use Rattle.bloom_forms.specs.Program.{columns_of_kind}
+use Rattle.bloom_forms.specs.Step.{Sets, set_at, rows_named, begun, begun_at, at_start, sets_of_kind}
+use Rattle.bloom_forms.proofs.Collections.Numbers.{get-number, derived-no_port}
+use Rattle.bloom_forms.proofs.Ends.Equated.{starts}
 use Rattle.bloom_eval.specs.Code.Begin.{AreLeft}
-use Rattle.bloom_ast.specs.Widths.{AreWide}
-use Rattle.bloom_ast.specs.Widths.{AreSetsOf}
+use Rattle.bloom_forms.specs.Widths.{AreWide}
+use Rattle.bloom_forms.specs.Widths.{AreSetsOf}
 use Rattle.bloom_eval.specs.Code.Taken.{AreSetsOfAll, AreBegun}
 
 -- the columns of the collection with the number

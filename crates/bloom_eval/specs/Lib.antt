@@ -1,3 +1,6 @@
 pub mod StepAnswers
 pub mod Laws
 pub mod Code
+pub mod Kind
+pub mod Step
+pub mod Changes

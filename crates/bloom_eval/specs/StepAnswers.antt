@@ -6,15 +6,15 @@ use Rattle.blz_value.specs.Record.{Row}
 use Rattle.blz_set.specs.RecordSet.{row_limit}
 use Rattle.blz_set.specs.declared.fault.SetFault.{SetFault}
 use Rattle.blz_set.specs.declared.fault.SetFault.TheVariants as set
-use Rattle.bloom_ast.specs.declared.module.Collection.{Collection}
-use Rattle.bloom_ast.specs.Form.{RuleForm, Accepted}
-use Rattle.bloom_ast.specs.Lookup.{collection_number, declared}
-use Rattle.bloom_ast.specs.Columns.{columns_of}
-use Rattle.bloom_ast.specs.Heads.{IsOrdered}
-use Rattle.bloom_ast.specs.Query.{Name, Query}
-use Rattle.bloom_ast.specs.Query.Query.{base, select, project, join, notin, group, at_least}
-use Rattle.bloom_ast.specs.Rows.{rows_of}
-use Rattle.bloom_ast.specs.Step.{Sets, set_at, rows_named, at_end, tables_after, outputs_of}
+use Rattle.bloom_forms.specs.declared.module.Collection.{Collection}
+use Rattle.bloom_forms.specs.Form.{RuleForm, Accepted}
+use Rattle.bloom_forms.specs.Lookup.{collection_number, declared}
+use Rattle.bloom_forms.specs.Columns.{columns_of}
+use Rattle.bloom_forms.specs.Heads.{IsOrdered}
+use Rattle.bloom_forms.specs.Query.{Name, Query}
+use Rattle.bloom_forms.specs.Query.Query.{base, select, project, join, notin, group, at_least}
+use Rattle.bloom_forms.specs.Rows.{rows_of}
+use Rattle.bloom_forms.specs.Step.{Sets, set_at, rows_named, at_end, tables_after, outputs_of}
 use Rattle.bloom_eval.specs.declared.fault.StepFault.{StepFault}
 use Rattle.bloom_eval.specs.declared.fault.StepFault.TheVariants.{TooManyRows, NoMemory}
 

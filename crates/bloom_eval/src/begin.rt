@@ -1,14 +1,14 @@
 //! What the collections hold at the beginning of a step.
 ghost use Rattle.std.specs.Prelude.{◌≡◌, ◌<◌, ◌^◌, length, Some, IfOk};
-ghost use Rattle.bloom_ast.specs.declared.module.Kind.TheVariants.{Input, Table};
-ghost use Rattle.bloom_ast.specs.Kinds.{of_kind};
-ghost use Rattle.bloom_ast.specs.Step.{set_at, begun, at_start};
+ghost use Rattle.bloom_forms.specs.declared.module.Kind.TheVariants.{Input, Table};
+ghost use Rattle.bloom_forms.specs.Kinds.{of_kind};
+ghost use Rattle.bloom_forms.specs.Step.{set_at, begun, at_start};
 ghost use Rattle.bloom_eval.specs.Code.Held.{rows_in, sets_in};
 ghost use Rattle.bloom_eval.specs.Code.Begin.{left_by, place_after, AreLeft};
 
 use crate::rows::Rows;
 use crate::sets::Kept;
-use bloom_ast::{Collection, Kind};
+use bloom_forms::{Collection, Kind};
 use blz_set::RecordSet;
 use std::alloc::{AllocError, Global};
 

@@ -3,13 +3,13 @@ ghost use Rattle.std.specs.Prelude.{◌≡◌, ◌≤◌, List, length};
 ghost use Rattle.blz_value.specs.Record.{Row};
 ghost use Rattle.blz_set.specs.Answers.{Gives};
 ghost use Rattle.blz_set.specs.RecordSet.{row_limit};
-ghost use Rattle.bloom_ast.specs.Step.{set_at};
+ghost use Rattle.bloom_forms.specs.Step.{set_at};
 ghost use Rattle.bloom_eval.specs.Code.Held.{rows_in, sets_in};
 ghost use Rattle.bloom_eval.specs.Code.NumberedRows.{numbered_rows, numbered_sets, TestsFit};
 ghost use Rattle.bloom_eval.specs.Code.Evaluates.{GivesRows, Evaluates};
 
 use crate::rows::Rows;
-use bloom_ast::NumberedExpr;
+use bloom_forms::NumberedExpr;
 use blz_set::{RecordSet, SetFault};
 use std::alloc::Global;
 

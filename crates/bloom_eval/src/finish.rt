@@ -1,13 +1,13 @@
 //! What the collections hold at the end of a step.
 ghost use Rattle.std.specs.Prelude.{◌≡◌, ◌++◌, length, OnOk, IfOk};
-ghost use Rattle.bloom_ast.specs.declared.module.Kind.TheVariants.{Output, Table};
-ghost use Rattle.bloom_ast.specs.Step.{sets_of_kind};
+ghost use Rattle.bloom_forms.specs.declared.module.Kind.TheVariants.{Output, Table};
+ghost use Rattle.bloom_forms.specs.Step.{sets_of_kind};
 ghost use Rattle.bloom_eval.specs.Code.Held.{rows_in, sets_in};
 ghost use Rattle.bloom_eval.specs.Code.Finish.{placed};
 
 use crate::rows::{Rows, take_rows};
 use crate::sets::{Kept, Outs};
-use bloom_ast::{Collection, Kind};
+use bloom_forms::{Collection, Kind};
 use blz_set::RecordSet;
 use std::alloc::{AllocError, Global};
 

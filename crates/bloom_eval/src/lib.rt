@@ -1,17 +1,21 @@
-//! One step of a module that was checked, evaluated plainly: each expression anew from the sets that
-//! it reads.
+//! One step of a module that was checked, evaluated plainly, each expression anew from the sets that it reads;
+//! and the interface of whatever steps a program.
 #![tactic(auto)]
 
 mod begin;
+mod component;
 mod evaluate;
 mod fault;
 mod finish;
+mod kind;
 mod laws;
 mod rows;
 mod sets;
 mod step;
 
+pub use component::Component;
 pub use fault::StepFault;
+pub use kind::ProgramKind;
 pub use laws::counted_law;
 pub use sets::{Arrivals, Kept, Outs};
 pub use step::step_plain;

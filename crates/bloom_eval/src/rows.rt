@@ -1,7 +1,7 @@
 //! Sets that are lent or owned.
 ghost use Rattle.std.specs.Prelude.{◌≡◌, ◌<◌, [], length, slice_set, IfOk};
 ghost use Rattle.blz_set.specs.RecordSet.{IsRecordSet};
-ghost use Rattle.bloom_ast.specs.Step.{set_at};
+ghost use Rattle.bloom_forms.specs.Step.{set_at};
 ghost use Rattle.bloom_eval.specs.Code.Held.{rows_in, sets_in};
 
 use blz_set::RecordSet;

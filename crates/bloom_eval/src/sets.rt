@@ -1,6 +1,6 @@
 //! What a program keeps, what arrives at its ports, and what it puts out: lists of sets.
 ghost use Rattle.std.specs.Prelude.{◌≡◌, ◌<◌, [], length, map, slice_set};
-ghost use Rattle.bloom_ast.specs.Step.{set_at};
+ghost use Rattle.bloom_forms.specs.Step.{set_at};
 
 use blz_set::RecordSet;
 use std::alloc::Global;
@@ -14,7 +14,7 @@ pub struct Kept {
 }
 
 impl Model for Kept {
-    ghost use Rattle.bloom_ast.specs.Step.{Sets};
+    ghost use Rattle.bloom_forms.specs.Step.{Sets};
 
     ghost Value = { Sets };
 
@@ -62,7 +62,7 @@ pub struct Arrivals {
 }
 
 impl Model for Arrivals {
-    ghost use Rattle.bloom_ast.specs.Step.{Sets};
+    ghost use Rattle.bloom_forms.specs.Step.{Sets};
 
     ghost Value = { Sets };
 
@@ -92,7 +92,7 @@ pub struct Outs {
 }
 
 impl Model for Outs {
-    ghost use Rattle.bloom_ast.specs.Step.{Sets};
+    ghost use Rattle.bloom_forms.specs.Step.{Sets};
 
     ghost Value = { Sets };
 

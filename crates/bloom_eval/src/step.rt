@@ -1,13 +1,13 @@
 //! One step of a module.
 ghost use Rattle.std.specs.Prelude.{◌≡◌, ◌<◌, [], length, slice_set, IfOk, OnOk};
-ghost use Rattle.bloom_ast.specs.Lookup.{declared};
-ghost use Rattle.bloom_ast.specs.declared.module.Kind.TheVariants.{Input, Table};
-ghost use Rattle.bloom_ast.specs.Program.{columns_of_kind};
-ghost use Rattle.bloom_ast.specs.Step.{set_at, rows_named, rules_at};
+ghost use Rattle.bloom_forms.specs.Lookup.{declared};
+ghost use Rattle.bloom_forms.specs.declared.module.Kind.TheVariants.{Input, Table};
+ghost use Rattle.bloom_forms.specs.Program.{columns_of_kind};
+ghost use Rattle.bloom_forms.specs.Step.{set_at, rows_named, rules_at};
 ghost use Rattle.bloom_eval.specs.Code.Held.{sets_in};
 ghost use Rattle.bloom_eval.specs.Code.NumberedRows.{numbered_rows, numbered_sets, TestsFit};
 ghost use Rattle.bloom_eval.specs.Code.Counted.{AddsRows, Adds, TakesHead};
-ghost use Rattle.bloom_ast.specs.Widths.{AreSetsOf};
+ghost use Rattle.bloom_forms.specs.Widths.{AreSetsOf};
 ghost use Rattle.bloom_eval.specs.StepAnswers.{IsRunnable, StepGives};
 ghost use Rattle.bloom_eval.specs.Code.Taken.{AreSetsOfAll, AreBegun, TakesHeads};
 
@@ -17,7 +17,7 @@ use crate::fault::StepFault;
 use crate::finish::finish;
 use crate::rows::{Rows, take_rows};
 use crate::sets::{Arrivals, Kept, Outs};
-use bloom_ast::{Checked, NumberedRule};
+use bloom_forms::{Checked, NumberedRule};
 use blz_set::{RecordSet, SetFault};
 use std::alloc::{AllocError, Global};
 

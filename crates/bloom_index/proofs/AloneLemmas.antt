@@ -14,18 +14,18 @@ use Rattle.blz_value.proofs.SetLaws.{sorted_set_of}
 use Rattle.blz_value.specs.Groups.{group_rows}
 use Rattle.blz_set.specs.declared.fault.SetFault.{SetFault}
 use Rattle.blz_set.specs.declared.fault.SetFault.TheVariants.{TooManyRows, NoMemory}
-use Rattle.bloom_ast.specs.declared.module.Collection.{Collection}
-use Rattle.bloom_ast.specs.declared.module.Kind.{Kind}
-use Rattle.bloom_ast.specs.declared.module.Kind.TheVariants.{Input, Output, Table, Scratch}
-use Rattle.bloom_ast.specs.declared.numbered.NumberedExpr.{NumberedExpr}
-use Rattle.bloom_ast.specs.declared.numbered.NumberedExpr as expr
-use Rattle.bloom_ast.specs.declared.numbered.NumberedRule.{NumberedRule}
-use Rattle.bloom_ast.specs.Form.{RuleForm}
-use Rattle.bloom_ast.specs.Kinds.{is_output, kind_at}
-use Rattle.bloom_ast.specs.Lookup.{collection_number, declared}
-use Rattle.bloom_ast.specs.Numbered.{AreNumbered}
-use Rattle.bloom_ast.specs.Rows.{rows_of}
-use Rattle.bloom_ast.specs.Step.{Sets, rows_named, rules_at, union_of, ruled_at}
+use Rattle.bloom_forms.specs.declared.module.Collection.{Collection}
+use Rattle.bloom_forms.specs.declared.module.Kind.{Kind}
+use Rattle.bloom_forms.specs.declared.module.Kind.TheVariants.{Input, Output, Table, Scratch}
+use Rattle.bloom_forms.specs.declared.numbered.NumberedExpr.{NumberedExpr}
+use Rattle.bloom_forms.specs.declared.numbered.NumberedExpr as expr
+use Rattle.bloom_forms.specs.declared.numbered.NumberedRule.{NumberedRule}
+use Rattle.bloom_forms.specs.Form.{RuleForm}
+use Rattle.bloom_forms.specs.Kinds.{is_output, kind_at}
+use Rattle.bloom_forms.specs.Lookup.{collection_number, declared}
+use Rattle.bloom_forms.specs.Numbered.{AreNumbered}
+use Rattle.bloom_forms.specs.Rows.{rows_of}
+use Rattle.bloom_forms.specs.Step.{Sets, rows_named, rules_at, union_of, ruled_at}
 use Rattle.bloom_eval.specs.Code.NumberedRows.{numbered_rows, numbered_sets}
 use Rattle.bloom_eval.specs.StepAnswers.{part_sets, rule_sets}
 use Rattle.bloom_eval.proofs.ByNumbers.{same_rows, same_sets}

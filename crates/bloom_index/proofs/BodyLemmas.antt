@@ -3,19 +3,19 @@ use Rattle.std.proofs.Common.{◌≡◌, ◌<◌, ℕ, Bool, List, [], length, O
 use Rattle.std.proofs.lemmas.List.{length-map}
 use Rattle.std.specs.Result.{IsErrAnd}
 use Rattle.blz_boxes.proofs.Tables.{empties_wide}
-use Rattle.bloom_ast.specs.declared.module.Kind.TheVariants.{Table}
-use Rattle.bloom_ast.specs.declared.module.Collection.{Collection}
-use Rattle.bloom_ast.specs.declared.numbered.NumberedRule.{NumberedRule}
-use Rattle.bloom_ast.specs.declared.program.Program.TheVariants.{Module}
-use Rattle.bloom_ast.specs.Form.{Accepted}
-use Rattle.bloom_ast.specs.Kinds.{of_kind, kind_at, place_in_kind}
-use Rattle.bloom_ast.specs.Numbered.{AreNumbered}
-use Rattle.bloom_ast.specs.Program.{columns_of_kind, table_columns}
-use Rattle.bloom_ast.specs.ProgramStep.{empty_tables}
-use Rattle.bloom_ast.specs.Step.{Sets, set_at}
-use Rattle.bloom_ast.specs.Widths.{AreSetsOf}
-use Rattle.bloom_ast.proofs.Collections.Numbers.{set-of_kind}
-use Rattle.bloom_ast.proofs.Ends.SameEnds.{none_at}
+use Rattle.bloom_forms.specs.declared.module.Kind.TheVariants.{Table}
+use Rattle.bloom_forms.specs.declared.module.Collection.{Collection}
+use Rattle.bloom_forms.specs.declared.numbered.NumberedRule.{NumberedRule}
+use Rattle.bloom_forms.specs.declared.program.Program.TheVariants.{Module}
+use Rattle.bloom_forms.specs.Form.{Accepted}
+use Rattle.bloom_forms.specs.Kinds.{of_kind, kind_at, place_in_kind}
+use Rattle.bloom_forms.specs.Numbered.{AreNumbered}
+use Rattle.bloom_forms.specs.Program.{columns_of_kind, table_columns}
+use Rattle.bloom_forms.specs.ProgramStep.{empty_tables}
+use Rattle.bloom_forms.specs.Step.{Sets, set_at}
+use Rattle.bloom_forms.specs.Widths.{AreSetsOf}
+use Rattle.bloom_forms.proofs.Collections.Numbers.{set-of_kind}
+use Rattle.bloom_forms.proofs.Ends.SameEnds.{none_at}
 use Rattle.bloom_eval.specs.declared.fault.StepFault.{StepFault}
 use Rattle.bloom_eval.proofs.Widths.{length-sets_of}
 use Rattle.bloom_index.specs.declared.heads.RuleMemo.{RuleMemo}

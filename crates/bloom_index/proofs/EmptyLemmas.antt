@@ -7,22 +7,22 @@ use Rattle.std.proofs.lemmas.Bool.{cases_Bool}
 use Rattle.std.proofs.lemmas.List.{length-map, take_more}
 use Rattle.std.proofs.lemmas.Slice.Zip.{all_zipped_more}
 use Rattle.blz_boxes.proofs.Tables.{empties_wide}
-use Rattle.bloom_ast.specs.declared.module.Kind.{Kind}
-use Rattle.bloom_ast.specs.declared.module.Kind.TheVariants.{Table}
-use Rattle.bloom_ast.specs.declared.module.Collection.{Collection}
-use Rattle.bloom_ast.specs.declared.numbered.NumberedRule.{NumberedRule}
-use Rattle.bloom_ast.specs.declared.program.Program.TheVariants.{Module}
-use Rattle.bloom_ast.specs.Form.{RuleForm, Accepted}
-use Rattle.bloom_ast.specs.Kinds.{same_kind, is_output, kind_at}
-use Rattle.bloom_ast.specs.Lookup.{collection_number}
-use Rattle.bloom_ast.specs.Numbered.{AreNumbered}
-use Rattle.bloom_ast.specs.Program.{columns_of_kind}
-use Rattle.bloom_ast.specs.ProgramStep.{no_arrivals, empty_tables}
-use Rattle.bloom_ast.specs.Query.{Name}
-use Rattle.bloom_ast.specs.Step.{Sets, set_at, rules_at, sets_of_kind, at_end, tables_after}
-use Rattle.bloom_ast.specs.Widths.{AreSetsOf}
-use Rattle.bloom_ast.proofs.Ends.Equated.{length-at_end}
-use Rattle.bloom_ast.proofs.Ends.SameEnds.{same_by_places, none_at}
+use Rattle.bloom_forms.specs.declared.module.Kind.{Kind}
+use Rattle.bloom_forms.specs.declared.module.Kind.TheVariants.{Table}
+use Rattle.bloom_forms.specs.declared.module.Collection.{Collection}
+use Rattle.bloom_forms.specs.declared.numbered.NumberedRule.{NumberedRule}
+use Rattle.bloom_forms.specs.declared.program.Program.TheVariants.{Module}
+use Rattle.bloom_forms.specs.Form.{RuleForm, Accepted}
+use Rattle.bloom_forms.specs.Kinds.{same_kind, is_output, kind_at}
+use Rattle.bloom_forms.specs.Lookup.{collection_number}
+use Rattle.bloom_forms.specs.Numbered.{AreNumbered}
+use Rattle.bloom_forms.specs.Program.{columns_of_kind}
+use Rattle.bloom_forms.specs.ProgramStep.{no_arrivals, empty_tables}
+use Rattle.bloom_forms.specs.Query.{Name}
+use Rattle.bloom_forms.specs.Step.{Sets, set_at, rules_at, sets_of_kind, at_end, tables_after}
+use Rattle.bloom_forms.specs.Widths.{AreSetsOf}
+use Rattle.bloom_forms.proofs.Ends.Equated.{length-at_end}
+use Rattle.bloom_forms.proofs.Ends.SameEnds.{same_by_places, none_at}
 use Rattle.bloom_index.specs.declared.heads.RuleMemo.{RuleMemo}
 use Rattle.bloom_index.specs.declared.step.Parts.{Parts}
 use Rattle.bloom_index.specs.Code.Emptiness.{AreEmpty, IsFresh}

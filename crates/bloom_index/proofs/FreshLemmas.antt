@@ -11,23 +11,23 @@ use Rattle.blz_value.specs.Record.{Row}
 use Rattle.blz_value.specs.Sets.{set_of}
 use Rattle.blz_value.specs.Test.{test_holds}
 use Rattle.blz_set.specs.Code.Pairs.{lefts_of, rights_of}
-use Rattle.bloom_ast.specs.declared.module.Kind.{Kind}
-use Rattle.bloom_ast.specs.declared.module.Kind.TheVariants.{Input, Output, Table, Scratch}
-use Rattle.bloom_ast.specs.declared.numbered.NumberedExpr.{NumberedExpr}
-use Rattle.bloom_ast.specs.declared.numbered.NumberedExpr as expr
-use Rattle.bloom_ast.specs.declared.program.Program.TheVariants.{Module}
-use Rattle.bloom_ast.specs.Equations.{Env}
-use Rattle.bloom_ast.specs.Form.{RuleForm, Form, Accepted}
-use Rattle.bloom_ast.specs.Kinds.{kind_at, place_in_kind}
-use Rattle.bloom_ast.specs.Lookup.{collection_number, declared}
-use Rattle.bloom_ast.specs.OverTables.{without_table_rules, env_over}
-use Rattle.bloom_ast.specs.Program.{port_columns, table_columns}
-use Rattle.bloom_ast.specs.ProgramStep.{no_arrivals, empty_tables}
-use Rattle.bloom_ast.specs.Query.{Name}
-use Rattle.bloom_ast.specs.Step.{Sets, set_at, begun, ended, at_start, rules_at, union_of, ruled_at, rows_named, with_head, at_end}
-use Rattle.bloom_ast.proofs.Ends.Equated.{starts}
-use Rattle.bloom_ast.proofs.Ends.SameEnds.{none_at}
-use Rattle.bloom_ast.proofs.Reach.Quiet.{empty_rows}
+use Rattle.bloom_forms.specs.declared.module.Kind.{Kind}
+use Rattle.bloom_forms.specs.declared.module.Kind.TheVariants.{Input, Output, Table, Scratch}
+use Rattle.bloom_forms.specs.declared.numbered.NumberedExpr.{NumberedExpr}
+use Rattle.bloom_forms.specs.declared.numbered.NumberedExpr as expr
+use Rattle.bloom_forms.specs.declared.program.Program.TheVariants.{Module}
+use Rattle.bloom_forms.specs.Equations.{Env}
+use Rattle.bloom_forms.specs.Form.{RuleForm, Form, Accepted}
+use Rattle.bloom_forms.specs.Kinds.{kind_at, place_in_kind}
+use Rattle.bloom_forms.specs.Lookup.{collection_number, declared}
+use Rattle.bloom_forms.specs.OverTables.{without_table_rules, env_over}
+use Rattle.bloom_forms.specs.Program.{port_columns, table_columns}
+use Rattle.bloom_forms.specs.ProgramStep.{no_arrivals, empty_tables}
+use Rattle.bloom_forms.specs.Query.{Name}
+use Rattle.bloom_forms.specs.Step.{Sets, set_at, begun, ended, at_start, rules_at, union_of, ruled_at, rows_named, with_head, at_end}
+use Rattle.bloom_forms.proofs.Ends.Equated.{starts}
+use Rattle.bloom_forms.proofs.Ends.SameEnds.{none_at}
+use Rattle.bloom_forms.proofs.Reach.Quiet.{empty_rows}
 use Rattle.bloom_eval.specs.Code.NumberedRows.{numbered_rows}
 use Rattle.bloom_index.specs.declared.excluding.NotInMemo.{NotInMemo}
 use Rattle.bloom_growth.specs.declared.joining.JoinMemo.{JoinMemo}

@@ -7,31 +7,31 @@ use Rattle.std.specs.List.{list_all}
 use Rattle.std.proofs.lemmas.Bool.{cases_Bool, and_parts, and_from, or_cases, true≢false, eq-eqb}
 use Rattle.blz_value.specs.Members.{Has}
 use Rattle.blz_value.proofs.Membership.{Has-append_left, Has-append_right, Has-filter, Has-from_filter, all_member, all_from}
-use Rattle.fd_closure.specs.Bits.{bit_of, meets}
-use Rattle.fd_closure.proofs.Within.{within-or_l, within-or_r}
-use Rattle.fd_closure.proofs.Members.{in-within, in-or, one_number, own-in}
-use Rattle.fd_closure.proofs.Least.{closure-least}
-use Rattle.fd_closure.proofs.Reached.{least-monotone}
-use Rattle.bloom_ast.specs.declared.module.Kind.{Kind}
-use Rattle.bloom_ast.specs.declared.module.Kind.TheVariants.{Input, Output, Table, Scratch}
-use Rattle.bloom_ast.specs.declared.module.Collection.{Collection}
-use Rattle.bloom_ast.specs.declared.numbered.NumberedExpr.{NumberedExpr, Base, Select', Project', Join', NotIn', Group', AtLeast'}
-use Rattle.bloom_ast.specs.declared.numbered.NumberedRule.{NumberedRule}
-use Rattle.bloom_ast.specs.Checks.{IsChecked}
-use Rattle.bloom_ast.specs.Form.{RuleForm, Accepted}
-use Rattle.bloom_ast.specs.Heads.{names_of}
-use Rattle.bloom_ast.specs.Kinds.{has_kind, is_scratch, kind_at}
-use Rattle.bloom_ast.specs.Lookup.{collection_number}
-use Rattle.bloom_ast.specs.Numbered.{IsNumbered, AreNumbered}
-use Rattle.bloom_ast.specs.Plain.{is_plain, is_free, scratch_rules_read}
-use Rattle.bloom_ast.specs.Query.{Name, Query}
-use Rattle.bloom_ast.specs.Query.Query.{base, select, project, join, notin, group, at_least}
-use Rattle.bloom_ast.specs.Reads.{set_of_name, named, scratch_arrows, direct, NamesScratchRule}
-use Rattle.bloom_ast.specs.Step.{rules_at}
-use Rattle.bloom_ast.proofs.Collections.KindSets.{kind-named, named-kind}
-use Rattle.bloom_ast.proofs.Reach.MomentaryLemmas.{kind_is, now, port_now, join_now, left_now, right_now, name_now, table_later, scratch_now}
-use Rattle.bloom_ast.proofs.Reach.ReadsLemmas.{number_of, small_number, rules_named, rule_stands, IsRead, reads, named_in}
-use Rattle.bloom_ast.proofs.Reach.Unfolding.{direct_unfolds, direct_folds}
+use Rattle.blz_value.specs.Bits.{bit_of, meets}
+use Rattle.blz_value.proofs.Within.{within-or_l, within-or_r}
+use Rattle.blz_value.proofs.Members.{in-within, in-or, one_number, own-in}
+use Rattle.blz_value.proofs.Least.{closure-least}
+use Rattle.blz_value.proofs.Reached.{least-monotone}
+use Rattle.bloom_forms.specs.declared.module.Kind.{Kind}
+use Rattle.bloom_forms.specs.declared.module.Kind.TheVariants.{Input, Output, Table, Scratch}
+use Rattle.bloom_forms.specs.declared.module.Collection.{Collection}
+use Rattle.bloom_forms.specs.declared.numbered.NumberedExpr.{NumberedExpr, Base, Select', Project', Join', NotIn', Group', AtLeast'}
+use Rattle.bloom_forms.specs.declared.numbered.NumberedRule.{NumberedRule}
+use Rattle.bloom_forms.specs.Checks.{IsChecked}
+use Rattle.bloom_forms.specs.Form.{RuleForm, Accepted}
+use Rattle.bloom_forms.specs.Heads.{names_of}
+use Rattle.bloom_forms.specs.Kinds.{has_kind, is_scratch, kind_at}
+use Rattle.bloom_forms.specs.Lookup.{collection_number}
+use Rattle.bloom_forms.specs.Numbered.{IsNumbered, AreNumbered}
+use Rattle.bloom_forms.specs.Plain.{is_plain, is_free, scratch_rules_read}
+use Rattle.bloom_forms.specs.Query.{Name, Query}
+use Rattle.bloom_forms.specs.Query.Query.{base, select, project, join, notin, group, at_least}
+use Rattle.bloom_forms.specs.Reads.{set_of_name, named, scratch_arrows, direct, NamesScratchRule}
+use Rattle.bloom_forms.specs.Step.{rules_at}
+use Rattle.bloom_forms.proofs.Collections.KindSets.{kind-named, named-kind}
+use Rattle.bloom_forms.proofs.Reach.MomentaryLemmas.{kind_is, now, port_now, join_now, left_now, right_now, name_now, table_later, scratch_now}
+use Rattle.bloom_forms.proofs.Reach.ReadsLemmas.{number_of, small_number, rules_named, rule_stands, IsRead, reads, named_in}
+use Rattle.bloom_forms.proofs.Reach.Unfolding.{direct_unfolds, direct_folds}
 use Rattle.bloom_index.specs.Growing.{is_growing}
 use Rattle.bloom_index.specs.Code.Growth.{grows_at, grows, grows_for, rules_grow, kind_grows, IsMarked, AreMarkedBelow, AreGrowing}
 

@@ -10,9 +10,9 @@ use Rattle.blz_set.specs.RecordSet.{row_limit, IsRecordSet}
 use Rattle.blz_set.specs.declared.fault.SetFault.{SetFault}
 use Rattle.blz_set.specs.declared.fault.SetFault.TheVariants.{TooManyRows, NoMemory}
 use Rattle.blz_set.proofs.Unions.{handed_on}
-use Rattle.bloom_ast.specs.declared.numbered.NumberedRule.{NumberedRule}
-use Rattle.bloom_ast.specs.Lookup.{declared}
-use Rattle.bloom_ast.specs.Step.{rows_named, rules_at}
+use Rattle.bloom_forms.specs.declared.numbered.NumberedRule.{NumberedRule}
+use Rattle.bloom_forms.specs.Lookup.{declared}
+use Rattle.bloom_forms.specs.Step.{rows_named, rules_at}
 use Rattle.bloom_eval.specs.Code.Counted.{Adds}
 use Rattle.bloom_index.specs.declared.change.Change.{Change}
 use Rattle.bloom_index.specs.declared.heads.RuleMemo.{RuleMemo}

@@ -11,34 +11,34 @@ use Rattle.blz_value.specs.Record.{Row}
 use Rattle.blz_value.specs.Sets.{set_of, IsRowSet}
 use Rattle.blz_value.proofs.Membership.{All-of_member, all_member, Has-append_cases, Has-filter, Has-from_filter, Has-from_flat_map, Has-get_or}
 use Rattle.blz_value.proofs.SetLaws.{sorted_set_of, Has-from_set_of}
-use Rattle.bloom_ast.specs.declared.module.Kind.{Kind}
-use Rattle.bloom_ast.specs.declared.module.Kind.TheVariants.{Input, Output, Table, Scratch}
-use Rattle.bloom_ast.specs.declared.module.Collection.{Collection}
-use Rattle.bloom_ast.specs.declared.program.Program.TheVariants.{Module}
-use Rattle.bloom_ast.specs.Checks.{IsChecked}
-use Rattle.bloom_ast.specs.Columns.{columns_of}
-use Rattle.bloom_ast.specs.Equations.{Env, set_named, end_env, rules_of}
-use Rattle.bloom_ast.specs.Form.{RuleForm, Accepted}
-use Rattle.bloom_ast.specs.Heads.{names_of}
-use Rattle.bloom_ast.specs.Kinds.{has_kind, is_readable, is_scratch, kind_at}
-use Rattle.bloom_ast.specs.Lookup.{collection_number, kind_of, declared}
-use Rattle.bloom_ast.specs.OverTables.{over, env_over, without_table_rules}
-use Rattle.bloom_ast.specs.Plain.{is_free}
-use Rattle.bloom_ast.specs.Program.{columns_of_kind}
-use Rattle.bloom_ast.specs.ProgramStep.{no_arrivals}
-use Rattle.bloom_ast.specs.Query.{Name, Query}
-use Rattle.bloom_ast.specs.Query.Query.{base}
-use Rattle.bloom_ast.specs.Reads.{is_momentary}
-use Rattle.bloom_ast.specs.Rows.{rows_of}
-use Rattle.bloom_ast.specs.Step.{Sets, set_at, ended, rows_named, at_start, rules_at, union_of, ruled_at, with_head, at_end, tables_after}
-use Rattle.bloom_ast.specs.Widths.{AreSetsOf}
-use Rattle.bloom_ast.proofs.Collections.NameNumbers.{and_parts}
-use Rattle.bloom_ast.proofs.Collections.Numbers.{kind-number}
-use Rattle.bloom_ast.proofs.Ends.Equated.{same_rows, end_solves, length-at_end, set-made}
-use Rattle.bloom_ast.proofs.Ends.OverTables.{over_solved, end_over}
-use Rattle.bloom_ast.proofs.Ends.Wide.{wide_rows}
-use Rattle.bloom_ast.proofs.Reach.Quiet.{input_momentary, scratch_momentary, names_momentary}
-use Rattle.bloom_ast.proofs.Reach.ReadsLemmas.{by_names}
+use Rattle.bloom_forms.specs.declared.module.Kind.{Kind}
+use Rattle.bloom_forms.specs.declared.module.Kind.TheVariants.{Input, Output, Table, Scratch}
+use Rattle.bloom_forms.specs.declared.module.Collection.{Collection}
+use Rattle.bloom_forms.specs.declared.program.Program.TheVariants.{Module}
+use Rattle.bloom_forms.specs.Checks.{IsChecked}
+use Rattle.bloom_forms.specs.Columns.{columns_of}
+use Rattle.bloom_forms.specs.Equations.{Env, set_named, end_env, rules_of}
+use Rattle.bloom_forms.specs.Form.{RuleForm, Accepted}
+use Rattle.bloom_forms.specs.Heads.{names_of}
+use Rattle.bloom_forms.specs.Kinds.{has_kind, is_readable, is_scratch, kind_at}
+use Rattle.bloom_forms.specs.Lookup.{collection_number, kind_of, declared}
+use Rattle.bloom_forms.specs.OverTables.{over, env_over, without_table_rules}
+use Rattle.bloom_forms.specs.Plain.{is_free}
+use Rattle.bloom_forms.specs.Program.{columns_of_kind}
+use Rattle.bloom_forms.specs.ProgramStep.{no_arrivals}
+use Rattle.bloom_forms.specs.Query.{Name, Query}
+use Rattle.bloom_forms.specs.Query.Query.{base}
+use Rattle.bloom_forms.specs.Reads.{is_momentary}
+use Rattle.bloom_forms.specs.Rows.{rows_of}
+use Rattle.bloom_forms.specs.Step.{Sets, set_at, ended, rows_named, at_start, rules_at, union_of, ruled_at, with_head, at_end, tables_after}
+use Rattle.bloom_forms.specs.Widths.{AreSetsOf}
+use Rattle.bloom_forms.proofs.Collections.NameNumbers.{and_parts}
+use Rattle.bloom_forms.proofs.Collections.Numbers.{kind-number}
+use Rattle.bloom_forms.proofs.Ends.Equated.{same_rows, end_solves, length-at_end, set-made}
+use Rattle.bloom_forms.proofs.Ends.OverTables.{over_solved, end_over}
+use Rattle.bloom_forms.proofs.Ends.Wide.{wide_rows}
+use Rattle.bloom_forms.proofs.Reach.Quiet.{input_momentary, scratch_momentary, names_momentary}
+use Rattle.bloom_forms.proofs.Reach.ReadsLemmas.{by_names}
 use Rattle.bloom_eval.specs.Code.Taken.{AreSetsOfAll}
 use Rattle.bloom_eval.proofs.Widths.{columns_at, columns-number, wide_at, wide_named, set_wide, kinds_wide, are_begun}
 use Rattle.bloom_index.specs.Growing.{is_growing}

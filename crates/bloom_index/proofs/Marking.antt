@@ -4,15 +4,15 @@ use Rattle.std.proofs.lemmas.Bool.{cases_eq}
 use Rattle.std.proofs.lemmas.List.{get_or-set_same, get_or-set_other, length-set, length-replicate, drop_more}
 use Rattle.blz_value.specs.Members.{Has}
 use Rattle.blz_value.proofs.Membership.{Has-get_or}
-use Rattle.bloom_ast.specs.declared.module.Kind.{Kind}
-use Rattle.bloom_ast.specs.declared.module.Kind.TheVariants.{Output, Scratch}
-use Rattle.bloom_ast.specs.declared.module.Collection.{Collection}
-use Rattle.bloom_ast.specs.Checks.{IsChecked}
-use Rattle.bloom_ast.specs.Form.{Accepted}
-use Rattle.bloom_ast.specs.Heads.{InOrder}
-use Rattle.bloom_ast.specs.Kinds.{kind_at}
-use Rattle.bloom_ast.proofs.Collections.Numbers.{derived_or, get-within}
-use Rattle.bloom_ast.proofs.Reach.ReadsLemmas.{number_of, rule_stands}
+use Rattle.bloom_forms.specs.declared.module.Kind.{Kind}
+use Rattle.bloom_forms.specs.declared.module.Kind.TheVariants.{Output, Scratch}
+use Rattle.bloom_forms.specs.declared.module.Collection.{Collection}
+use Rattle.bloom_forms.specs.Checks.{IsChecked}
+use Rattle.bloom_forms.specs.Form.{Accepted}
+use Rattle.bloom_forms.specs.Heads.{InOrder}
+use Rattle.bloom_forms.specs.Kinds.{kind_at}
+use Rattle.bloom_forms.proofs.Collections.Numbers.{derived_or, get-within}
+use Rattle.bloom_forms.proofs.Reach.ReadsLemmas.{number_of, rule_stands}
 use Rattle.bloom_index.specs.Code.Growth.{grows_at, rules_grow, kind_grows, IsMarked, AreMarkedBelow, AreGrowing}
 
 -- there are as many marks as collections, and all collections but these heads are marked

@@ -13,9 +13,9 @@ use Rattle.blz_value.specs.Test.{test_holds}
 use Rattle.blz_value.proofs.Membership.{Has-filter, Has-from_filter}
 use Rattle.blz_value.proofs.OperatorsLemmas.{from_select, in_select, from_project, in_project, from_join, in_join, from_at_least, in_at_least, sorted_filter, length-within}
 use Rattle.blz_value.proofs.SetLaws.{sorted_set_of}
-use Rattle.bloom_ast.specs.declared.numbered.NumberedExpr.{NumberedExpr}
-use Rattle.bloom_ast.specs.declared.numbered.NumberedExpr as expr
-use Rattle.bloom_ast.specs.Step.{Sets, set_at}
+use Rattle.bloom_forms.specs.declared.numbered.NumberedExpr.{NumberedExpr}
+use Rattle.bloom_forms.specs.declared.numbered.NumberedExpr as expr
+use Rattle.bloom_forms.specs.Step.{Sets, set_at}
 use Rattle.bloom_eval.specs.Code.NumberedRows.{numbered_rows}
 use Rattle.bloom_index.specs.declared.change.Change.{Change}
 use Rattle.bloom_growth.specs.Growth.{Extends}

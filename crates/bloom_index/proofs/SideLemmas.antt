@@ -10,17 +10,17 @@ use Rattle.blz_value.specs.Operators.{Pairs}
 use Rattle.blz_value.specs.Record.{Row}
 use Rattle.blz_value.proofs.Membership.{Has-append_left, Has-append_right}
 use Rattle.blz_set.specs.Code.Pairs.{lefts_of, rights_of}
-use Rattle.bloom_ast.specs.declared.module.Collection.{Collection}
-use Rattle.bloom_ast.specs.declared.numbered.NumberedExpr.{NumberedExpr, Base, Select', Project', Join', NotIn', Group', AtLeast'}
-use Rattle.bloom_ast.specs.declared.numbered.NumberedRule.{NumberedRule}
-use Rattle.bloom_ast.specs.declared.program.Program.TheVariants.{Module}
-use Rattle.bloom_ast.specs.Checks.{IsChecked}
-use Rattle.bloom_ast.specs.Form.{RuleForm, Accepted}
-use Rattle.bloom_ast.specs.Heads.{names_of}
-use Rattle.bloom_ast.specs.Numbered.{IsNumbered, AreNumbered}
-use Rattle.bloom_ast.specs.Query.{Query}
-use Rattle.bloom_ast.specs.Query.Query.{base, select, project, join, notin, group, at_least}
-use Rattle.bloom_ast.specs.Step.{Sets}
+use Rattle.bloom_forms.specs.declared.module.Collection.{Collection}
+use Rattle.bloom_forms.specs.declared.numbered.NumberedExpr.{NumberedExpr, Base, Select', Project', Join', NotIn', Group', AtLeast'}
+use Rattle.bloom_forms.specs.declared.numbered.NumberedRule.{NumberedRule}
+use Rattle.bloom_forms.specs.declared.program.Program.TheVariants.{Module}
+use Rattle.bloom_forms.specs.Checks.{IsChecked}
+use Rattle.bloom_forms.specs.Form.{RuleForm, Accepted}
+use Rattle.bloom_forms.specs.Heads.{names_of}
+use Rattle.bloom_forms.specs.Numbered.{IsNumbered, AreNumbered}
+use Rattle.bloom_forms.specs.Query.{Query}
+use Rattle.bloom_forms.specs.Query.Query.{base, select, project, join, notin, group, at_least}
+use Rattle.bloom_forms.specs.Step.{Sets}
 use Rattle.bloom_eval.specs.Code.NumberedRows.{numbered_rows}
 use Rattle.bloom_eval.proofs.ByNumbers.{same_rows}
 use Rattle.bloom_index.specs.declared.heads.RuleMemo.{RuleMemo}

@@ -11,17 +11,17 @@ use Rattle.blz_value.specs.declared.aggregate.Agg.{Agg}
 use Rattle.blz_value.specs.declared.aggregate.Agg.TheVariants.{Count}
 use Rattle.blz_value.proofs.Membership.{Has-append_left, Has-append_right}
 use Rattle.blz_set.specs.Code.Pairs.{lefts_of, rights_of}
-use Rattle.bloom_ast.specs.declared.module.Collection.{Collection}
-use Rattle.bloom_ast.specs.declared.numbered.NumberedExpr.{NumberedExpr}
-use Rattle.bloom_ast.specs.declared.numbered.NumberedExpr as expr
-use Rattle.bloom_ast.specs.declared.numbered.NumberedRule.{NumberedRule}
-use Rattle.bloom_ast.specs.Form.{Accepted}
-use Rattle.bloom_ast.specs.Heads.{names_of}
-use Rattle.bloom_ast.specs.Lookup.{collection_number}
-use Rattle.bloom_ast.specs.Numbered.{IsNumbered}
-use Rattle.bloom_ast.specs.Query.{Name, Query}
-use Rattle.bloom_ast.specs.Query.Query.{base, select, project, join, notin, group, at_least}
-use Rattle.bloom_ast.specs.Step.{Sets, set_at}
+use Rattle.bloom_forms.specs.declared.module.Collection.{Collection}
+use Rattle.bloom_forms.specs.declared.numbered.NumberedExpr.{NumberedExpr}
+use Rattle.bloom_forms.specs.declared.numbered.NumberedExpr as expr
+use Rattle.bloom_forms.specs.declared.numbered.NumberedRule.{NumberedRule}
+use Rattle.bloom_forms.specs.Form.{Accepted}
+use Rattle.bloom_forms.specs.Heads.{names_of}
+use Rattle.bloom_forms.specs.Lookup.{collection_number}
+use Rattle.bloom_forms.specs.Numbered.{IsNumbered}
+use Rattle.bloom_forms.specs.Query.{Name, Query}
+use Rattle.bloom_forms.specs.Query.Query.{base, select, project, join, notin, group, at_least}
+use Rattle.bloom_forms.specs.Step.{Sets, set_at}
 use Rattle.bloom_eval.specs.Code.NumberedRows.{numbered_rows}
 use Rattle.bloom_index.specs.declared.excluding.NotInMemo.{NotInMemo}
 use Rattle.bloom_growth.specs.declared.groups.Groups.{Groups}

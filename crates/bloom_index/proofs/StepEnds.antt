@@ -11,23 +11,23 @@ use Rattle.blz_value.specs.Members.{Has}
 use Rattle.blz_value.specs.Record.{Row}
 use Rattle.blz_set.specs.RecordSet.{IsRecordSet}
 use Rattle.blz_set.proofs.RecordSets.{none_is_set}
-use Rattle.blz_boxes.specs.Changes.{AreChanges}
-use Rattle.bloom_ast.specs.declared.module.Kind.{Kind}
-use Rattle.bloom_ast.specs.declared.module.Kind.TheVariants.{Input, Output, Table, Scratch}
-use Rattle.bloom_ast.specs.declared.module.Collection.{Collection}
-use Rattle.bloom_ast.specs.declared.numbered.NumberedRule.{NumberedRule}
-use Rattle.bloom_ast.specs.declared.program.Program.TheVariants.{Module}
-use Rattle.bloom_ast.specs.Form.{Accepted}
-use Rattle.bloom_ast.specs.Kinds.{same_kind, kind_at, place_in_kind}
-use Rattle.bloom_ast.specs.Laws.{StandsStill}
-use Rattle.bloom_ast.specs.Program.{columns_of_kind}
-use Rattle.bloom_ast.specs.ProgramStep.{no_arrivals, standing_outputs}
-use Rattle.bloom_ast.specs.Step.{Sets, set_at, begun, begun_at, at_start, sets_of_kind, tables_after, outputs_of}
-use Rattle.bloom_ast.specs.Widths.{AreSetsOf}
-use Rattle.bloom_ast.proofs.Collections.Numbers.{derived_or, set-of_kind}
-use Rattle.bloom_ast.proofs.Ends.Equated.{starts, length-at_end}
-use Rattle.bloom_ast.proofs.Ends.SameEnds.{same_kinds}
-use Rattle.bloom_ast.proofs.Ends.Standing.{module_stands}
+use Rattle.bloom_eval.specs.Changes.{AreChanges}
+use Rattle.bloom_forms.specs.declared.module.Kind.{Kind}
+use Rattle.bloom_forms.specs.declared.module.Kind.TheVariants.{Input, Output, Table, Scratch}
+use Rattle.bloom_forms.specs.declared.module.Collection.{Collection}
+use Rattle.bloom_forms.specs.declared.numbered.NumberedRule.{NumberedRule}
+use Rattle.bloom_forms.specs.declared.program.Program.TheVariants.{Module}
+use Rattle.bloom_forms.specs.Form.{Accepted}
+use Rattle.bloom_forms.specs.Kinds.{same_kind, kind_at, place_in_kind}
+use Rattle.bloom_forms.specs.Laws.{StandsStill}
+use Rattle.bloom_forms.specs.Program.{columns_of_kind}
+use Rattle.bloom_forms.specs.ProgramStep.{no_arrivals, standing_outputs}
+use Rattle.bloom_forms.specs.Step.{Sets, set_at, begun, begun_at, at_start, sets_of_kind, tables_after, outputs_of}
+use Rattle.bloom_forms.specs.Widths.{AreSetsOf}
+use Rattle.bloom_forms.proofs.Collections.Numbers.{derived_or, set-of_kind}
+use Rattle.bloom_forms.proofs.Ends.Equated.{starts, length-at_end}
+use Rattle.bloom_forms.proofs.Ends.SameEnds.{same_kinds}
+use Rattle.bloom_forms.proofs.Ends.Standing.{module_stands}
 use Rattle.bloom_eval.specs.StepAnswers.{AllFit, counted_sets}
 use Rattle.bloom_eval.proofs.Runnable.{runnable}
 use Rattle.bloom_eval.proofs.Taking.{at_first, at_last}

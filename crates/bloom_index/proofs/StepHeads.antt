@@ -13,28 +13,28 @@ use Rattle.blz_value.proofs.RowSets.{same_set_of}
 use Rattle.blz_value.proofs.SetLaws.{Has-set_of, Has-from_set_of}
 use Rattle.blz_set.specs.declared.fault.SetFault.{SetFault}
 use Rattle.blz_set.specs.declared.fault.SetFault.TheVariants.{TooManyRows, NoMemory}
-use Rattle.bloom_ast.specs.declared.module.Kind.{Kind}
-use Rattle.bloom_ast.specs.declared.module.Kind.TheVariants.{Input, Output, Table, Scratch}
-use Rattle.bloom_ast.specs.declared.module.Collection.{Collection}
-use Rattle.bloom_ast.specs.declared.numbered.NumberedRule.{NumberedRule}
-use Rattle.bloom_ast.specs.declared.program.Program.TheVariants.{Module}
-use Rattle.bloom_ast.specs.Checks.{IsChecked}
-use Rattle.bloom_ast.specs.Equations.{Env}
-use Rattle.bloom_ast.specs.Form.{RuleForm, Accepted}
-use Rattle.bloom_ast.specs.Heads.{names_of, IsDerived}
-use Rattle.bloom_ast.specs.Kinds.{kind_at, place_in_kind}
-use Rattle.bloom_ast.specs.Lookup.{collection_number, declared}
-use Rattle.bloom_ast.specs.Numbered.{IsNumberedRule, AreNumbered}
-use Rattle.bloom_ast.specs.Program.{columns_of_kind}
-use Rattle.bloom_ast.specs.ProgramStep.{no_arrivals}
-use Rattle.bloom_ast.specs.Query.{Name, Query}
-use Rattle.bloom_ast.specs.Query.Query.{base, select, project, join, notin, group, at_least}
-use Rattle.bloom_ast.specs.Rows.{rows_of}
-use Rattle.bloom_ast.specs.Step.{Sets, set_at, rows_named, begun, ended, at_start, rules_at, ruled_at, at_end, tables_after}
-use Rattle.bloom_ast.specs.Widths.{AreSetsOf}
-use Rattle.bloom_ast.proofs.Collections.Numbers.{derived-some, derived-no_port, set-of_kind, get-within}
-use Rattle.bloom_ast.proofs.Ends.Equated.{same_rows, same_union, names_none, untouched, starts, ends, length-at_end}
-use Rattle.bloom_ast.proofs.Reach.ReadsLemmas.{reads}
+use Rattle.bloom_forms.specs.declared.module.Kind.{Kind}
+use Rattle.bloom_forms.specs.declared.module.Kind.TheVariants.{Input, Output, Table, Scratch}
+use Rattle.bloom_forms.specs.declared.module.Collection.{Collection}
+use Rattle.bloom_forms.specs.declared.numbered.NumberedRule.{NumberedRule}
+use Rattle.bloom_forms.specs.declared.program.Program.TheVariants.{Module}
+use Rattle.bloom_forms.specs.Checks.{IsChecked}
+use Rattle.bloom_forms.specs.Equations.{Env}
+use Rattle.bloom_forms.specs.Form.{RuleForm, Accepted}
+use Rattle.bloom_forms.specs.Heads.{names_of, IsDerived}
+use Rattle.bloom_forms.specs.Kinds.{kind_at, place_in_kind}
+use Rattle.bloom_forms.specs.Lookup.{collection_number, declared}
+use Rattle.bloom_forms.specs.Numbered.{IsNumberedRule, AreNumbered}
+use Rattle.bloom_forms.specs.Program.{columns_of_kind}
+use Rattle.bloom_forms.specs.ProgramStep.{no_arrivals}
+use Rattle.bloom_forms.specs.Query.{Name, Query}
+use Rattle.bloom_forms.specs.Query.Query.{base, select, project, join, notin, group, at_least}
+use Rattle.bloom_forms.specs.Rows.{rows_of}
+use Rattle.bloom_forms.specs.Step.{Sets, set_at, rows_named, begun, ended, at_start, rules_at, ruled_at, at_end, tables_after}
+use Rattle.bloom_forms.specs.Widths.{AreSetsOf}
+use Rattle.bloom_forms.proofs.Collections.Numbers.{derived-some, derived-no_port, set-of_kind, get-within}
+use Rattle.bloom_forms.proofs.Ends.Equated.{same_rows, same_union, names_none, untouched, starts, ends, length-at_end}
+use Rattle.bloom_forms.proofs.Reach.ReadsLemmas.{reads}
 use Rattle.bloom_eval.specs.Code.Counted.{TakesHead}
 use Rattle.bloom_eval.specs.Code.NumberedRows.{numbered_rows}
 use Rattle.bloom_eval.specs.StepAnswers.{parts_of, part_sets, AllFit, SomeIsOver, rule_sets}

@@ -12,12 +12,12 @@ use Rattle.blz_set.specs.RecordSet.{IsRecordSet}
 use Rattle.blz_set.proofs.RecordSets.{none_is_set}
 use Rattle.blz_set.specs.declared.fault.SetFault.{SetFault}
 use Rattle.blz_set.specs.declared.fault.SetFault.TheVariants as set
-use Rattle.bloom_ast.specs.declared.module.Kind.{Kind}
-use Rattle.bloom_ast.specs.declared.module.Kind.TheVariants.{Input}
-use Rattle.bloom_ast.specs.declared.module.Collection.{Collection}
-use Rattle.bloom_ast.specs.Kinds.{same_kind, kind_at, place_in_kind}
-use Rattle.bloom_ast.specs.Step.{Sets, set_at, begun, at_start, sets_of_kind}
-use Rattle.bloom_ast.proofs.Ends.Equated.{starts}
+use Rattle.bloom_forms.specs.declared.module.Kind.{Kind}
+use Rattle.bloom_forms.specs.declared.module.Kind.TheVariants.{Input}
+use Rattle.bloom_forms.specs.declared.module.Collection.{Collection}
+use Rattle.bloom_forms.specs.Kinds.{same_kind, kind_at, place_in_kind}
+use Rattle.bloom_forms.specs.Step.{Sets, set_at, begun, at_start, sets_of_kind}
+use Rattle.bloom_forms.proofs.Ends.Equated.{starts}
 use Rattle.bloom_eval.specs.Code.Finish.{placed}
 use Rattle.bloom_eval.specs.declared.fault.StepFault.{StepFault}
 use Rattle.bloom_eval.specs.declared.fault.StepFault.TheVariants.{TooManyRows, NoMemory}

@@ -12,14 +12,14 @@ use Rattle.blz_value.proofs.Membership.{Has-get_or, All-of_member}
 use Rattle.blz_set.specs.RecordSet.{row_limit, IsRecordSet}
 use Rattle.blz_set.specs.declared.fault.SetFault.{SetFault}
 use Rattle.blz_set.specs.declared.fault.SetFault.TheVariants.{TooManyRows}
-use Rattle.bloom_ast.specs.declared.module.Kind.TheVariants.{Output, Table}
-use Rattle.bloom_ast.specs.declared.module.Collection.{Collection}
-use Rattle.bloom_ast.specs.declared.numbered.NumberedRule.{NumberedRule}
-use Rattle.bloom_ast.specs.Form.{Accepted}
-use Rattle.bloom_ast.specs.Kinds.{kind_at}
-use Rattle.bloom_ast.specs.Step.{Sets, set_at, ruled_at}
-use Rattle.bloom_ast.specs.Widths.{AreWide}
-use Rattle.bloom_ast.proofs.Ends.Equated.{untouched}
+use Rattle.bloom_forms.specs.declared.module.Kind.TheVariants.{Output, Table}
+use Rattle.bloom_forms.specs.declared.module.Collection.{Collection}
+use Rattle.bloom_forms.specs.declared.numbered.NumberedRule.{NumberedRule}
+use Rattle.bloom_forms.specs.Form.{Accepted}
+use Rattle.bloom_forms.specs.Kinds.{kind_at}
+use Rattle.bloom_forms.specs.Step.{Sets, set_at, ruled_at}
+use Rattle.bloom_forms.specs.Widths.{AreWide}
+use Rattle.bloom_forms.proofs.Ends.Equated.{untouched}
 use Rattle.bloom_eval.specs.Code.Taken.{AreSetsOfAll, TakesHeads}
 use Rattle.bloom_eval.specs.StepAnswers.{AllFit, SomeIsOver, counted_sets}
 use Rattle.bloom_eval.proofs.Runnable.{runnable}

@@ -2,11 +2,11 @@
 ghost use Rattle.std.specs.Prelude.{◌≡◌, ◌==◌, [], false, IsTrue, IfOk, length, filter, map};
 ghost use Rattle.std.specs.List.{AllZip};
 ghost use Rattle.std.specs.Option.{option_map_or};
-ghost use Rattle.bloom_ast.specs.declared.program.Program.TheVariants.{Module as ModuleProgram};
-ghost use Rattle.bloom_ast.specs.Kinds.{is_output as is_output_kind, kind_at};
-ghost use Rattle.bloom_ast.specs.Numbered.{AreNumbered};
-ghost use Rattle.bloom_ast.specs.ProgramStep.{empty_tables};
-ghost use Rattle.bloom_ast.specs.Step.{Sets};
+ghost use Rattle.bloom_forms.specs.declared.program.Program.TheVariants.{Module as ModuleProgram};
+ghost use Rattle.bloom_forms.specs.Kinds.{is_output as is_output_kind, kind_at};
+ghost use Rattle.bloom_forms.specs.Numbered.{AreNumbered};
+ghost use Rattle.bloom_forms.specs.ProgramStep.{empty_tables};
+ghost use Rattle.bloom_forms.specs.Step.{Sets};
 ghost use Rattle.bloom_index.specs.Code.Emptiness.{AreEmpty};
 ghost use Rattle.bloom_index.specs.Code.Heads.{is_running};
 ghost use Rattle.bloom_index.specs.Code.Kept.{tables_in, IsAlone, RuleStands, PartsStand};
@@ -15,7 +15,7 @@ use crate::grows::{growing_heads, grows};
 use crate::heads::RuleMemo;
 use crate::memo::memo_of;
 use crate::step::Parts;
-use bloom_ast::{Checked, Collection, Kind, NumberedExpr, NumberedRule};
+use bloom_forms::{Checked, Collection, Kind, NumberedExpr, NumberedRule};
 use bloom_growth::GrowSet;
 use std::alloc::{AllocError, Global};
 

@@ -1,10 +1,10 @@
 //! Which collections and expressions grow: their rows come from tables alone, without group and notin.
 ghost use Rattle.std.specs.Prelude.{◌≡◌, ◌<◌, false, length, replicate, IfOk};
 ghost use Rattle.std.specs.List.{list_all};
-ghost use Rattle.bloom_ast.specs.Kinds.{kind_at};
+ghost use Rattle.bloom_forms.specs.Kinds.{kind_at};
 ghost use Rattle.bloom_index.specs.Code.Growth.{grows_at, grows, grows_for, rules_grow, kind_grows, AreMarkedBelow, AreGrowing};
 
-use bloom_ast::{Checked, Kind, NumberedExpr, NumberedRule};
+use bloom_forms::{Checked, Kind, NumberedExpr, NumberedRule};
 use std::alloc::{AllocError, Global};
 
 // Whether a collection grows. One that there isn't doesn't.

@@ -10,7 +10,7 @@ ghost use Rattle.bloom_index.specs.Code.Heads.{HasOldRows, GrowsBy, KeepsRows, A
 use crate::change::{Change, Rows};
 use crate::evaluate::{evaluate, evaluate_group};
 use crate::memo::Memo;
-use bloom_ast::NumberedRule;
+use bloom_forms::NumberedRule;
 use bloom_growth::GrowSet;
 use blz_set::{RecordSet, SetFault};
 use std::alloc::Global;

@@ -4,7 +4,7 @@ ghost use Rattle.bloom_growth.specs.Groups.{AreFreshGroups};
 ghost use Rattle.bloom_index.specs.Code.Emptiness.{IsFreshJoin, IsFreshNotIn, IsFresh};
 
 use crate::excluding::NotInMemo;
-use bloom_ast::NumberedExpr;
+use bloom_forms::NumberedExpr;
 use bloom_growth::{Groups, GrowSet, JoinMemo, Side, left_columns, right_columns};
 use blz_value::Agg;
 use std::alloc::{AllocError, Global};

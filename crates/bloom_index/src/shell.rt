@@ -1,15 +1,14 @@
 //! The shell of modules that keeps indexes.
 ghost use Rattle.std.specs.Prelude.{◌≡◌, ◌<◌, [], None, length, IsSome};
 ghost use Rattle.std.specs.Option.{option_map, option_map_or};
-ghost use Rattle.bloom_ast.specs.declared.program.Program.TheVariants.{Module as ModuleProgram};
+ghost use Rattle.bloom_forms.specs.declared.program.Program.TheVariants.{Module as ModuleProgram};
 ghost use Rattle.bloom_index.specs.Code.Kept.{kept_tables};
 ghost use Rattle.bloom_index.specs.Sides.{sides_of, side_rows};
-ghost use Rattle.blz_boxes.specs.declared.kind.ProgramKind.TheVariants.{Module as ModuleKind};
+ghost use Rattle.bloom_eval.specs.declared.kind.ProgramKind.TheVariants.{Module as ModuleKind};
 
 use crate::body::IndexBody;
-use bloom_ast::Program;
-use bloom_eval::{Arrivals, Outs, StepFault};
-use blz_boxes::Component;
+use bloom_eval::{Arrivals, Component, Outs, StepFault};
+use bloom_forms::Program;
 use blz_set::RecordSet;
 use blz_value::Record;
 use std::alloc::{AllocError, Global};

@@ -1,6 +1,6 @@
 //! The sides of rules, in the order of the text.
 ghost use Rattle.std.specs.Prelude.{◌≡◌, ◌+◌, ◌<◌, List, ℕ, length, IfSome, IfOk, IsTrue};
-ghost use Rattle.bloom_ast.specs.Step.{Sets};
+ghost use Rattle.bloom_forms.specs.Step.{Sets};
 ghost use Rattle.bloom_eval.specs.Code.NumberedRows.{numbered_rows};
 ghost use Rattle.bloom_index.specs.Code.Growth.{grows};
 ghost use Rattle.bloom_growth.specs.Sides.{IsSideOf};
@@ -9,7 +9,7 @@ ghost use Rattle.bloom_index.specs.Code.SideParts.{grown_side, numbered_sides, r
 use crate::grows::grows;
 use crate::heads::RuleMemo;
 use crate::memo::Memo;
-use bloom_ast::{NumberedExpr, NumberedRule};
+use bloom_forms::{NumberedExpr, NumberedRule};
 use bloom_growth::Side;
 use std::alloc::AllocError;
 use std::ops::ControlFlow;

@@ -1,11 +1,11 @@
 //! One step over what is kept.
 ghost use Rattle.std.specs.Prelude.{◌≡◌, ◌<◌, ◌^◌, ◌+◌, ◌∷◌, ◌++◌, [], false, Some, Err, ℕ, length, slice_set, IfOk, IsTrue, OnOk};
 ghost use Rattle.blz_set.specs.RecordSet.{IsRecordSet};
-ghost use Rattle.bloom_ast.specs.declared.module.Kind.TheVariants.{Input, Output};
-ghost use Rattle.bloom_ast.specs.Kinds.{of_kind};
-ghost use Rattle.bloom_ast.specs.Program.{columns_of_kind};
-ghost use Rattle.bloom_ast.specs.Step.{set_at, begun, sets_of_kind, tables_after};
-ghost use Rattle.bloom_ast.specs.Widths.{AreSetsOf};
+ghost use Rattle.bloom_forms.specs.declared.module.Kind.TheVariants.{Input, Output};
+ghost use Rattle.bloom_forms.specs.Kinds.{of_kind};
+ghost use Rattle.bloom_forms.specs.Program.{columns_of_kind};
+ghost use Rattle.bloom_forms.specs.Step.{set_at, begun, sets_of_kind, tables_after};
+ghost use Rattle.bloom_forms.specs.Widths.{AreSetsOf};
 ghost use Rattle.bloom_eval.specs.Code.Begin.{place_after};
 ghost use Rattle.bloom_eval.specs.Code.Finish.{placed};
 ghost use Rattle.bloom_eval.specs.declared.fault.StepFault.TheVariants.{TooManyRows};
@@ -18,8 +18,8 @@ ghost use Rattle.bloom_index.specs.Code.Turns.{rows_in};
 
 use crate::change::{Change, Rows};
 use crate::heads::{RuleMemo, grow_head, make_changes, make_head};
-use bloom_ast::{Checked, Collection, Kind, NumberedRule};
 use bloom_eval::{Outs, StepFault};
+use bloom_forms::{Checked, Collection, Kind, NumberedRule};
 use bloom_growth::GrowSet;
 use blz_set::{RecordSet, SetFault};
 use std::alloc::{AllocError, Global};

@@ -1,9 +1,9 @@
 -- When the text of a rule is within the bounds of the grammar.
 use Rattle.std.specs.Prelude.{◌≡◌, ◌≤ℤ◌, ℤ, pos, IsFalse, List}
 use Rattle.std.specs.List.{list_any}
-use Rattle.bloom_ast.specs.Bounds.{formulas_of, has_long_literal}
-use Rattle.bloom_ast.specs.Query.{Query}
-use Rattle.bloom_ast.specs.Query.Query.{base, select, project, join, notin, group, at_least}
+use Rattle.bloom_forms.specs.Bounds.{formulas_of, has_long_literal}
+use Rattle.bloom_forms.specs.Query.{Query}
+use Rattle.bloom_forms.specs.Query.Query.{base, select, project, join, notin, group, at_least}
 use Rattle.bloom_parse.specs.declared.lexing.terminal.Terminal.{Terminal}
 use Rattle.bloom_parse.specs.Trees.{RuleTree, ExprFits, rule_text}
 

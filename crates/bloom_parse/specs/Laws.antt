@@ -1,7 +1,7 @@
 -- What holds of the reading of each text, and of the bounds of each rule.
 use Rattle.std.specs.Prelude.{◌≡◌, ◌↔◌, ℕ, IsFalse, List, Ok, Err}
-use Rattle.bloom_ast.specs.Bounds.{passes_bounds}
-use Rattle.bloom_ast.specs.Form.{RuleForm, Form}
+use Rattle.bloom_forms.specs.Bounds.{passes_bounds}
+use Rattle.bloom_forms.specs.Form.{RuleForm, Form}
 use Rattle.bloom_parse.specs.declared.refusal.TextFault.{TextFault}
 use Rattle.bloom_parse.specs.Bounds.{IsRuleText, HasShortLiterals, HasPositiveBounds}
 use Rattle.bloom_parse.specs.Layout.{rule_tree}

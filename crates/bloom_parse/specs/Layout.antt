@@ -2,11 +2,11 @@
 use Rattle.std.specs.Prelude.{ℕ, if◌then◌else◌, List, [], ◌∷◌, ◌++◌, map, drop, codes}
 use Rattle.std.specs.List.{flat_map}
 use Rattle.std.specs.Str.{bytes_eq}
-use Rattle.bloom_ast.specs.declared.module.Collection.{Collection}
-use Rattle.bloom_ast.specs.Form.{RuleForm, Form}
-use Rattle.bloom_ast.specs.Query.{Name, Formula, Query}
-use Rattle.bloom_ast.specs.Query.Formula.{compare, both, either, not_so}
-use Rattle.bloom_ast.specs.Query.Query.{base, select, project, join, notin, group, at_least}
+use Rattle.bloom_forms.specs.declared.module.Collection.{Collection}
+use Rattle.bloom_forms.specs.Form.{RuleForm, Form}
+use Rattle.bloom_forms.specs.Query.{Name, Formula, Query}
+use Rattle.bloom_forms.specs.Query.Formula.{compare, both, either, not_so}
+use Rattle.bloom_forms.specs.Query.Query.{base, select, project, join, notin, group, at_least}
 use Rattle.bloom_parse.specs.declared.lexing.terminal.Terminal.{Terminal}
 use Rattle.bloom_parse.specs.declared.lexing.terminal.Terminal.TheVariants as terminals
 use Rattle.bloom_parse.specs.declared.lexing.terminal.Word.TheVariants as words

@@ -1,7 +1,7 @@
 -- Which module a text is of, and where it has the first fault.
 use Rattle.std.specs.Prelude.{◌≡◌, ℕ, List, length, Result, Ok, Err}
-use Rattle.bloom_ast.specs.declared.module.Module.{Module}
-use Rattle.bloom_ast.specs.Form.{Form, form_of}
+use Rattle.bloom_forms.specs.declared.module.Module.{Module}
+use Rattle.bloom_forms.specs.Form.{Form, form_of}
 use Rattle.bloom_parse.specs.declared.refusal.ParseFault.{ParseFault}
 use Rattle.bloom_parse.specs.declared.refusal.ParseFault.TheVariants.{Text, NoMemory}
 use Rattle.bloom_parse.specs.declared.refusal.TextFault.{TextFault}

@@ -1,6 +1,6 @@
 -- Module texts, what begins one, and the first token that none has.
 use Rattle.std.specs.Prelude.{ℕ, ◌≡◌, List, [], ◌∷◌, ◌++◌, length}
-use Rattle.bloom_ast.specs.Form.{Form}
+use Rattle.bloom_forms.specs.Form.{Form}
 use Rattle.bloom_parse.specs.declared.lexing.terminal.Terminal.{Terminal}
 use Rattle.bloom_parse.specs.declared.lexing.terminal.Terminal.TheVariants as terminals
 use Rattle.bloom_parse.specs.Trees.{ModuleTree, ModuleFits, module_text, module_form}

@@ -1,9 +1,9 @@
 -- What a module has to have so that its text gives it back.
 use Rattle.std.specs.Prelude.{◌≢◌, []}
 use Rattle.std.specs.List.{AllByRecursion}
-use Rattle.bloom_ast.specs.Form.{Form}
-use Rattle.bloom_ast.specs.Query.{Query}
-use Rattle.bloom_ast.specs.Query.Query.{base, select, project, join, notin, group, at_least}
+use Rattle.bloom_forms.specs.Form.{Form}
+use Rattle.bloom_forms.specs.Query.{Query}
+use Rattle.bloom_forms.specs.Query.Query.{base, select, project, join, notin, group, at_least}
 use Rattle.bloom_parse.specs.Spelling.{IsTerminal}
 use Rattle.bloom_parse.specs.Trees.{ModuleFits, module_text}
 use Rattle.bloom_parse.specs.Layout.{module_tree}

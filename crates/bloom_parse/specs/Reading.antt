@@ -1,7 +1,7 @@
 -- What a text is read as: the module whose text it is, or the place of its first fault.
 use Rattle.std.specs.Prelude.{◌≡◌, ℕ, zero, suc, false, List, [], ◌∷◌, length, Some, None, Result, Ok, Err}
-use Rattle.bloom_ast.specs.declared.module.Module.{Module}
-use Rattle.bloom_ast.specs.Form.{Form, form_of}
+use Rattle.bloom_forms.specs.declared.module.Module.{Module}
+use Rattle.bloom_forms.specs.Form.{Form, form_of}
 use Rattle.bloom_parse.specs.declared.lexing.terminal.Terminal.{Terminal}
 use Rattle.bloom_parse.specs.declared.lexing.token.Token.{Token}
 use Rattle.bloom_parse.specs.declared.refusal.ParseFault.{ParseFault}

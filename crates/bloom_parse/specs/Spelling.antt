@@ -9,7 +9,7 @@ use Rattle.blz_value.specs.declared.test.Op.TheVariants.{Eq, Ne, Lt, Le, Gt, Ge}
 use Rattle.blz_value.specs.declared.value.Value.TheVariants as values
 use Rattle.blz_value.specs.Name.{is_name}
 use Rattle.blz_value.specs.Text.{value_text}
-use Rattle.bloom_ast.specs.Query.{Name}
+use Rattle.bloom_forms.specs.Query.{Name}
 use Rattle.bloom_parse.specs.declared.lexing.terminal.Terminal.{Terminal}
 use Rattle.bloom_parse.specs.declared.lexing.terminal.Terminal.TheVariants as terminals
 use Rattle.bloom_parse.specs.declared.lexing.terminal.Word.{Word}

@@ -4,17 +4,17 @@ use Rattle.std.specs.List.{All, flat_map}
 use Rattle.blz_value.specs.declared.test.Op.{Op}
 use Rattle.blz_value.specs.declared.test.Op.TheVariants.{Eq, Le}
 use Rattle.blz_value.specs.declared.value.Value.TheVariants.{Int, Text}
-use Rattle.bloom_ast.specs.declared.expr.Term.{Term}
-use Rattle.bloom_ast.specs.declared.expr.Term.TheVariants.{Column, Literal}
-use Rattle.bloom_ast.specs.declared.expr.NamedAgg.{NamedAgg}
-use Rattle.bloom_ast.specs.declared.expr.NamedAgg.TheVariants.{Count, Sum, Min, Max}
-use Rattle.bloom_ast.specs.declared.module.Kind.{Kind}
-use Rattle.bloom_ast.specs.declared.module.Kind.TheVariants.{Input, Output, Table, Scratch}
-use Rattle.bloom_ast.specs.declared.module.Collection.{Collection}
-use Rattle.bloom_ast.specs.Form.{RuleForm, Form}
-use Rattle.bloom_ast.specs.Query.{Name, Formula, Query}
-use Rattle.bloom_ast.specs.Query.Formula.{compare, both, either, not_so}
-use Rattle.bloom_ast.specs.Query.Query.{base, select, project, join, notin, group, at_least}
+use Rattle.bloom_forms.specs.declared.expr.Term.{Term}
+use Rattle.bloom_forms.specs.declared.expr.Term.TheVariants.{Column, Literal}
+use Rattle.bloom_forms.specs.declared.expr.NamedAgg.{NamedAgg}
+use Rattle.bloom_forms.specs.declared.expr.NamedAgg.TheVariants.{Count, Sum, Min, Max}
+use Rattle.bloom_forms.specs.declared.module.Kind.{Kind}
+use Rattle.bloom_forms.specs.declared.module.Kind.TheVariants.{Input, Output, Table, Scratch}
+use Rattle.bloom_forms.specs.declared.module.Collection.{Collection}
+use Rattle.bloom_forms.specs.Form.{RuleForm, Form}
+use Rattle.bloom_forms.specs.Query.{Name, Formula, Query}
+use Rattle.bloom_forms.specs.Query.Formula.{compare, both, either, not_so}
+use Rattle.bloom_forms.specs.Query.Query.{base, select, project, join, notin, group, at_least}
 use Rattle.bloom_parse.specs.declared.lexing.terminal.Terminal.{Terminal}
 use Rattle.bloom_parse.specs.declared.lexing.terminal.Terminal.TheVariants as terminals
 use Rattle.bloom_parse.specs.declared.lexing.terminal.Word.{Word}

@@ -4,7 +4,7 @@ ghost use Rattle.std.specs.Prelude.{◌≡◌, ◌↔◌, ◌≤◌, ◌++◌, �
 ghost use Rattle.std.specs.List.{All};
 ghost use Rattle.std.specs.Str.{IsUtf8};
 ghost use Rattle.blz_value.specs.Text.{escaped};
-ghost use Rattle.bloom_ast.specs.Form.{Form};
+ghost use Rattle.bloom_forms.specs.Form.{Form};
 ghost use Rattle.bloom_parse.specs.declared.lexing.terminal.Terminal.{Terminal};
 ghost use Rattle.bloom_parse.specs.declared.lexing.terminal.Terminal.TheVariants as terminals;
 ghost use Rattle.bloom_parse.specs.declared.lexing.token.Token.{Token};

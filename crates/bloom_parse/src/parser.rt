@@ -1,7 +1,7 @@
 //! The module of a text.
 ghost use Rattle.std.specs.Prelude.{◌≡◌, ◌<◌, ◌-◌, ◌^◌, length, IfOk, IfErr};
-ghost use Rattle.bloom_ast.specs.Form.{Form, form_of};
-ghost use Rattle.bloom_ast.specs.Reserved.{HasOwnNames};
+ghost use Rattle.bloom_forms.specs.Form.{Form, form_of};
+ghost use Rattle.bloom_forms.specs.Reserved.{HasOwnNames};
 ghost use Rattle.bloom_parse.specs.Parsing.{IsTextOf, IsParseFault, GivesModule};
 ghost use Rattle.bloom_parse.specs.Reading.{reading_of, GivesReading};
 
@@ -9,7 +9,7 @@ use crate::lexing::lexer::{lexed, place_at};
 use crate::reading::read_fault::ReadFault;
 use crate::reading::reader::module_of;
 use crate::refusal::ParseFault;
-use bloom_ast::Module;
+use bloom_forms::Module;
 use std::alloc::Global;
 
 /// The module whose text this is. The fault is at the first token that no module text has there, where

@@ -1,7 +1,7 @@
 //! The text of a module.
 ghost use Rattle.std.specs.Prelude.{◌≡◌, ◌++◌, [], ◌∷◌, if◌then◌else◌, map, codes, OnOk, IfOk};
 ghost use Rattle.std.specs.List.{flat_map};
-ghost use Rattle.bloom_ast.specs.Form.{formula_of, query_of, rule_form, rule_forms};
+ghost use Rattle.bloom_forms.specs.Form.{formula_of, query_of, rule_form, rule_forms};
 ghost use Rattle.bloom_parse.specs.declared.lexing.terminal.Terminal.TheVariants as terminals;
 ghost use Rattle.bloom_parse.specs.Trees as trees;
 ghost use Rattle.bloom_parse.specs.Spelling as spelling;
@@ -9,7 +9,7 @@ ghost use Rattle.bloom_parse.specs.Layout as spec;
 ghost use Rattle.bloom_parse.specs.Code.Printing as printing;
 ghost use Rattle.bloom_parse.specs.Parsing.{IsTextOf};
 
-use bloom_ast::{Checked, Collection, Expr, Kind, NamedAgg, Pred, Rule, Term};
+use bloom_forms::{Checked, Collection, Expr, Kind, NamedAgg, Pred, Rule, Term};
 use blz_value::{Op, Str, Value, write_value};
 use std::alloc::{AllocError, Global};
 

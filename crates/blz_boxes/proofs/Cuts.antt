@@ -15,8 +15,9 @@ use denote.Ref.{Bor}
 use Rattle.blz_value.specs.Record.{Row}
 use Rattle.blz_value.specs.Test.{cell}
 use Rattle.blz_value.specs.declared.value.Value.TheVariants.{Int, Text}
-use Rattle.bloom_ast.specs.StockSteps.{is_space, words, parts_of, split_row}
+use Rattle.bloom_forms.specs.StockSteps.{is_space, words, parts_of, split_row}
 use Rattle.blz_boxes.specs.Code.Texts.{texts}
+use Rattle.blz_value.proofs.Enumerated.{enumerate_from-push}
 
 -- a space is an ASCII byte
 is_space_ascii : (b : ℕ) → is_space b ≡ true → b < 128
@@ -88,10 +89,6 @@ words_end old new all rest none is_new was =
 -- the rows of a record with these words in the split column
 abbrev pub word_rows : Row → ℕ → List (List ℕ) → List Row
 word_rows row split found = map (λ word. remove row split ++ Int (pos word.0) ∷ Text word.1 ∷ []) (enumerate_from 1 found)
-
-pub enumerate_from-push : {X : Type 0} (n : ℕ) (xs : List X) (x : X) → enumerate_from n (xs ++ x ∷ []) ≡ enumerate_from n xs ++ (n + length xs, x) ∷ []
-enumerate_from-push n [] x = ap (λ k. (k, x) ∷ []) (omega arith)
-enumerate_from-push n (y ∷ ys) x = ap (λ ps. (n, y) ∷ ps) (enumerate_from-push (n + 1) ys x ∙ ap (λ k. enumerate_from (n + 1) ys ++ (k, x) ∷ []) (omega arith))
 
 pub word_rows_more : (row : Row) (split : ℕ) (refs : List (Bor (List ℕ))) (i : ℕ) (d : Bor (List ℕ)) → i < length refs → word_rows row split (texts (take (i + 1) refs)) ≡ word_rows row split (texts (take i refs)) ++ (remove row split ++ Int (pos (i + 1)) ∷ Text (get_or refs i d).now ∷ []) ∷ []
 word_rows_more row split refs i d lt =

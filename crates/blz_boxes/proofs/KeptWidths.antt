@@ -1,11 +1,11 @@
 -- What a stock body keeps after a step, refused or not, is one set with rows of the width of its columns.
 use Rattle.std.proofs.Common.{◌≡◌, ◌<◌, ◌+◌, ℕ, get_or, List, [], ◌∷◌, ◌++◌, length, sym, subst, ◌⊎◌, inl, inr, arith, length-append, Result, Ok, Err, OnOk, OnErr}
 use Rattle.blz_value.specs.Record.{Row}
-use Rattle.bloom_ast.specs.Query.{Name}
-use Rattle.bloom_ast.specs.Step.{Sets, set_at}
-use Rattle.bloom_ast.specs.StockSteps.{latest_kept, number_kept}
-use Rattle.bloom_ast.specs.Widths.{AreWide, AreSetsOf}
-use Rattle.bloom_ast.proofs.Ends.StockWidths.{latest_kept-wide, number_kept-wide}
+use Rattle.bloom_forms.specs.Query.{Name}
+use Rattle.bloom_forms.specs.Step.{Sets, set_at}
+use Rattle.bloom_forms.specs.StockSteps.{latest_kept, number_kept}
+use Rattle.bloom_forms.specs.Widths.{AreWide, AreSetsOf}
+use Rattle.bloom_forms.proofs.Ends.StockWidths.{latest_kept-wide, number_kept-wide}
 
 -- the first of some sets
 pub first_wide : (names : List Name) (columns : List (List Name)) (sets : Sets) → AreSetsOf (names ∷ columns) sets → AreWide (length names) (set_at sets 0)

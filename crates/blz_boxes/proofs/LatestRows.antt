@@ -21,7 +21,7 @@ use Rattle.blz_value.proofs.SetLemmas.{all_has}
 use Rattle.blz_value.proofs.SetLaws.{Has-set_of, Has-from_set_of}
 use Rattle.blz_value.proofs.RowSets.{same_set_of}
 use Rattle.blz_set.proofs.Runs.{same_row}
-use Rattle.bloom_ast.specs.StockSteps.{has_key, is_latest, latest_kept, latest_out, keys_in_order}
+use Rattle.bloom_forms.specs.StockSteps.{has_key, is_latest, latest_kept, latest_out, keys_in_order}
 use Rattle.blz_boxes.specs.Code.KeptRecords.{HaveKeys, records_of}
 use Rattle.blz_boxes.proofs.Records.{value_found, value_there, keys_after_put, values_from, values_old, value_new}
 

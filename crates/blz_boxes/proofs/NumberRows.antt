@@ -31,9 +31,9 @@ use Rattle.bloom_eval.specs.declared.fault.StepFault.TheVariants as steps
 use Rattle.bloom_eval.specs.StepAnswers.{step_fault}
 use Rattle.blz_set.specs.References.{shown}
 use Rattle.blz_set.proofs.Runs.{same_row}
-use Rattle.bloom_ast.specs.StockSteps.{is_numbered, numbered, number_kept, number_out}
+use Rattle.bloom_forms.specs.StockSteps.{is_numbered, numbered, number_kept, number_out}
 use Rattle.blz_boxes.specs.Code.Numbers.{with_number, numbered_records, numbered_from}
-use Rattle.blz_boxes.proofs.Cuts.{enumerate_from-push}
+use Rattle.blz_value.proofs.Enumerated.{enumerate_from-push}
 use Rattle.blz_boxes.proofs.Records.{count_entries}
 
 -- an entry as a record with its number

@@ -17,7 +17,7 @@ use Rattle.blz_value.proofs.SetLemmas.{all_has}
 use Rattle.blz_value.proofs.SetLaws.{Has-from_set_of}
 use Rattle.blz_value.proofs.RowSets.{length-insert_key-new}
 use Rattle.blz_set.proofs.Runs.{same_row}
-use Rattle.bloom_ast.specs.StockSteps.{has_key}
+use Rattle.bloom_forms.specs.StockSteps.{has_key}
 use Rattle.blz_boxes.specs.Code.KeptRecords.{HaveKeys, records_of}
 
 -- a record of the map stands at its key

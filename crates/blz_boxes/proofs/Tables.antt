@@ -2,20 +2,20 @@
 use Rattle.std.proofs.Common.{◌≡◌, ◌<◌, ℕ, zero, suc, if◌then◌else◌, inl, inr, Option, Some, List, [], ◌∷◌, ◌++◌, length, map, take, get_or, slice_index_or, All, refl, sym, subst, arith, ap, ◌∙◌}
 use Rattle.std.proofs.lemmas.Bool.{cases_Bool}
 use Rattle.blz_value.specs.Record.{Row}
-use Rattle.bloom_ast.specs.declared.module.Kind.{Kind}
-use Rattle.bloom_ast.specs.declared.module.Kind.TheVariants.{Table}
-use Rattle.bloom_ast.specs.declared.module.Collection.{Collection}
-use Rattle.bloom_ast.specs.Kinds.{same_kind, of_kind}
-use Rattle.bloom_ast.specs.declared.program.Program.{Program}
-use Rattle.bloom_ast.specs.declared.program.Program.TheVariants.{Module, Split, Latest, Number}
-use Rattle.bloom_ast.specs.Program.{columns_of_kind, table_columns}
-use Rattle.bloom_ast.specs.ProgramStep.{tables_after_step}
-use Rattle.bloom_ast.specs.Query.{Name}
-use Rattle.bloom_ast.specs.Step.{Sets, sets_of_kind, at_end}
-use Rattle.bloom_ast.proofs.Ends.Equated.{length-at_end}
+use Rattle.bloom_forms.specs.declared.module.Kind.{Kind}
+use Rattle.bloom_forms.specs.declared.module.Kind.TheVariants.{Table}
+use Rattle.bloom_forms.specs.declared.module.Collection.{Collection}
+use Rattle.bloom_forms.specs.Kinds.{same_kind, of_kind}
+use Rattle.bloom_forms.specs.declared.program.Program.{Program}
+use Rattle.bloom_forms.specs.declared.program.Program.TheVariants.{Module, Split, Latest, Number}
+use Rattle.bloom_forms.specs.Program.{columns_of_kind, table_columns}
+use Rattle.bloom_forms.specs.ProgramStep.{tables_after_step}
+use Rattle.bloom_forms.specs.Query.{Name}
+use Rattle.bloom_forms.specs.Step.{Sets, sets_of_kind, at_end}
+use Rattle.bloom_forms.proofs.Ends.Equated.{length-at_end}
 use Rattle.std.proofs.lemmas.List.{length-map}
-use Rattle.bloom_ast.specs.Widths.{AreSetsOf}
-use Rattle.blz_boxes.specs.Step.{tables_next, nothing_kept}
+use Rattle.bloom_forms.specs.Widths.{AreSetsOf}
+use Rattle.bloom_eval.specs.Step.{tables_next, nothing_kept}
 
 -- one empty set for each table
 abbrev pub empties : List Collection → Sets

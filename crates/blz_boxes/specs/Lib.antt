@@ -1,4 +1,1 @@
-pub mod Kind
-pub mod Step
-pub mod Changes
 pub mod Code

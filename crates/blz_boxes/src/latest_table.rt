@@ -8,7 +8,7 @@ ghost use Rattle.blz_value.specs.Sets.{IsRowSet};
 ghost use Rattle.blz_value.specs.Operators.{cells};
 ghost use Rattle.blz_set.specs.RecordSet.{row_limit};
 ghost use Rattle.blz_set.specs.Answers.{Gives};
-ghost use Rattle.bloom_ast.specs.StockSteps.{latest_kept, latest_out};
+ghost use Rattle.bloom_forms.specs.StockSteps.{latest_kept, latest_out};
 ghost use Rattle.bloom_eval.specs.declared.fault.StepFault.TheVariants.{TooManyRows};
 ghost use Rattle.blz_boxes.specs.Code.KeptRecords.{HaveKeys, records_of};
 

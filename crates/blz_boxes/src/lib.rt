@@ -1,8 +1,6 @@
-//! Shells: programs that are stepped, behind one interface.
+//! The shells of stock bodies and the plain one of modules. Their interface lies in `bloom_eval`.
 #![tactic(auto)]
 
-mod component;
-mod kind;
 mod latest;
 mod latest_table;
 mod number;
@@ -12,8 +10,7 @@ mod program;
 mod split;
 mod words;
 
-pub use component::Component;
-pub use kind::ProgramKind;
+pub use bloom_eval::{Component, ProgramKind};
 pub use latest::LatestShell;
 pub use number::NumberShell;
 pub use plain::PlainShell;

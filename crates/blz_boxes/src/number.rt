@@ -1,23 +1,22 @@
 //! The shell of Number.
 ghost use Rattle.std.specs.Prelude.{◌≡◌, [], ◌∷◌, None, Err, length, OnOk};
 ghost use Rattle.std.specs.Option.{option_map, option_map_or};
-ghost use Rattle.bloom_ast.specs.declared.program.Program.TheVariants.{Number as NumberProgram};
-ghost use Rattle.bloom_ast.specs.Program.{table_columns};
-ghost use Rattle.bloom_ast.specs.ProgramStep.{tables_after_step, outputs_of_step};
-ghost use Rattle.bloom_ast.specs.Step.{set_at};
-ghost use Rattle.bloom_ast.specs.Widths.{AreWide, AreSetsOf};
+ghost use Rattle.bloom_forms.specs.declared.program.Program.TheVariants.{Number as NumberProgram};
+ghost use Rattle.bloom_forms.specs.Program.{table_columns};
+ghost use Rattle.bloom_forms.specs.ProgramStep.{tables_after_step, outputs_of_step};
+ghost use Rattle.bloom_forms.specs.Step.{set_at};
+ghost use Rattle.bloom_forms.specs.Widths.{AreWide, AreSetsOf};
 ghost use Rattle.bloom_eval.specs.StepAnswers.{AllFit, SomeIsOver};
 ghost use Rattle.bloom_eval.specs.declared.fault.StepFault.TheVariants.{TooManyRows};
-ghost use Rattle.blz_boxes.specs.declared.kind.ProgramKind.TheVariants.{Number as NumberKind};
+ghost use Rattle.bloom_eval.specs.declared.kind.ProgramKind.TheVariants.{Number as NumberKind};
 ghost use Rattle.blz_boxes.specs.Code.KeptSets.{AreSetsOf-prop};
 ghost use Rattle.blz_boxes.specs.Code.Numbers.{numbered_records};
-ghost use Rattle.blz_boxes.specs.Step.{counted};
+ghost use Rattle.bloom_eval.specs.Step.{counted};
 
-use crate::component::Component;
 use crate::number_table::NumberTable;
 use crate::program::{copy_columns, put_out};
-use bloom_ast::Program;
-use bloom_eval::{Arrivals, Outs, StepFault};
+use bloom_eval::{Arrivals, Component, Outs, StepFault};
+use bloom_forms::Program;
 use blz_set::RecordSet;
 use blz_value::{Items, Str};
 use std::alloc::{AllocError, Global};

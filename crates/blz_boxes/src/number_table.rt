@@ -7,7 +7,7 @@ ghost use Rattle.blz_value.specs.Record.{Row, record_cmp};
 ghost use Rattle.blz_value.specs.Sets.{set_of, IsRowSet};
 ghost use Rattle.blz_set.specs.RecordSet.{row_limit};
 ghost use Rattle.blz_set.specs.References.{shown};
-ghost use Rattle.bloom_ast.specs.StockSteps.{number_kept, number_out};
+ghost use Rattle.bloom_forms.specs.StockSteps.{number_kept, number_out};
 ghost use Rattle.bloom_eval.specs.declared.fault.StepFault.TheVariants.{TooManyRows};
 ghost use Rattle.blz_boxes.specs.Code.Numbers.{with_number, numbered_records, numbered_from};
 

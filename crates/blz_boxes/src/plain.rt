@@ -1,20 +1,19 @@
 //! The shell of modules.
 ghost use Rattle.std.specs.Prelude.{◌≡◌, [], None, Err, map, IfOk, OnOk};
 ghost use Rattle.std.specs.Option.{option_map, option_map_or};
-ghost use Rattle.bloom_ast.specs.declared.module.Kind.TheVariants.{Input, Table};
-ghost use Rattle.bloom_ast.specs.declared.program.Program.TheVariants.{Module as ModuleProgram};
-ghost use Rattle.bloom_ast.specs.Program.{columns_of_kind};
-ghost use Rattle.bloom_ast.specs.ProgramStep.{tables_after_step, outputs_of_step};
+ghost use Rattle.bloom_forms.specs.declared.module.Kind.TheVariants.{Input, Table};
+ghost use Rattle.bloom_forms.specs.declared.program.Program.TheVariants.{Module as ModuleProgram};
+ghost use Rattle.bloom_forms.specs.Program.{columns_of_kind};
+ghost use Rattle.bloom_forms.specs.ProgramStep.{tables_after_step, outputs_of_step};
 ghost use Rattle.bloom_eval.specs.StepAnswers.{AllFit, SomeIsOver};
-ghost use Rattle.bloom_ast.specs.Widths.{AreSetsOf};
+ghost use Rattle.bloom_forms.specs.Widths.{AreSetsOf};
 ghost use Rattle.bloom_eval.specs.declared.fault.StepFault.TheVariants.{TooManyRows};
 ghost use Rattle.blz_boxes.specs.Code.KeptSets.{AreSetsOf-prop};
-ghost use Rattle.blz_boxes.specs.Step.{counted};
-ghost use Rattle.blz_boxes.specs.declared.kind.ProgramKind.TheVariants.{Module as ModuleKind};
+ghost use Rattle.bloom_eval.specs.Step.{counted};
+ghost use Rattle.bloom_eval.specs.declared.kind.ProgramKind.TheVariants.{Module as ModuleKind};
 
-use crate::component::Component;
-use bloom_ast::{Checked, Collection, Kind, Program};
-use bloom_eval::{Arrivals, Kept, Outs, StepFault, step_plain};
+use bloom_eval::{Arrivals, Component, Kept, Outs, StepFault, step_plain};
+use bloom_forms::{Checked, Collection, Kind, Program};
 use blz_set::RecordSet;
 use std::alloc::{AllocError, Global};
 

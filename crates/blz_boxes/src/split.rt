@@ -1,14 +1,13 @@
 //! The shell of Split.
 ghost use Rattle.std.specs.Prelude.{◌≡◌, [], None, OnOk, OnErr};
 ghost use Rattle.std.specs.Option.{option_map};
-ghost use Rattle.bloom_ast.specs.declared.program.Program.TheVariants.{Split as SplitProgram};
-ghost use Rattle.blz_boxes.specs.declared.kind.ProgramKind.TheVariants.{Split as SplitKind};
+ghost use Rattle.bloom_forms.specs.declared.program.Program.TheVariants.{Split as SplitProgram};
+ghost use Rattle.bloom_eval.specs.declared.kind.ProgramKind.TheVariants.{Split as SplitKind};
 
-use crate::component::Component;
 use crate::program::{copy_columns, put_out};
 use crate::words::split_rows;
-use bloom_ast::Program;
-use bloom_eval::{Arrivals, Outs, StepFault};
+use bloom_eval::{Arrivals, Component, Outs, StepFault};
+use bloom_forms::Program;
 use blz_set::RecordSet;
 use blz_value::{Items, Str};
 use std::alloc::{AllocError, Global};

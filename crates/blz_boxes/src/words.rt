@@ -2,7 +2,7 @@
 ghost use Rattle.std.specs.Prelude.{◌≡◌, ◌<◌, ◌^◌, ◌==◌, ◌++◌, ◌∷◌, [], length, map, filter, not, pos, IfOk, OnOk};
 ghost use Rattle.std.specs.List.{remove, flat_map, enumerate_from, position_from};
 ghost use Rattle.blz_value.specs.declared.value.Value.TheVariants.{Int, Text};
-ghost use Rattle.bloom_ast.specs.StockSteps.{is_space, words, split_row};
+ghost use Rattle.bloom_forms.specs.StockSteps.{is_space, words, split_row};
 ghost use Rattle.blz_boxes.specs.Code.Texts.{texts};
 
 use blz_value::{Record, Str, Value};

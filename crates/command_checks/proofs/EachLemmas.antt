@@ -3,15 +3,15 @@ use Rattle.std.proofs.Common.{◌≡◌, ◌∙◌, ◌<◌, ◌+◌, ◌++◌, 
 use Rattle.std.specs.List.{filter_map}
 use Rattle.std.proofs.lemmas.List.{append_assoc, take-append-drop, take_more}
 use Rattle.std.proofs.lemmas.List.Elements.{filter_map-append}
-use Rattle.command_files.specs.Script.{Bytes, Script, ◌>>=◌}
-use Rattle.command_files.specs.Script.Script.{gives, refuses, reads}
-use Rattle.command_files.specs.Script.Ending.{gave, refused, failed}
+use Rattle.command_checks.specs.Script.{Bytes, Script, ◌>>=◌}
+use Rattle.command_checks.specs.Script.Script.{gives, refuses, reads}
+use Rattle.command_checks.specs.Script.Ending.{gave, refused, failed}
 use Rattle.command_checks.specs.Checks.{each}
-use Rattle.command_files.specs.Ran.{Stopped}
-use Rattle.command_files.specs.Ends.{Told, Source, files_states, Came, Ends}
-use Rattle.command_files.specs.declared.stop.Stop.{Stop}
-use Rattle.command_files.specs.declared.stop.Stop.TheVariants.{Refused, Failed, NoMemory}
-use Rattle.command_files.proofs.ScriptLemmas.{ends_then, refused_then, failed_then, counts_after}
+use Rattle.command_checks.specs.Ran.{Stopped}
+use Rattle.command_checks.specs.Ends.{Told, Source, files_states, Came, Ends}
+use Rattle.command_checks.specs.declared.stop.Stop.{Stop}
+use Rattle.command_checks.specs.declared.stop.Stop.TheVariants.{Refused, Failed, NoMemory}
+use Rattle.command_checks.proofs.ScriptLemmas.{ends_then, refused_then, failed_then, counts_after}
 
 -- what a part gave on the way to what the whole gave
 pub record Through {A B : Type 0} (files : Told) (s : Script A) (next : A → Script B) (y : B) : Type 0 where

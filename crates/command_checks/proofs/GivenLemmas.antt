@@ -3,18 +3,18 @@ use Rattle.std.proofs.Common.{◌≡◌, ◌∙◌, Result, Err, ap}
 use Rattle.data_read.specs.Gives as reading
 use Rattle.data_read.specs.declared.fault.DataFault.{DataFault}
 use Rattle.data_read.specs.declared.fault.DataFault.TheVariants as faults
-use Rattle.report_print.specs.declared.refusal.Refusal.TheVariants as refusal
+use Rattle.report_lines.specs.declared.refusal.Refusal.TheVariants as refusal
 use Rattle.topo_read.specs.Document.{document_of}
 use Rattle.topo_read.specs.Fields.{Path}
 use Rattle.topo_read.specs.Reading.{IsFormOf}
-use Rattle.topo_types.specs.Data.{Data}
-use Rattle.topo_types.specs.Modes.{names_in}
-use Rattle.topo_types.specs.View.{View, fd_at}
-use Rattle.topo_types.specs.declared.topology.Topology.{Topology}
-use Rattle.command_files.specs.Ran.{Gives, IsStopAt}
-use Rattle.command_files.specs.Script.{Bytes}
-use Rattle.command_files.specs.declared.stop.Stop.{Stop}
-use Rattle.command_files.proofs.RefusedLemmas.{memory_gives, refused_gives}
+use Rattle.topo_forms.specs.Data.{Data}
+use Rattle.topo_forms.specs.Modes.{names_in}
+use Rattle.topo_forms.specs.View.{View, fd_at}
+use Rattle.topo_forms.specs.declared.topology.Topology.{Topology}
+use Rattle.command_checks.specs.Ran.{Gives, IsStopAt}
+use Rattle.command_checks.specs.Script.{Bytes}
+use Rattle.command_checks.specs.declared.stop.Stop.{Stop}
+use Rattle.command_checks.proofs.RefusedLemmas.{memory_gives, refused_gives}
 use Rattle.command_checks.specs.Checks as check
 
 -- what is read of a document

@@ -1,21 +1,21 @@
 -- A topology with its modules stops where its file, a module or its validity does, and else comes with them.
 use Rattle.std.proofs.Common.{◌≡◌, Ok, Err, Option, Some, None, List, length, refl, sym, subst, ap}
 use Rattle.std.specs.List.{filter_map}
-use Rattle.bloom_ast.specs.Form.{Accepted}
-use Rattle.topo_types.specs.Allowed.{IsAllowed}
-use Rattle.topo_types.specs.Valid.{Validated, needs_module}
-use Rattle.topo_types.specs.Validity.{fault_of}
-use Rattle.topo_types.specs.ViewOf.{view_of}
-use Rattle.topo_types.specs.declared.fault.TopoFault.{TopoFault}
-use Rattle.topo_types.specs.declared.topology.Topology.{Topology}
-use Rattle.command_files.specs.Checks.{checked}
-use Rattle.command_files.specs.Ends.{Source, files_states, Came}
-use Rattle.command_files.specs.Ran.{Gives, Stopped}
-use Rattle.command_files.specs.Script.{Bytes, Script, ◌>>=◌}
-use Rattle.command_files.specs.Script.Script.{gives}
-use Rattle.command_files.specs.Script.Ending.{gave}
-use Rattle.command_files.specs.declared.stop.Stop.{Stop}
-use Rattle.command_files.proofs.ScriptLemmas.{came_then, came_at_once, came_checked, gives_ran, stop_then, then_stop}
+use Rattle.bloom_forms.specs.Form.{Accepted}
+use Rattle.topo_forms.specs.Allowed.{IsAllowed}
+use Rattle.topo_forms.specs.Valid.{Validated, needs_module}
+use Rattle.topo_forms.specs.Validity.{fault_of}
+use Rattle.topo_forms.specs.ViewOf.{view_of}
+use Rattle.topo_forms.specs.declared.fault.TopoFault.{TopoFault}
+use Rattle.topo_forms.specs.declared.topology.Topology.{Topology}
+use Rattle.command_checks.specs.FileChecks.{checked}
+use Rattle.command_checks.specs.Ends.{Source, files_states, Came}
+use Rattle.command_checks.specs.Ran.{Gives, Stopped}
+use Rattle.command_checks.specs.Script.{Bytes, Script, ◌>>=◌}
+use Rattle.command_checks.specs.Script.Script.{gives}
+use Rattle.command_checks.specs.Script.Ending.{gave}
+use Rattle.command_checks.specs.declared.stop.Stop.{Stop}
+use Rattle.command_checks.proofs.ScriptLemmas.{came_then, came_at_once, came_checked, gives_ran, stop_then, then_stop}
 use Rattle.command_checks.specs.Checks.{WithModules, each, module_file, module_names, topology_file, valid_with, with_modules}
 use Rattle.command_checks.specs.Found.{HasModules}
 

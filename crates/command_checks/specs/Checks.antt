@@ -2,30 +2,30 @@
 use Rattle.std.specs.Prelude.{ℕ, List, [], ◌∷◌, Option, Some, None, Result, Ok, Err}
 use Rattle.std.specs.List.{filter_map}
 use Rattle.toml.specs.Data.{Members}
-use Rattle.bloom_ast.specs.declared.fault.ModuleFault.{ModuleFault}
-use Rattle.bloom_ast.specs.FirstFault.{first_fault}
-use Rattle.bloom_ast.specs.Form.{Accepted, Form}
-use Rattle.bloom_ast.specs.HeadOrder.{heads_of}
+use Rattle.bloom_forms.specs.declared.fault.ModuleFault.{ModuleFault}
+use Rattle.bloom_forms.specs.FirstFault.{first_fault}
+use Rattle.bloom_forms.specs.Form.{Accepted, Form}
+use Rattle.bloom_forms.specs.HeadOrder.{heads_of}
 use Rattle.bloom_parse.specs.declared.refusal.TextFault.{TextFault}
 use Rattle.bloom_parse.specs.Reading.{reading_of}
 use Rattle.data_read.specs.declared.fault.DataFault.{DataFault}
 use Rattle.data_read.specs.declared.fault.DataFault.TheVariants as data_faults
 use Rattle.data_read.specs.Reading.{data_of}
-use Rattle.topo_types.specs.Data.{Data}
-use Rattle.topo_types.specs.Modes.{names_in}
-use Rattle.topo_types.specs.View.{View, fd_at}
-use Rattle.topo_types.specs.declared.fault.TopoFault.{TopoFault}
-use Rattle.topo_types.specs.declared.topology.Topology.{Topology}
-use Rattle.topo_types.specs.Valid.{Validated, needs_module}
-use Rattle.topo_types.specs.Validity.{fault_of}
-use Rattle.topo_types.specs.ViewOf.{view_of}
+use Rattle.topo_forms.specs.Data.{Data}
+use Rattle.topo_forms.specs.Modes.{names_in}
+use Rattle.topo_forms.specs.View.{View, fd_at}
+use Rattle.topo_forms.specs.declared.fault.TopoFault.{TopoFault}
+use Rattle.topo_forms.specs.declared.topology.Topology.{Topology}
+use Rattle.topo_forms.specs.Valid.{Validated, needs_module}
+use Rattle.topo_forms.specs.Validity.{fault_of}
+use Rattle.topo_forms.specs.ViewOf.{view_of}
 use Rattle.topo_read.specs.Document.{document_of}
 use Rattle.topo_read.specs.Topology.{topology_of}
-use Rattle.report_print.specs.declared.refusal.Refusal.{Refusal}
-use Rattle.report_print.specs.declared.refusal.Refusal.TheVariants as refusal
-use Rattle.report_print.specs.Refusals.{refusal_line}
-use Rattle.command_files.specs.Checks.{checked, file, line_of}
-use Rattle.command_files.specs.Script.{Bytes, Script, ◌>>=◌}
+use Rattle.report_lines.specs.declared.refusal.Refusal.{Refusal}
+use Rattle.report_lines.specs.declared.refusal.Refusal.TheVariants as refusal
+use Rattle.report_lines.specs.Refusals.{refusal_line}
+use Rattle.command_checks.specs.FileChecks.{checked, file, line_of}
+use Rattle.command_checks.specs.Script.{Bytes, Script, ◌>>=◌}
 
 -- each in turn
 abbrev pub each : {A B : Type 0} → (A → Script B) → List A → Script (List B)

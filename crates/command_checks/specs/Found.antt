@@ -1,9 +1,9 @@
 -- A topology with the modules that it names, as the code keeps it.
 use Rattle.std.specs.Prelude.{◌≡◌, None, length}
 use Rattle.std.specs.List.{filter_map}
-use Rattle.topo_types.specs.Allowed.{IsAllowed}
-use Rattle.topo_types.specs.Valid.{needs_module}
-use Rattle.topo_types.specs.Validity.{fault_of}
+use Rattle.topo_forms.specs.Allowed.{IsAllowed}
+use Rattle.topo_forms.specs.Valid.{needs_module}
+use Rattle.topo_forms.specs.Validity.{fault_of}
 use Rattle.command_checks.specs.Checks as check
 use Rattle.command_checks.specs.declared.topologies.WithModules.{WithModules}
 

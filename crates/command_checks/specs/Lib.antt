@@ -1,2 +1,9 @@
 pub mod Checks
 pub mod Found
+pub mod Script
+pub mod Ends
+pub mod Lines
+pub mod FileChecks
+pub mod Status
+pub mod Reply
+pub mod Ran

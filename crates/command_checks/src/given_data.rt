@@ -1,22 +1,23 @@
 //! The data in a file.
 ghost use Rattle.std.specs.Prelude.{◌≡◌, ◌≤◌, IfOk, Some, length, map, slice_index_or, []};
 ghost use Rattle.data_read.specs.Reading.{data_of};
-ghost use Rattle.topo_types.specs.Data.{IsData};
-ghost use Rattle.topo_types.specs.Modes.{names_in};
-ghost use Rattle.topo_types.specs.View.{fd_at};
+ghost use Rattle.topo_forms.specs.Data.{IsData};
+ghost use Rattle.topo_forms.specs.Modes.{names_in};
+ghost use Rattle.topo_forms.specs.View.{fd_at};
 ghost use Rattle.command_checks.specs.Checks as check;
-ghost use Rattle.command_files.specs.Ran.{Gives, Ran};
-ghost use Rattle.command_files.specs.Ends.{files_states, source};
+ghost use Rattle.command_checks.specs.Ran.{Gives, Ran};
+ghost use Rattle.command_checks.specs.Ends.{files_states, source};
 ghost use Rattle.data_read.specs.declared.fault.DataFault.TheVariants as faults;
 
+use crate::file::read_file;
+use crate::stop::{Stop, stop_at};
 use blz_outside::Files;
-use blz_value::{Items, Record, Str};
-use command_files::{Stop, read_file, stop_at};
-use data_read::{Data, DataFault, read};
+use blz_value::{Attrs, Fd, Items, Record, Str};
+use data_read::{DataFault, read};
 use label_walk::members;
-use report_print::Refusal;
+use report_lines::Refusal;
 use std::alloc::{AllocError, Global};
-use topo_types::{Attrs, Fd, Valid};
+use topo_forms::{Data, Valid};
 
 /// The most bytes of a data file.
 pub const DATA_LIMIT: usize = 16_777_216;

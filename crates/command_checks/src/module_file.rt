@@ -1,24 +1,25 @@
 //! The modules of a topology, each in a file of its own.
 ghost use Rattle.std.specs.Prelude.{◌≡◌, ◌≤◌, [], ◌∷◌, ◌++◌, length, OnOk};
-ghost use Rattle.bloom_ast.specs.FirstFault.{first_fault};
-ghost use Rattle.bloom_ast.specs.Form.{form_of};
-ghost use Rattle.bloom_ast.specs.Reserved.{HasOwnNames};
+ghost use Rattle.bloom_forms.specs.FirstFault.{first_fault};
+ghost use Rattle.bloom_forms.specs.Form.{form_of};
+ghost use Rattle.bloom_forms.specs.Reserved.{HasOwnNames};
 ghost use Rattle.bloom_parse.specs.Reading.{reading_of};
 ghost use Rattle.command_checks.specs.Checks as check;
-ghost use Rattle.command_files.specs.Ran.{Gives, Ran};
-ghost use Rattle.command_files.specs.Ends.{files_states, source};
+ghost use Rattle.command_checks.specs.Ran.{Gives, Ran};
+ghost use Rattle.command_checks.specs.Ends.{files_states, source};
 ghost use Rattle.std.specs.List.{filter_map};
-ghost use Rattle.topo_types.specs.Valid.{needs_module};
+ghost use Rattle.topo_forms.specs.Valid.{needs_module};
 
-use bloom_ast::{CheckFault, Checked, Module};
-use bloom_check::check;
+use crate::file::read_file;
+use crate::stop::{Stop, refused};
+use bloom_ast::check;
+use bloom_forms::{CheckFault, Checked, Module};
 use bloom_parse::{ParseFault, parse};
 use blz_outside::Files;
 use blz_value::Str;
-use command_files::{Stop, read_file, refused};
-use report_print::Refusal;
+use report_lines::Refusal;
 use std::alloc::{AllocError, Global};
-use topo_types::{Body, ComponentEntry};
+use topo_forms::{Body, ComponentEntry};
 
 /// The most bytes of a module file.
 pub const MODULE_LIMIT: usize = 65_536;

@@ -1,23 +1,23 @@
 //! A topology with its modules, validated.
 ghost use Rattle.std.specs.Prelude.{◌≡◌, IfOk, length};
 ghost use Rattle.std.specs.List.{filter_map};
-ghost use Rattle.topo_types.specs.Allowed.{IsAllowed};
-ghost use Rattle.topo_types.specs.Valid.{needs_module};
-ghost use Rattle.topo_types.specs.Validity.{fault_of};
+ghost use Rattle.topo_forms.specs.Allowed.{IsAllowed};
+ghost use Rattle.topo_forms.specs.Valid.{needs_module};
+ghost use Rattle.topo_forms.specs.Validity.{fault_of};
 ghost use Rattle.command_checks.specs.Checks as check;
 ghost use Rattle.command_checks.specs.Found.{HasModules, found_shown};
-ghost use Rattle.command_files.specs.Ran.{Gives, Ran};
-ghost use Rattle.command_files.specs.Ends.{files_states, source};
+ghost use Rattle.command_checks.specs.Ran.{Gives, Ran};
+ghost use Rattle.command_checks.specs.Ends.{files_states, source};
 
 use crate::module_file::module_files;
+use crate::stop::{Stop, refused};
 use crate::topology_file::topology_file;
-use bloom_ast::Checked;
+use bloom_forms::Checked;
 use blz_outside::Files;
-use command_files::{Stop, refused};
-use report_print::Refusal;
+use report_lines::Refusal;
 use std::alloc::Global;
-use topo_check::validate;
-use topo_types::{Topology, Valid, ValidFault};
+use topo_forms::{Topology, Valid, ValidFault};
+use topo_types::validate;
 
 /// A valid topology, and the modules that it names, in written order.
 #[derive(Drop)]

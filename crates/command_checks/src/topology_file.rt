@@ -1,17 +1,18 @@
 //! The topology in a file.
 ghost use Rattle.std.specs.Prelude.{IfOk};
 ghost use Rattle.topo_read.specs.Document.{document_of};
-ghost use Rattle.topo_types.specs.Allowed.{IsAllowed};
+ghost use Rattle.topo_forms.specs.Allowed.{IsAllowed};
 ghost use Rattle.command_checks.specs.Checks as check;
-ghost use Rattle.command_files.specs.Ran.{Gives, Ran};
-ghost use Rattle.command_files.specs.Ends.{files_states, source};
+ghost use Rattle.command_checks.specs.Ran.{Gives, Ran};
+ghost use Rattle.command_checks.specs.Ends.{files_states, source};
 
+use crate::file::read_file;
+use crate::stop::{Stop, refused};
 use blz_outside::Files;
-use command_files::{Stop, read_file, refused};
-use report_print::Refusal;
+use report_lines::Refusal;
 use std::alloc::Global;
+use topo_forms::Topology;
 use topo_read::{TopoTextFault, read};
-use topo_types::Topology;
 
 /// The most bytes of a topology file.
 pub const TOPOLOGY_LIMIT: usize = 262_144;

@@ -1,17 +1,17 @@
 -- A label speaks of the paths behind it: how bad they are, and how their ports wait for a key.
 use Rattle.std.specs.Prelude.{ℕ, ◌≡◌, ◌≤◌, ◌<◌, ◌⊎◌, IsTrue, IsFalse, Bool, true, false, Some, List, length}
 use Rattle.blz_value.specs.Members.{Has}
-use Rattle.fd_closure.specs.Bits.{members}
-use Rattle.fd_closure.specs.declared.attrs.Attrs.{Attrs}
-use Rattle.fd_closure.specs.Closure.{within, closure}
-use Rattle.path_annotate.specs.declared.note.Note.{Note}
-use Rattle.path_annotate.specs.declared.note.Note.TheVariants.{CR, CW, OR, OW}
-use Rattle.path_annotate.specs.Note.{own_gate}
-use Rattle.topo_types.specs.declared.mode.Mode.TheVariants as mode
-use Rattle.topo_types.specs.Carried.{is_confluent, port_carries}
-use Rattle.topo_types.specs.Dependencies.{usable_fds}
-use Rattle.topo_types.specs.Regions.{is_in_cycle}
-use Rattle.topo_types.specs.View.{View, End, origin_of, mode_of, is_order, note_at, has_stream, port_attrs, streams_to}
+use Rattle.blz_value.specs.Bits.{members}
+use Rattle.blz_value.specs.declared.attrs.Attrs.{Attrs}
+use Rattle.blz_value.specs.Closure.{within, closure}
+use Rattle.bloom_forms.specs.declared.note.Note.{Note}
+use Rattle.bloom_forms.specs.declared.note.Note.TheVariants.{CR, CW, OR, OW}
+use Rattle.bloom_forms.specs.Note.{own_gate}
+use Rattle.bloom_forms.specs.declared.mode.Mode.TheVariants as mode
+use Rattle.topo_forms.specs.Carried.{is_confluent, port_carries}
+use Rattle.topo_forms.specs.Dependencies.{usable_fds}
+use Rattle.topo_forms.specs.Regions.{is_in_cycle}
+use Rattle.topo_forms.specs.View.{View, End, origin_of, mode_of, is_order, note_at, has_stream, port_attrs, streams_to}
 use Rattle.label_rules.specs.declared.label.Label.{Label}
 use Rattle.label_rules.specs.Label.{severity}
 use Rattle.label_rules.specs.Reconciliation.{is_protected}

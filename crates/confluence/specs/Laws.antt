@@ -1,16 +1,16 @@
 -- The laws of labels and executions, each in one word: of every valid topology, all data and all steps.
 use Rattle.std.specs.Prelude.{◌≡◌, ℕ, Ok, List, length, ◌<◌, IsTrue, Some, ◌≤◌, ◌⊎◌, []}
 use Rattle.blz_value.specs.Record.{Row}
-use Rattle.fd_closure.specs.declared.attrs.Attrs.{Attrs}
-use Rattle.fd_closure.specs.Closure.{within}
-use Rattle.bloom_ast.specs.declared.program.Program.{Program}
-use Rattle.bloom_ast.specs.declared.program.Program.TheVariants.{Module}
-use Rattle.bloom_ast.specs.Form.{Accepted}
-use Rattle.topo_types.specs.Data.{Data, IsData, Holds}
-use Rattle.topo_types.specs.View.{View, program_of, End, is_replicated, stream_attrs}
-use Rattle.topo_types.specs.Carried.{carries}
-use Rattle.topo_types.specs.Regions.{region_set}
-use Rattle.topo_types.specs.Valid.{IsValid, Validated, IsValidated}
+use Rattle.blz_value.specs.declared.attrs.Attrs.{Attrs}
+use Rattle.blz_value.specs.Closure.{within}
+use Rattle.bloom_forms.specs.declared.program.Program.{Program}
+use Rattle.bloom_forms.specs.declared.program.Program.TheVariants.{Module}
+use Rattle.bloom_forms.specs.Form.{Accepted}
+use Rattle.topo_forms.specs.Data.{Data, IsData, Holds}
+use Rattle.topo_forms.specs.View.{View, program_of, End, is_replicated, stream_attrs}
+use Rattle.topo_forms.specs.Carried.{carries}
+use Rattle.topo_forms.specs.Regions.{region_set}
+use Rattle.topo_forms.specs.Valid.{IsValid, Validated, IsValidated}
 use Rattle.label_rules.specs.declared.label.Label.{Label}
 use Rattle.label_rules.specs.declared.label.Label.TheVariants.{Seal, Async, Run}
 use Rattle.label_rules.specs.Label.{severity}
@@ -19,7 +19,7 @@ use Rattle.label_walk.specs.Labels.{AreLabels}
 use Rattle.inbox.specs.Wiring.{wiring_of, carried_places}
 use Rattle.inbox.specs.Executions.{Execution, execution_of, emitted_list}
 use Rattle.inbox.specs.Events.{Step}
-use Rattle.inbox.specs.Messages.{Batch}
+use Rattle.messages.specs.Messages.{Batch}
 use Rattle.confluence.specs.Complete.{IsCompleted}
 use Rattle.confluence.specs.LabelMeaning.{IsOutside, IsProtected, HasGoodPaths, IsGuarded, IsInCycle, HasGoodInputs, HasConfluentPaths}
 use Rattle.confluence.specs.Sound.{IsSteady, HaveEqualContents, HasOneStepContents, IsBodied, IsSender, Sound, RestartSound, IsOpenSound, IsAcyclic}

@@ -2,30 +2,30 @@
 use Rattle.std.specs.Prelude.{ℕ, ◌≡◌, ◌<◌, ◌^◌, ◌⊎◌, ◌↔◌, true, false, IsTrue, Option, Some, List, [], ◌∷◌, map, length}
 use Rattle.blz_value.specs.Members.{Has}
 use Rattle.blz_value.specs.Record.{Row}
-use Rattle.fd_closure.specs.declared.attrs.Attrs.{Attrs}
-use Rattle.fd_closure.specs.Bits.{members}
-use Rattle.bloom_ast.specs.declared.program.Program.{Program}
-use Rattle.bloom_ast.specs.declared.program.Program.TheVariants.{Module}
-use Rattle.bloom_ast.specs.Form.{RuleForm, Accepted}
-use Rattle.bloom_ast.specs.Step.{Sets, set_at}
-use Rattle.path_annotate.specs.declared.note.Note.{Note}
-use Rattle.path_annotate.specs.Annotation.{note_of, rule_use}
-use Rattle.path_annotate.specs.Given.{is_w}
-use Rattle.row_laws.specs.Classes.{of_class}
-use Rattle.row_laws.specs.Runs.{query_over, output_over, at_once}
-use Rattle.topo_types.specs.declared.mode.Mode.TheVariants.{Seal}
-use Rattle.topo_types.specs.Carried.{port_carries}
-use Rattle.topo_types.specs.Data.{Data, Holds}
-use Rattle.topo_types.specs.Messages.{row}
-use Rattle.topo_types.specs.View.{View, component_at, mode_of, replicas_of, has_stream}
-use Rattle.inbox.specs.Messages.{Batch, all_pairs}
+use Rattle.blz_value.specs.declared.attrs.Attrs.{Attrs}
+use Rattle.blz_value.specs.Bits.{members}
+use Rattle.bloom_forms.specs.declared.program.Program.{Program}
+use Rattle.bloom_forms.specs.declared.program.Program.TheVariants.{Module}
+use Rattle.bloom_forms.specs.Form.{RuleForm, Accepted}
+use Rattle.bloom_forms.specs.Step.{Sets, set_at}
+use Rattle.bloom_forms.specs.declared.note.Note.{Note}
+use Rattle.bloom_forms.specs.Annotation.{note_of, rule_use}
+use Rattle.bloom_forms.specs.Given.{is_w}
+use Rattle.bloom_forms.specs.Classes.{of_class}
+use Rattle.bloom_forms.specs.Runs.{query_over, output_over, at_once}
+use Rattle.bloom_forms.specs.declared.mode.Mode.TheVariants.{Seal}
+use Rattle.topo_forms.specs.Carried.{port_carries}
+use Rattle.topo_forms.specs.Data.{Data, Holds}
+use Rattle.topo_forms.specs.Messages.{row}
+use Rattle.topo_forms.specs.View.{View, component_at, mode_of, replicas_of, has_stream}
+use Rattle.messages.specs.Messages.{Batch, all_pairs}
 use Rattle.inbox.specs.Instances.{Instance, port_of_feed, key_of_entry}
 use Rattle.inbox.specs.Timesteps.{is_whole, timesteps}
 use Rattle.inbox.specs.Lives.{Life, all_lives}
 use Rattle.inbox.specs.Wiring.{Wiring, wiring_of, instance_for}
 use Rattle.inbox.specs.Executions.{Execution, emitted_list}
 use Rattle.inbox.specs.Growth.{Continues, feed_numbered}
-use Rattle.stream_deps.specs.Sent.{IsHistory}
+use Rattle.inbox.specs.Sent.{IsHistory}
 
 -- batches with which a life of an instance begins
 pub record IsLived (x : Execution) (c j : ℕ) (batches : List Batch) : Type 0 where

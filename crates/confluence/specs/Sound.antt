@@ -1,12 +1,12 @@
 -- Labels are sound where they tell of every stream with a body what its replicas hold in any two complete executions.
 use Rattle.std.specs.Prelude.{◌≡◌, ℕ, ◌<◌, false, IsTrue, Some, List, length, if◌then◌else◌, Bool, IsFalse}
 use Rattle.blz_value.specs.Members.{Has}
-use Rattle.bloom_ast.specs.declared.program.Program.{Program}
-use Rattle.bloom_ast.specs.ProgramStep.{answer_of}
-use Rattle.bloom_ast.specs.Step.{set_at}
-use Rattle.topo_types.specs.View.{View, origin_of, program_of, is_order, has_body, stream_replicas, comes_from, streams_from, goes_into, is_replicated}
-use Rattle.topo_types.specs.Data.{Data, IsData, Holds}
-use Rattle.topo_types.specs.Regions.{region_set, is_in_cycle}
+use Rattle.bloom_forms.specs.declared.program.Program.{Program}
+use Rattle.bloom_forms.specs.ProgramStep.{answer_of}
+use Rattle.bloom_forms.specs.Step.{set_at}
+use Rattle.topo_forms.specs.View.{View, origin_of, program_of, is_order, has_body, stream_replicas, comes_from, streams_from, goes_into, is_replicated}
+use Rattle.topo_forms.specs.Data.{Data, IsData, Holds}
+use Rattle.topo_forms.specs.Regions.{region_set, is_in_cycle}
 use Rattle.label_rules.specs.declared.label.Label.{Label}
 use Rattle.label_rules.specs.declared.label.Label.TheVariants.{Seal, Async, Run, Inst, Diverge}
 use Rattle.label_walk.specs.Paths.{label_at, is_replicated_set}

@@ -17,7 +17,7 @@ ghost use Rattle.confluence.specs.Laws.{
   ValidatedLabelsAreSound,
   ValidatedLabelsSurviveRestarts,
 };
-ghost use Rattle.stream_deps.specs.Laws.{ClosureLaw};
+ghost use Rattle.inbox.specs.StreamLaws.{ClosureLaw};
 
 /// A stream that is Seal of a key carries that key, and has its columns.
 pub fn seal_law()

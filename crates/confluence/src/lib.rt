@@ -5,9 +5,9 @@
 
 mod laws;
 
+pub use bloom_forms::{confluent_law, split_law};
 pub use inbox::sequencer_law;
 pub use laws::{
     cyclic_law, determined_outputs, good_paths_law, honest_law, partition_law, protected_law,
     region_law, restart_law, seal_law, validated_law,
 };
-pub use row_laws::{confluent_law, split_law};

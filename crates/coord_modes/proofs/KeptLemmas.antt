@@ -1,13 +1,13 @@
 -- Keys are tried, or none is, and no key is tried with Order.
 use Rattle.std.proofs.Common.{◌≡◌, ℕ, Bool, true, false, if◌then◌else◌, None, [], refl, ap, sym, subst}
 use Rattle.std.specs.List.{filter_map, find}
-use Rattle.fd_closure.specs.declared.attrs.Attrs.{Attrs}
-use Rattle.topo_types.specs.declared.mode.Mode.{Mode}
-use Rattle.topo_types.specs.declared.mode.Mode.TheVariants.{Pass, Seal}
-use Rattle.topo_types.specs.Carried.{port_key}
-use Rattle.topo_types.specs.View.{View, is_order_mode, port_numbers}
-use Rattle.coord_steps.specs.declared.steps.Steps.{Steps}
-use Rattle.coord_steps.specs.Plan.{has_order_note, is_good, tried_mode, trial, kept_key}
+use Rattle.blz_value.specs.declared.attrs.Attrs.{Attrs}
+use Rattle.bloom_forms.specs.declared.mode.Mode.{Mode}
+use Rattle.bloom_forms.specs.declared.mode.Mode.TheVariants.{Pass, Seal}
+use Rattle.topo_forms.specs.Carried.{port_key}
+use Rattle.topo_forms.specs.View.{View, is_order_mode, port_numbers}
+use Rattle.coord_modes.specs.declared.steps.Steps.{Steps}
+use Rattle.coord_modes.specs.Plan.{has_order_note, is_good, tried_mode, trial, kept_key}
 
 module _ (steps : Steps) (v : View) (c : ℕ) where
   pub keys_tried : steps.keys ≡ true → find (λ k. is_good (trial v c k) c) (filter_map (port_key v c) (port_numbers v c)) ≡ kept_key steps v c

@@ -1,11 +1,11 @@
 -- The mode that the plan gives a component outside cycles.
 use Rattle.std.specs.Prelude.{ℕ, ◌&&◌, if◌then◌else◌, Option, None, Some}
-use Rattle.fd_closure.specs.declared.attrs.Attrs.{Attrs}
-use Rattle.topo_types.specs.declared.mode.Mode.{Mode}
-use Rattle.topo_types.specs.declared.mode.Mode.TheVariants.{Order}
-use Rattle.topo_types.specs.View.{View}
-use Rattle.coord_steps.specs.declared.steps.Steps.{Steps}
-use Rattle.coord_steps.specs.Plan.{kept_key, tried_mode, wants_order}
+use Rattle.blz_value.specs.declared.attrs.Attrs.{Attrs}
+use Rattle.bloom_forms.specs.declared.mode.Mode.{Mode}
+use Rattle.bloom_forms.specs.declared.mode.Mode.TheVariants.{Order}
+use Rattle.topo_forms.specs.View.{View}
+use Rattle.coord_modes.specs.declared.steps.Steps.{Steps}
+use Rattle.coord_modes.specs.Plan.{kept_key, tried_mode, wants_order}
 
 -- where this key is kept, the mode that was tried with it; where none is, Order if it is wanted
 abbrev pub mode_with_key : Steps → View → (component : ℕ) → Option Attrs → Option Mode

@@ -1,2 +1,4 @@
 pub mod Choice
 pub mod Code
+pub mod Plan
+pub mod Keys

@@ -4,16 +4,22 @@ ghost use Rattle.std.specs.List.{filter_map, find};
 ghost use Rattle.std.specs.Option.{option_and_then};
 ghost use Rattle.coord_modes.specs.Choice.{chosen_mode, mode_with_key};
 ghost use Rattle.coord_modes.specs.Code.Kept as code;
-ghost use Rattle.coord_steps.specs.Plan as spec;
+ghost use Rattle.coord_modes.specs.Plan as spec;
 ghost use Rattle.label_walk.specs.Labels.{AreLabels};
-ghost use Rattle.topo_types.specs.Carried as carried;
-ghost use Rattle.topo_types.specs.Regions.{is_in_cycle};
-ghost use Rattle.topo_types.specs.View as view;
+ghost use Rattle.topo_forms.specs.Carried as carried;
+ghost use Rattle.topo_forms.specs.Regions.{is_in_cycle};
+ghost use Rattle.topo_forms.specs.View as view;
 
-use coord_steps::{Steps, has_order_note, is_good, is_good_with, port_key};
+use crate::goodness::is_good;
+use crate::notes::has_order_note;
+use crate::ports::port_key;
+use crate::steps::Steps;
+use crate::tried::is_good_with;
+use bloom_forms::Mode;
+use blz_value::Attrs;
 use label_walk::{Labels, labels};
 use std::alloc::{AllocError, Global};
-use topo_types::{Attrs, Mode, Valid};
+use topo_forms::Valid;
 
 // The mode that is tried with a key.
 fn tried_mode(now: &Valid, component: u32, key: Attrs) -> Mode

@@ -3,5 +3,15 @@
 #![tactic(auto)]
 
 mod component;
+mod goodness;
+mod notes;
+mod ports;
+mod steps;
+mod tried;
 
 pub use component::chosen_mode;
+pub use goodness::{is_bad, is_good};
+pub use notes::has_order_note;
+pub use ports::port_key;
+pub use steps::Steps;
+pub use tried::is_good_with;

@@ -1,13 +1,13 @@
 -- The mode that was chosen for a component may be written, and the topology with it is that of the plan.
 use Rattle.std.proofs.Common.{◌≡◌, ◌<◌, ◌&&◌, ℕ, not, Bool, true, false, if◌then◌else◌, Option, None, Some, Result, Ok, Err, IfOk, IfSome, length, refl, ap, sym, subst, ◌∙◌}
-use Rattle.topo_types.specs.declared.mode.Mode.{Mode}
-use Rattle.topo_types.specs.declared.mode.Mode.TheVariants.{Free, Pass, Seal, Order}
-use Rattle.topo_types.specs.Laws.{CanHaveMode}
-use Rattle.topo_types.specs.Regions.{is_in_cycle}
-use Rattle.topo_types.specs.Valid.{IsValid, IsWhole, Validated}
-use Rattle.topo_types.specs.View.{View, is_order, is_order_mode, mode_of}
-use Rattle.coord_steps.specs.declared.steps.Steps.{Steps}
-use Rattle.coord_steps.specs.Plan.{has_order_note, order_member, plan_component}
+use Rattle.bloom_forms.specs.declared.mode.Mode.{Mode}
+use Rattle.bloom_forms.specs.declared.mode.Mode.TheVariants.{Free, Pass, Seal, Order}
+use Rattle.topo_forms.specs.Laws.{CanHaveMode}
+use Rattle.topo_forms.specs.Regions.{is_in_cycle}
+use Rattle.topo_forms.specs.Valid.{IsValid, IsWhole, Validated}
+use Rattle.topo_forms.specs.View.{View, is_order, is_order_mode, mode_of}
+use Rattle.coord_modes.specs.declared.steps.Steps.{Steps}
+use Rattle.coord_modes.specs.Plan.{has_order_note, order_member, plan_component}
 use Rattle.coord_modes.specs.Choice.{chosen_mode}
 use Rattle.coord_synth.specs.Code.Chosen.{component_mode, member_mode, with_chosen}
 use Rattle.coord_synth.specs.Code.Start.{free_component, freed_mode}

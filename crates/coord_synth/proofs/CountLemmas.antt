@@ -1,15 +1,15 @@
 -- A plan has the components that the topology has.
 use Rattle.std.proofs.Common.{◌≡◌, ◌&&◌, ℕ, Bool, true, false, if◌then◌else◌, Option, None, Some, List, [], ◌∷◌, length, fold, refl, ◌∙◌}
 use Rattle.std.proofs.lemmas.List.{length-set}
-use Rattle.fd_closure.specs.declared.attrs.Attrs.{Attrs}
-use Rattle.fd_closure.specs.Bits.{members}
-use Rattle.topo_types.specs.declared.mode.Mode.{Mode}
-use Rattle.topo_types.specs.declared.mode.Mode.TheVariants.{Order}
-use Rattle.topo_types.specs.Regions.{is_in_cycle, region_set}
-use Rattle.topo_types.specs.View.{View, component_at, component_with_mode, is_order, with_mode}
-use Rattle.coord_steps.specs.declared.steps.Steps.{Steps}
+use Rattle.blz_value.specs.declared.attrs.Attrs.{Attrs}
+use Rattle.blz_value.specs.Bits.{members}
+use Rattle.bloom_forms.specs.declared.mode.Mode.{Mode}
+use Rattle.bloom_forms.specs.declared.mode.Mode.TheVariants.{Order}
+use Rattle.topo_forms.specs.Regions.{is_in_cycle, region_set}
+use Rattle.topo_forms.specs.View.{View, component_at, component_with_mode, is_order, with_mode}
+use Rattle.coord_modes.specs.declared.steps.Steps.{Steps}
 use Rattle.coord_synth.specs.Code.Shapes.{plan_at}
-use Rattle.coord_steps.specs.Plan.{has_order_note, tried_mode, wants_order, with_key, kept_key, plan_component, order_member, cycle_wants_order, plan_cycle}
+use Rattle.coord_modes.specs.Plan.{has_order_note, tried_mode, wants_order, with_key, kept_key, plan_component, order_member, cycle_wants_order, plan_cycle}
 
 abbrev HasCount : View → View → Type 0
 HasCount v w = length w.components ≡ length v.components

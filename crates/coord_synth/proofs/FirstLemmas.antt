@@ -2,20 +2,20 @@
 use Rattle.std.proofs.Common.{◌≡◌, ◌<◌, ◌+◌, ℕ, zero, suc, Bool, true, false, if◌then◌else◌, List, [], ◌∷◌, ◌++◌, length, get_or, fold, take, refl, arith, ap, sym, subst, ◌∙◌}
 use Rattle.blz_value.specs.Members.{Has}
 use Rattle.blz_value.proofs.Membership.{Has-get_or}
-use Rattle.fd_closure.proofs.MembersInOrder.{from_members, in_members}
-use Rattle.bloom_ast.proofs.Collections.Chosen.{in_chosen}
-use Rattle.topo_types.specs.Graph.{arrows, is_in, together}
-use Rattle.topo_types.specs.Regions.{edges, is_in_cycle, region_members, region_set, regions}
-use Rattle.topo_types.specs.Sets.{below}
-use Rattle.topo_types.specs.Valid.{IsValid}
-use Rattle.topo_types.specs.View.{View}
-use Rattle.topo_types.proofs.Regions.Classes.{together-self}
-use Rattle.topo_types.proofs.Regions.RegionSets.{each_region, member_within}
-use Rattle.topo_types.proofs.Regions.Spreading.{in_below}
+use Rattle.blz_value.proofs.MembersInOrder.{from_members, in_members}
+use Rattle.bloom_forms.proofs.Collections.Chosen.{in_chosen}
+use Rattle.blz_value.specs.Graph.{arrows, is_in, together}
+use Rattle.topo_forms.specs.Regions.{edges, is_in_cycle, region_members, region_set, regions}
+use Rattle.blz_value.specs.NumberSets.{below}
+use Rattle.topo_forms.specs.Valid.{IsValid}
+use Rattle.topo_forms.specs.View.{View}
+use Rattle.topo_forms.proofs.Regions.Classes.{together-self}
+use Rattle.topo_forms.proofs.Regions.RegionSets.{each_region, member_within}
+use Rattle.topo_forms.proofs.Regions.Spreading.{in_below}
 use Rattle.label_walk.specs.Paths.{region_at}
-use Rattle.coord_steps.specs.declared.steps.Steps.{Steps}
+use Rattle.coord_modes.specs.declared.steps.Steps.{Steps}
 use Rattle.coord_synth.specs.Code.Shapes.{AreFirsts, plan_at}
-use Rattle.coord_steps.specs.Plan.{plan_component, plan_cycle}
+use Rattle.coord_modes.specs.Plan.{plan_component, plan_cycle}
 
 own_in : (v : View) → IsValid v → (c : ℕ) → c < length v.components → is_in c (region_set v c) ≡ true
 unfolding region_set

@@ -2,23 +2,23 @@
 use Rattle.std.proofs.Common.{◌≡◌, ◌<◌, ◌&&◌, inl, inr, ℕ, Bool, true, false, if◌then◌else◌, Option, None, Some, List, [], ◌∷◌, length, refl, ap, sym, subst, ◌∙◌}
 use Rattle.std.specs.List.{cons_option, filter_map, find, list_all}
 use Rattle.std.specs.Option.{option_and_then, unwrap_or}
-use Rattle.fd_closure.specs.declared.attrs.Attrs.{Attrs}
+use Rattle.blz_value.specs.declared.attrs.Attrs.{Attrs}
 use Rattle.blz_value.specs.Members.{Has}
 use Rattle.blz_value.proofs.Membership.{Has-from_filter}
-use Rattle.topo_types.specs.declared.mode.Mode.{Mode}
-use Rattle.topo_types.specs.declared.mode.Mode.TheVariants.{Order}
-use Rattle.topo_types.specs.Carried.{carries_key, carries, common_key, port_key}
-use Rattle.topo_types.specs.Laws.{CanHaveMode}
-use Rattle.topo_types.specs.Regions.{is_in_cycle}
-use Rattle.topo_types.specs.Valid.{IsValid, IsWhole, Validated}
-use Rattle.topo_types.specs.View.{View, goes_to, is_order, port_numbers, stream_numbers, streams_to, with_mode}
-use Rattle.topo_types.proofs.Regions.Spreading.{from_below}
-use Rattle.coord_steps.specs.declared.steps.Steps.{Steps}
-use Rattle.coord_steps.specs.Keys.{IsKeyIn}
-use Rattle.coord_steps.specs.Plan.{is_good, trial, kept_key, tried_mode, wants_order, with_key, plan_component}
+use Rattle.bloom_forms.specs.declared.mode.Mode.{Mode}
+use Rattle.bloom_forms.specs.declared.mode.Mode.TheVariants.{Order}
+use Rattle.topo_forms.specs.Carried.{carries_key, carries, common_key, port_key}
+use Rattle.topo_forms.specs.Laws.{CanHaveMode}
+use Rattle.topo_forms.specs.Regions.{is_in_cycle}
+use Rattle.topo_forms.specs.Valid.{IsValid, IsWhole, Validated}
+use Rattle.topo_forms.specs.View.{View, goes_to, is_order, port_numbers, stream_numbers, streams_to, with_mode}
+use Rattle.topo_forms.proofs.Regions.Spreading.{from_below}
+use Rattle.coord_modes.specs.declared.steps.Steps.{Steps}
+use Rattle.coord_modes.specs.Keys.{IsKeyIn}
+use Rattle.coord_modes.specs.Plan.{is_good, trial, kept_key, tried_mode, wants_order, with_key, plan_component}
 use Rattle.coord_modes.specs.Choice.{chosen_mode, mode_with_key}
-use Rattle.coord_steps.proofs.FreshRegions.{find-some}
-use Rattle.coord_steps.proofs.KeysFound.{carried_key}
+use Rattle.coord_modes.proofs.FreshRegions.{find-some}
+use Rattle.coord_modes.proofs.KeysFound.{carried_key}
 use Rattle.coord_synth.proofs.TrialLemmas.{can_try, can_order}
 
 module _ (now : Validated) (whole : IsWhole now) (valid : IsValid now.view) where

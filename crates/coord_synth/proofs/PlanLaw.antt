@@ -4,21 +4,21 @@ use Rattle.std.specs.List.{list_any, flat_map, filter_map}
 use Rattle.std.specs.Option.{option_map_or}
 use Rattle.std.proofs.lemmas.Bool.{true≢false}
 use Rattle.std.proofs.Math.ListN.{get_or-map}
-use Rattle.fd_closure.specs.declared.attrs.Attrs.{Attrs}
-use Rattle.fd_closure.specs.Bits.{bit_of, meets, members}
+use Rattle.blz_value.specs.declared.attrs.Attrs.{Attrs}
+use Rattle.blz_value.specs.Bits.{bit_of, meets, members}
 use Rattle.blz_value.specs.Members.{Has}
 use Rattle.blz_value.proofs.Membership.{Has-append_left, Has-append_right, Has-from_filter, Has-from_map, Has-from_flat_map}
-use Rattle.path_annotate.specs.declared.note.Note.{Note}
-use Rattle.topo_types.specs.declared.mode.Mode.TheVariants as mode
-use Rattle.topo_types.specs.Carried.{is_confluent}
-use Rattle.topo_types.specs.Dependencies.{usable_fds}
-use Rattle.topo_types.specs.Graph.{is_in}
-use Rattle.topo_types.specs.Regions.{region_of, region_set, regions, is_in_cycle}
-use Rattle.topo_types.specs.Sets.{below}
-use Rattle.topo_types.specs.Valid.{IsValid}
-use Rattle.topo_types.specs.View.{View, End, Component, no_component, no_attrs, stream_at, component_at, component_with_mode, origin_of, ends_of, is_order, is_order_mode, is_replicated, mode_of, mode_key, note_at, port_attrs, port_numbers, stream_numbers, streams_to}
-use Rattle.topo_types.proofs.Regions.Lower.{feeds_edge, none_ordered, lower_into}
-use Rattle.topo_types.proofs.Regions.Spreading.{from_below}
+use Rattle.bloom_forms.specs.declared.note.Note.{Note}
+use Rattle.bloom_forms.specs.declared.mode.Mode.TheVariants as mode
+use Rattle.topo_forms.specs.Carried.{is_confluent}
+use Rattle.topo_forms.specs.Dependencies.{usable_fds}
+use Rattle.blz_value.specs.Graph.{is_in}
+use Rattle.topo_forms.specs.Regions.{region_of, region_set, regions, is_in_cycle}
+use Rattle.blz_value.specs.NumberSets.{below}
+use Rattle.topo_forms.specs.Valid.{IsValid}
+use Rattle.topo_forms.specs.View.{View, End, Component, no_component, no_attrs, stream_at, component_at, component_with_mode, origin_of, ends_of, is_order, is_order_mode, is_replicated, mode_of, mode_key, note_at, port_attrs, port_numbers, stream_numbers, streams_to}
+use Rattle.topo_forms.proofs.Regions.Lower.{feeds_edge, none_ordered, lower_into}
+use Rattle.topo_forms.proofs.Regions.Spreading.{from_below}
 use Rattle.label_rules.specs.declared.label.Label.{Label}
 use Rattle.label_rules.specs.declared.label.Label.TheVariants.{Seal, Async, Run}
 use Rattle.label_rules.specs.declared.label.PathLabel.{PathLabel}
@@ -33,10 +33,10 @@ use Rattle.label_walk.proofs.Labelling.OneLabelling.{has_one_labelling}
 use Rattle.label_walk.proofs.Labelling.RegionByRegion.{has_labels}
 use Rattle.label_walk.proofs.Upstream.UpstreamSeals.{rank, rank_from, Inside, by_rank, feeding, to_into}
 use Rattle.coord_synth.specs.Laws.{IsCoordinated, AreCoordinated, AfterPlanning}
-use Rattle.coord_steps.specs.Plan.{freed_component, has_order_note, planned, planned_by}
+use Rattle.coord_modes.specs.Plan.{freed_component, has_order_note, planned, planned_by}
 use Rattle.coord_synth.proofs.Bounds.{confluent_ok, single_ok, reconcile_ok, carried_ok, region_confluent}
-use Rattle.coord_steps.proofs.Later.{Later, valid_still, edge_before, region_before, region_of_member, own_member}
-use Rattle.coord_steps.proofs.PlanSteps.{State, AreBare, AreSingle, Final, final, covered}
+use Rattle.coord_modes.proofs.Later.{Later, valid_still, edge_before, region_before, region_of_member, own_member}
+use Rattle.coord_modes.proofs.PlanSteps.{State, AreBare, AreSingle, Final, final, covered}
 use Rattle.label_walk.proofs.Tests.{not_so, any-none, none-any}
 
 from_not : (x : Bool) → not x ≡ false → x ≡ true

@@ -2,28 +2,28 @@
 use Rattle.std.proofs.Common.{◌≡◌, ◌≤◌, ◌<◌, inl, inr, ℕ, suc, nat_eq, nat_lt, Bool, true, false, ◌&&◌, ◌||◌, if◌then◌else◌, Option, None, Some, List, [], ◌∷◌, length, get_or, fold, refl, arith, ap, sym, subst, ◌∙◌, bit_or}
 use Rattle.std.specs.List.{list_any}
 use Rattle.std.proofs.lemmas.Bool.{true≢false, ltb-false}
-use Rattle.fd_closure.specs.declared.attrs.Attrs.{Attrs}
-use Rattle.fd_closure.specs.Bits.{members}
-use Rattle.fd_closure.proofs.Members.{in-or}
-use Rattle.fd_closure.proofs.MembersInOrder.{from_members, in_members}
+use Rattle.blz_value.specs.declared.attrs.Attrs.{Attrs}
+use Rattle.blz_value.specs.Bits.{members}
+use Rattle.blz_value.proofs.Members.{in-or}
+use Rattle.blz_value.proofs.MembersInOrder.{from_members, in_members}
 use Rattle.blz_value.specs.Members.{Has}
-use Rattle.topo_types.specs.declared.mode.Mode.{Mode}
-use Rattle.topo_types.specs.declared.mode.Mode.TheVariants as mode
-use Rattle.topo_types.specs.Graph.{Edge, arrows, is_in, region, is_cyclic_set, numbered_regions}
-use Rattle.topo_types.specs.Regions.{edges, region_set, regions, is_in_cycle}
-use Rattle.topo_types.specs.Valid.{IsValid}
-use Rattle.topo_types.specs.View.{View, Component, is_order, is_order_mode, mode_of, mode_key, with_mode}
+use Rattle.bloom_forms.specs.declared.mode.Mode.{Mode}
+use Rattle.bloom_forms.specs.declared.mode.Mode.TheVariants as mode
+use Rattle.blz_value.specs.Graph.{Edge, arrows, is_in, region, is_cyclic_set, numbered_regions}
+use Rattle.topo_forms.specs.Regions.{edges, region_set, regions, is_in_cycle}
+use Rattle.topo_forms.specs.Valid.{IsValid}
+use Rattle.topo_forms.specs.View.{View, Component, is_order, is_order_mode, mode_of, mode_key, with_mode}
 use Rattle.label_walk.proofs.Upstream.Alike.{holding, same_length}
 use Rattle.label_walk.specs.LabelLaws.{DifferInModes}
-use Rattle.coord_steps.specs.declared.steps.Steps.{Steps}
+use Rattle.coord_modes.specs.declared.steps.Steps.{Steps}
 use Rattle.coord_synth.specs.Code.Shapes.{AreFirsts, plan_at}
 use Rattle.coord_synth.specs.Laws.{PlansSetModes, PlansKeepOrder}
-use Rattle.coord_steps.specs.Plan.{freed, tried_mode, kept_key, wants_order, with_key, plan_component, order_member, cycle_wants_order, plan_cycle, plan_region, planned_by}
-use Rattle.coord_steps.proofs.CyclesLater.{acyclic_still, still, in_cycle}
-use Rattle.coord_steps.proofs.FreshRegions.{AreFresh, are_fresh}
-use Rattle.coord_steps.proofs.Later.{Later, region_of_member, own_member}
+use Rattle.coord_modes.specs.Plan.{freed, tried_mode, kept_key, wants_order, with_key, plan_component, order_member, cycle_wants_order, plan_cycle, plan_region, planned_by}
+use Rattle.coord_modes.proofs.CyclesLater.{acyclic_still, still, in_cycle}
+use Rattle.coord_modes.proofs.FreshRegions.{AreFresh, are_fresh}
+use Rattle.coord_modes.proofs.Later.{Later, region_of_member, own_member}
 use Rattle.coord_synth.proofs.PlanLaw.{start, start_keyless, start_later, start_valid, freed_map}
-use Rattle.coord_steps.proofs.PlanSteps.{changed, changed_other, later_changed, order_all}
+use Rattle.coord_modes.proofs.PlanSteps.{changed, changed_other, later_changed, order_all}
 
 module _ (b : View) (xs : List Component) (valid : IsValid (holding b xs)) (unkeyed : (c : ℕ) → mode_key (mode_of (holding b xs) c) ≡ None) (steps : Steps) where
   abbrev f : View

@@ -1,18 +1,18 @@
 -- Modes that a plan sets may be written, and what they give is what the plan says.
 use Rattle.std.proofs.Common.{◌≡◌, ◌<◌, ◌&&◌, ℕ, zero, suc, not, Bool, true, false, if◌then◌else◌, List, [], ◌∷◌, length, get_or, slice_set, refl, ap, sym, subst, ◌∙◌}
 use Rattle.std.proofs.lemmas.Bool.{true≢false}
-use Rattle.fd_closure.specs.declared.attrs.Attrs.{Attrs}
-use Rattle.topo_types.specs.declared.mode.Mode.{Mode}
-use Rattle.topo_types.specs.declared.mode.Mode.TheVariants.{Free, Pass, Seal, Order}
-use Rattle.topo_types.specs.Laws.{IsKeyOf, CanHaveMode}
-use Rattle.topo_types.specs.Regions.{is_in_cycle}
-use Rattle.topo_types.specs.Valid.{Validated}
-use Rattle.topo_types.specs.View.{View, Component, no_component, component_at, component_with_mode, is_order, is_order_mode, with_mode}
-use Rattle.topo_types.proofs.Regions.Spreading.{both_true}
+use Rattle.blz_value.specs.declared.attrs.Attrs.{Attrs}
+use Rattle.bloom_forms.specs.declared.mode.Mode.{Mode}
+use Rattle.bloom_forms.specs.declared.mode.Mode.TheVariants.{Free, Pass, Seal, Order}
+use Rattle.topo_forms.specs.Laws.{IsKeyOf, CanHaveMode}
+use Rattle.topo_forms.specs.Regions.{is_in_cycle}
+use Rattle.topo_forms.specs.Valid.{Validated}
+use Rattle.topo_forms.specs.View.{View, Component, no_component, component_at, component_with_mode, is_order, is_order_mode, with_mode}
+use Rattle.topo_forms.proofs.Regions.Spreading.{both_true}
 use Rattle.label_walk.proofs.Tests.{not_so}
-use Rattle.coord_steps.specs.Keys.{IsKeyIn}
+use Rattle.coord_modes.specs.Keys.{IsKeyIn}
 use Rattle.coord_synth.specs.Code.Written.{StaysWritten}
-use Rattle.coord_steps.specs.Plan.{has_order_note, tried_mode, order_member}
+use Rattle.coord_modes.specs.Plan.{has_order_note, tried_mode, order_member}
 
 module _ (v : View) (c : ℕ) (lt : c < length v.components) (free : is_order v c ≡ false) where
   pub can_order : CanHaveMode v c Order

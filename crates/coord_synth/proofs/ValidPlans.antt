@@ -4,27 +4,27 @@ use Rattle.std.proofs.lemmas.Bool.{cases_Bool, cases_eq, true≢false}
 use Rattle.std.proofs.lemmas.Bool.Decides.{nat_tests}
 use Rattle.std.proofs.lemmas.List.{length-map, length-set, get_or-set_same, get_or-set_other}
 use Rattle.std.proofs.Math.ListN.{get_or-map}
-use Rattle.fd_closure.specs.declared.attrs.Attrs.{Attrs}
-use Rattle.fd_closure.specs.Bits.{bit_of, meets, members}
+use Rattle.blz_value.specs.declared.attrs.Attrs.{Attrs}
+use Rattle.blz_value.specs.Bits.{bit_of, meets, members}
 use Rattle.blz_value.specs.Members.{Has}
 use Rattle.blz_value.proofs.Membership.{Has-from_filter}
-use Rattle.bloom_ast.proofs.Collections.Chosen.{from_chosen}
-use Rattle.fd_closure.proofs.Members.{member_small}
-use Rattle.topo_types.specs.declared.mode.Mode.{Mode}
-use Rattle.topo_types.specs.declared.mode.Mode.TheVariants.{Free, Pass, Seal, Order}
-use Rattle.topo_types.specs.Graph.{arrows, is_in, together, region, is_cyclic_set, numbered_regions}
-use Rattle.topo_types.specs.OtherModes.{with_components, AreRemoded}
-use Rattle.topo_types.specs.Regions.{edges, regions, region_set, is_in_cycle}
-use Rattle.topo_types.specs.Sets.{below}
-use Rattle.topo_types.specs.Valid.{IsValid}
-use Rattle.topo_types.specs.View.{View, Component, no_component, component_at, component_with_mode, is_order, is_order_mode, mode_key, with_mode}
-use Rattle.topo_types.proofs.Regions.Lower.{given}
-use Rattle.topo_modes.proofs.OtherModes.{other_modes_law, cyclic_more}
-use Rattle.topo_types.proofs.Regions.RegionOrder.{classes_at}
-use Rattle.topo_types.proofs.Regions.Spreading.{from_below}
+use Rattle.bloom_forms.proofs.Collections.Chosen.{from_chosen}
+use Rattle.blz_value.proofs.Members.{member_small}
+use Rattle.bloom_forms.specs.declared.mode.Mode.{Mode}
+use Rattle.bloom_forms.specs.declared.mode.Mode.TheVariants.{Free, Pass, Seal, Order}
+use Rattle.blz_value.specs.Graph.{arrows, is_in, together, region, is_cyclic_set, numbered_regions}
+use Rattle.topo_forms.specs.OtherModes.{with_components, AreRemoded}
+use Rattle.topo_forms.specs.Regions.{edges, regions, region_set, is_in_cycle}
+use Rattle.blz_value.specs.NumberSets.{below}
+use Rattle.topo_forms.specs.Valid.{IsValid}
+use Rattle.topo_forms.specs.View.{View, Component, no_component, component_at, component_with_mode, is_order, is_order_mode, mode_key, with_mode}
+use Rattle.topo_forms.proofs.Regions.Lower.{given}
+use Rattle.topo_graph.proofs.OtherModes.{other_modes_law, cyclic_more}
+use Rattle.topo_forms.proofs.Regions.RegionOrder.{classes_at}
+use Rattle.topo_forms.proofs.Regions.Spreading.{from_below}
 use Rattle.coord_synth.specs.Laws.{PlansKeepValid}
-use Rattle.coord_steps.specs.declared.steps.Steps.{Steps}
-use Rattle.coord_steps.specs.Plan.{freed, freed_component, tried_mode, wants_order, with_key, kept_key, plan_component, order_member, has_order_note, cycle_wants_order, plan_cycle, plan_region, planned_by}
+use Rattle.coord_modes.specs.declared.steps.Steps.{Steps}
+use Rattle.coord_modes.specs.Plan.{freed, freed_component, tried_mode, wants_order, with_key, kept_key, plan_component, order_member, has_order_note, cycle_wants_order, plan_cycle, plan_region, planned_by}
 
 set_past : {X : Type 0} (xs : List X) (i : ℕ) (x : X) → length xs ≤ i → slice_set xs i x ≡ xs
 set_past [] i x past = refl

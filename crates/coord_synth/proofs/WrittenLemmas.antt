@@ -4,15 +4,15 @@ use Rattle.std.specs.List.{enumerate_from}
 use Rattle.std.proofs.lemmas.Bool.{cases_eq}
 use Rattle.std.proofs.lemmas.List.{ext_get_or, length-map, length-set, get_or-map, get_or-set_same, get_or-set_other}
 use Rattle.std.proofs.lemmas.List.FromFn.{get_or-enumerate_from, length-enumerate_from}
-use Rattle.topo_types.specs.declared.mode.Mode.{Mode}
-use Rattle.topo_types.specs.declared.topology.ComponentEntry.{ComponentEntry}
-use Rattle.topo_types.specs.declared.topology.Topology.{Topology}
-use Rattle.topo_types.specs.Laws.{validated_with_mode}
-use Rattle.topo_types.specs.Modes.{entry_with_mode, topology_with_mode}
-use Rattle.topo_types.specs.Sites.{no_entry}
-use Rattle.topo_types.specs.Valid.{Validated}
-use Rattle.topo_types.specs.View.{View, Component, no_component, component_at, component_with_mode, mode_of, with_mode}
-use Rattle.coord_steps.specs.Plan.{topology_with_modes}
+use Rattle.bloom_forms.specs.declared.mode.Mode.{Mode}
+use Rattle.topo_forms.specs.declared.topology.ComponentEntry.{ComponentEntry}
+use Rattle.topo_forms.specs.declared.topology.Topology.{Topology}
+use Rattle.topo_forms.specs.Laws.{validated_with_mode}
+use Rattle.topo_forms.specs.Modes.{entry_with_mode, topology_with_mode}
+use Rattle.topo_forms.specs.Sites.{no_entry}
+use Rattle.topo_forms.specs.Valid.{Validated}
+use Rattle.topo_forms.specs.View.{View, Component, no_component, component_at, component_with_mode, mode_of, with_mode}
+use Rattle.coord_modes.specs.Plan.{topology_with_modes}
 use Rattle.coord_synth.specs.Code.Written.{IsWritten, StaysWritten}
 
 -- the mode that is set, and those of the others

@@ -1,14 +1,14 @@
 -- What holds of all planned topologies.
 use Rattle.std.specs.Prelude.{ℕ, IsTrue, ◌≡◌, ◌≢◌, ◌≤◌, ◌<◌, None, Some, List, length}
-use Rattle.topo_types.specs.Valid.{IsValid}
-use Rattle.topo_types.specs.View.{View, End, origin_of, mode_of, mode_key, is_order}
+use Rattle.topo_forms.specs.Valid.{IsValid}
+use Rattle.topo_forms.specs.View.{View, End, origin_of, mode_of, mode_key, is_order}
 use Rattle.label_rules.specs.declared.label.Label.{Label}
 use Rattle.label_rules.specs.Label.{severity}
 use Rattle.label_walk.specs.LabelLaws.{DifferInModes}
 use Rattle.label_walk.specs.Labels.{AreLabels}
 use Rattle.label_walk.specs.Paths.{label_at}
-use Rattle.coord_steps.specs.declared.steps.Steps.{Steps}
-use Rattle.coord_steps.specs.Plan.{planned, planned_by}
+use Rattle.coord_modes.specs.declared.steps.Steps.{Steps}
+use Rattle.coord_modes.specs.Plan.{planned, planned_by}
 
 -- ---- whichever steps are taken
 

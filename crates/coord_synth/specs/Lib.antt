@@ -1,3 +1,2 @@
-pub use Rattle.coord_steps.specs.Plan
 pub mod Laws
 pub mod Code

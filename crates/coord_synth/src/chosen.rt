@@ -1,11 +1,12 @@
 //! A topology with the mode that was chosen for one of its components, if any was.
 ghost use Rattle.std.specs.Prelude.{◌≡◌, IfOk, IfSome};
 ghost use Rattle.coord_synth.specs.Code.Chosen as code;
-ghost use Rattle.topo_types.specs.Laws.{CanHaveMode};
+ghost use Rattle.topo_forms.specs.Laws.{CanHaveMode};
 
+use bloom_forms::Mode;
 use std::alloc::{AllocError, Global};
-use topo_modes::replace_mode;
-use topo_types::{Mode, Valid};
+use topo_forms::Valid;
+use topo_graph::replace_mode;
 
 /// The topology with this mode at the component, or as it is where none was chosen.
 pub(crate) fn with_chosen(

@@ -1,16 +1,16 @@
 //! The plan of a component outside cycles.
 ghost use Rattle.std.specs.Prelude.{◌≡◌, ◌<◌, IsFalse, IfOk, length};
-ghost use Rattle.coord_steps.specs.Plan as spec;
+ghost use Rattle.coord_modes.specs.Plan as spec;
 ghost use Rattle.coord_synth.specs.Code.Chosen as code;
 ghost use Rattle.coord_synth.specs.Code.Written.{StaysWritten};
-ghost use Rattle.topo_types.specs.Regions.{is_in_cycle};
+ghost use Rattle.topo_forms.specs.Regions.{is_in_cycle};
 
 use crate::chosen::with_chosen;
-use coord_modes::chosen_mode;
-use coord_steps::Steps;
+use bloom_forms::Mode;
+use coord_modes::{Steps, chosen_mode};
 use label_walk::is_order;
 use std::alloc::{AllocError, Global};
-use topo_types::{Mode, Valid};
+use topo_forms::Valid;
 
 // The mode that the plan gives a component outside cycles, where it gives one.
 fn component_mode(

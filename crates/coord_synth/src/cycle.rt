@@ -3,15 +3,16 @@ ghost use Rattle.std.specs.Prelude.{◌≡◌, ◌<◌, ◌&&◌, IfOk, fold, le
 ghost use Rattle.coord_synth.specs.Code.Chosen as chosen;
 ghost use Rattle.coord_synth.specs.Code.Regions as code;
 ghost use Rattle.coord_synth.specs.Code.Written.{StaysWritten};
-ghost use Rattle.coord_steps.specs.Plan as spec;
+ghost use Rattle.coord_modes.specs.Plan as spec;
 ghost use Rattle.label_walk.specs.Paths.{AreComponents, region_at};
-ghost use Rattle.topo_types.specs.Regions as regions;
+ghost use Rattle.topo_forms.specs.Regions as regions;
 
 use crate::chosen::with_chosen;
-use coord_steps::{Steps, has_order_note, is_bad};
+use bloom_forms::Mode;
+use coord_modes::{Steps, has_order_note, is_bad};
 use label_walk::{is_order, is_replicated, labels, region_label, region_members};
 use std::alloc::{AllocError, Global};
-use topo_types::{Mode, Valid};
+use topo_forms::Valid;
 
 // Order, where the component has an O note and isn't Order yet.
 fn member_mode(now: &Valid, component: u32) -> Option<Mode>

@@ -3,18 +3,18 @@ ghost use Rattle.std.specs.Prelude.{◌≡◌, ◌<◌, IfOk, fold, length, true
 ghost use Rattle.coord_synth.specs.Code.Shapes.{AreFirsts, plan_at};
 ghost use Rattle.coord_synth.specs.Code.Written.{StaysWritten};
 ghost use Rattle.coord_synth.specs.Laws.{AreCoordinated};
-ghost use Rattle.coord_steps.specs.Plan as spec;
+ghost use Rattle.coord_modes.specs.Plan as spec;
 ghost use Rattle.label_walk.specs.Paths.{AreComponents, region_at};
-ghost use Rattle.topo_types.specs.Graph.{is_in};
-ghost use Rattle.topo_types.specs.Regions.{regions};
+ghost use Rattle.blz_value.specs.Graph.{is_in};
+ghost use Rattle.topo_forms.specs.Regions.{regions};
 
 use crate::component::plan_component;
 use crate::cycle::plan_cycle;
 use crate::start::freed;
-use coord_steps::Steps;
+use coord_modes::Steps;
 use label_walk::{cycle_of, region_members};
 use std::alloc::{AllocError, Global};
-use topo_types::Valid;
+use topo_forms::Valid;
 
 // The first member of a region.
 fn first_member(alloc: Global, valid: &Valid, region: u32) -> Result<u32, AllocError>

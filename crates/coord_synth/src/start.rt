@@ -2,13 +2,13 @@
 ghost use Rattle.std.specs.Prelude.{◌≡◌, ◌<◌, IfOk, length};
 ghost use Rattle.coord_synth.specs.Code.Start as code;
 ghost use Rattle.coord_synth.specs.Code.Written.{IsWritten};
-ghost use Rattle.coord_steps.specs.Plan as spec;
-ghost use Rattle.topo_types.specs.View as view;
+ghost use Rattle.coord_modes.specs.Plan as spec;
+ghost use Rattle.topo_forms.specs.View as view;
 
 use crate::chosen::with_chosen;
+use bloom_forms::Mode;
 use std::alloc::{AllocError, Global};
-use topo_copy::valid_copy;
-use topo_types::{Mode, Valid};
+use topo_forms::{Valid, valid_copy};
 
 // Free, where the component has a mode that the plan has to choose anew.
 fn freed_mode(valid: &Valid, component: u32) -> Option<Mode>

@@ -1,14 +1,14 @@
 -- Rows and parts that nowhere pass the limit are few, and each once they are no more.
-use Rattle.std.proofs.Common.{◌≡◌, ◌≤◌, ◌+◌, ℕ, suc, Bool, true, false, not, nat_lt, cond, List, [], ◌∷◌, map, filter, length, Option, Some, None, Ok, refl, subst, sym, arith}
+use Rattle.std.proofs.Common.{◌≡◌, ◌≤◌, ◌+◌, ℕ, Bool, true, false, nat_lt, cond, List, [], ◌∷◌, map, Option, Some, None, Ok, refl, subst, sym, arith}
 use Rattle.std.specs.List.{sum_by}
 use Rattle.std.proofs.lemmas.Bool.{ltb-false}
 use Rattle.std.proofs.lemmas.List.Sums.{sum_by-cons}
-use Rattle.blz_value.specs.Record.{Row}
-use Rattle.topo_types.specs.Data.{Data, SourceData}
-use Rattle.topo_types.specs.Messages.{distinct_rows, is_same_row}
-use Rattle.topo_types.specs.View.{View}
-use Rattle.data_read.specs.Counting.{source_limit, count_of, passed_at, few, counted, AreFew}
+use Rattle.topo_forms.specs.Data.{Data, SourceData}
+use Rattle.topo_forms.specs.View.{View}
+use Rattle.data_read.specs.Counting.{passed_at, few, counted}
+use Rattle.topo_forms.specs.DataCounts.{source_limit, count_of, AreFew}
 use Rattle.data_read.specs.Making.{distinct_lists}
+use Rattle.topo_forms.proofs.DistinctRows.{no_more_rows}
 
 few_from : (so_far s : ℕ) (lists : List SourceData) → so_far ≤ source_limit → passed_at so_far s lists ≡ None → so_far + sum_by count_of lists ≤ source_limit
 few_from so_far s [] le none = omega arith
@@ -28,17 +28,6 @@ few_counted v lists e = go (passed_at 0 0 lists) refl e
     go (Some s) some e = cc
 
 -- ---- each once
-
-filtered : {X : Type 0} (p : X → Bool) (xs : List X) → length (filter p xs) ≤ length xs
-filtered p [] = omega arith
-filtered p (x ∷ xs) = elim (p x) as (λ b. length (cond b (x ∷ filter p xs) (filter p xs)) ≤ suc (length xs)) [
-  | true ↦ omega (arith, filtered p xs)
-  | false ↦ omega (arith, filtered p xs)
-]
-
-pub no_more_rows : (rows : List Row) → length (distinct_rows rows) ≤ length rows
-no_more_rows [] = omega arith
-no_more_rows (x ∷ xs) = omega (arith, filtered (λ y. not (is_same_row x y)) (distinct_rows xs), no_more_rows xs)
 
 no_more : (lists : List SourceData) → sum_by count_of (map distinct_lists lists) ≤ sum_by count_of lists
 no_more [] = omega arith

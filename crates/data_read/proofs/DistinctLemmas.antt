@@ -1,40 +1,13 @@
 -- The distinct records of a list with one more.
-use Rattle.std.proofs.Common.{◌≡◌, Bool, true, false, not, ◌||◌, List, [], ◌∷◌, ◌++◌, filter, if◌then◌else◌, refl, ap, sym, ◌∙◌, inl, inr}
+use Rattle.std.proofs.Common.{◌≡◌, Bool, true, false, not, ◌||◌, List, [], ◌∷◌, ◌++◌, filter, if◌then◌else◌, refl, ap, sym, ◌∙◌}
 use Rattle.std.specs.List.{list_any}
 use Rattle.std.proofs.lemmas.List.{append-nil}
-use Rattle.std.proofs.lemmas.List.Elements.{filter-append}
-use Rattle.blz_value.specs.Members.{Has}
 use Rattle.blz_value.specs.Record.{Row}
-use Rattle.blz_value.proofs.Membership.{Has-from_filter}
 use Rattle.indexmap.specs.IndexSet.{insert_key}
-use Rattle.topo_types.specs.Messages.{is_same_row, distinct_rows}
+use Rattle.topo_forms.specs.Messages.{is_same_row, distinct_rows}
 use Rattle.source_deps.specs.Broken.{same}
 use Rattle.source_deps.proofs.EarliestLemmas.{same-is, same-sym}
-
--- a record stands in a list
-abbrev pub is_among : List Row → Row → Bool
-is_among rows row = list_any (λ y. is_same_row y row) rows
-
--- the record, where it is new
-abbrev pub if_new : List Row → Row → List Row
-if_new rows row = if is_among rows row then [] else row ∷ []
-
-new_or_not : (y x : Row) (b : Bool) → filter (λ z. not (is_same_row y z)) (if b then [] else x ∷ []) ≡ (if is_same_row y x || b then [] else x ∷ [])
-new_or_not y x true = elim (is_same_row y x) as (λ c. [] ≡ (if c || true then [] else x ∷ [])) [ true ↦ refl | false ↦ refl ]
-new_or_not y x false = elim (is_same_row y x) as (λ c. (if not c then x ∷ [] else []) ≡ (if c || false then [] else x ∷ [])) [ true ↦ refl | false ↦ refl ]
-
-pub distinct_rows-more : (xs : List Row) (x : Row) → distinct_rows (xs ++ x ∷ []) ≡ distinct_rows xs ++ if_new xs x
-distinct_rows-more [] x = refl
-distinct_rows-more (y ∷ ys) x =
-    ap (λ rest. y ∷ filter (λ z. not (is_same_row y z)) rest) (distinct_rows-more ys x)
-    ∙ ap (λ rest. y ∷ rest) (filter-append (λ z. not (is_same_row y z)) (distinct_rows ys) (if_new ys x)
-    ∙ ap (λ rest. filter (λ z. not (is_same_row y z)) (distinct_rows ys) ++ rest) (new_or_not y x (is_among ys x)))
-
--- each distinct record is one of the list
-pub Has-from_distinct : (q : Row) (xs : List Row) → Has q (distinct_rows xs) → Has q xs
-Has-from_distinct q [] h = h
-Has-from_distinct q (x ∷ xs) (inl e) = inl e
-Has-from_distinct q (x ∷ xs) (inr h) = inr (Has-from_distinct q xs (Has-from_filter (λ y. not (is_same_row x y)) q (distinct_rows xs) h).0)
+use Rattle.topo_forms.proofs.DistinctRows.{is_among, distinct_rows-more}
 
 -- ---- with one more inserted
 

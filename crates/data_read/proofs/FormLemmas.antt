@@ -5,18 +5,18 @@ use Rattle.std.specs.List.{All}
 use Rattle.std.proofs.lemmas.Bool.{eqb-true}
 use Rattle.std.proofs.lemmas.List.{length-map}
 use Rattle.std.proofs.lemmas.List.FromFn.{length-map-range_with_len, get_or-map-range_with_len}
-use Rattle.fd_closure.specs.declared.attrs.Attrs.{Attrs}
-use Rattle.fd_closure.specs.Bits.{members}
+use Rattle.blz_value.specs.declared.attrs.Attrs.{Attrs}
+use Rattle.blz_value.specs.Bits.{members}
 use Rattle.blz_value.specs.Members.{Has}
 use Rattle.blz_value.specs.Record.{Row}
 use Rattle.blz_value.proofs.Membership.{Has-get_or}
 use Rattle.serde_json.specs.Data.{Data as Json, null, boolean, number, string, array, object, Items, no_items, item}
 use Rattle.serde_json.specs.Events.{items_len}
 use Rattle.serde_json.specs.Find.{get, get_member, as_array, as_object}
-use Rattle.topo_types.specs.Data.{SourceData, no_data, source_data, FitsSource, IsData, key_places, key_width}
-use Rattle.topo_types.specs.Valid.{Validated}
-use Rattle.topo_types.specs.View.{stream_at, source_count}
-use Rattle.topo_types.specs.declared.topology.ColumnType.{ColumnType}
+use Rattle.topo_forms.specs.Data.{SourceData, no_data, source_data, FitsSource, IsData, key_places, key_width}
+use Rattle.topo_forms.specs.Valid.{Validated}
+use Rattle.topo_forms.specs.View.{stream_at, source_count}
+use Rattle.topo_forms.specs.declared.topology.ColumnType.{ColumnType}
 use Rattle.data_read.specs.declared.shape.Shape.{Shape}
 use Rattle.data_read.specs.declared.fault.DataFault.{DataFault}
 use Rattle.data_read.specs.Entry.{Entry, entry_in, only_rows, list_or_none, entry_keys}

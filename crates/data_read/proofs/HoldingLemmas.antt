@@ -4,10 +4,10 @@ use Rattle.std.specs.List.{All}
 use Rattle.std.proofs.lemmas.List.{length-map}
 use Rattle.blz_value.specs.Record.{Row}
 use Rattle.blz_value.proofs.Membership.{Has-get_or, All-of_member}
-use Rattle.topo_types.specs.Data.{Data, SourceData, source_data, FitsSource, IsData, Holds, key_width}
-use Rattle.topo_types.specs.Messages.{distinct_rows}
-use Rattle.topo_types.specs.Valid.{Validated}
-use Rattle.topo_types.specs.View.{View, Stream, stream_at}
+use Rattle.topo_forms.specs.Data.{Data, SourceData, source_data, FitsSource, IsData, Holds, key_width}
+use Rattle.topo_forms.specs.Messages.{distinct_rows}
+use Rattle.topo_forms.specs.Valid.{Validated}
+use Rattle.topo_forms.specs.View.{View, Stream, stream_at}
 use Rattle.source_deps.specs.declared.dependencies.BrokenFd.{BrokenFd}
 use Rattle.source_deps.specs.Broken.{first_broken}
 use Rattle.source_deps.proofs.BrokenLemmas.{unbroken_holds}
@@ -16,7 +16,7 @@ use Rattle.data_read.specs.Form.{form_of}
 use Rattle.data_read.specs.Making.{distinct_lists, unbroken, upheld, data_from}
 use Rattle.data_read.specs.Reading.{or_not_json, value_of, data_of}
 use Rattle.data_read.specs.Shape.{shapes_of}
-use Rattle.data_read.proofs.DistinctLemmas.{Has-from_distinct}
+use Rattle.topo_forms.proofs.DistinctRows.{Has-from_distinct}
 use Rattle.data_read.proofs.FormLemmas.{went_on, same_ok, form_fits, fitting}
 
 all_distinct : (P : Row → Type 0) (rows : List Row) → All P rows → All P (distinct_rows rows)

@@ -4,7 +4,6 @@ pub mod ListsLemmas
 pub mod KeysLemmas
 pub mod WeightLemmas
 pub mod TextWeight
-pub mod KeyOfSource
 pub mod DistinctLemmas
 pub mod CountingLemmas
 pub mod MakingLemmas

@@ -4,9 +4,9 @@ use Rattle.std.proofs.lemmas.List.{length-map}
 use Rattle.serde_json.specs.Data.{Data as Json}
 use Rattle.serde_json.specs.View.{view}
 use Rattle.serde_json.specs.declared.value.Value.{Value}
-use Rattle.topo_types.specs.Data.{Data, SourceData, IsData, Holds}
-use Rattle.topo_types.specs.Valid.{Validated}
-use Rattle.topo_types.specs.View.{View}
+use Rattle.topo_forms.specs.Data.{Data, SourceData, IsData, Holds}
+use Rattle.topo_forms.specs.Valid.{Validated}
+use Rattle.topo_forms.specs.View.{View}
 use Rattle.data_read.specs.declared.fault.DataFault.{DataFault}
 use Rattle.data_read.specs.Code.Weight.{weight}
 use Rattle.data_read.specs.Form.{form_of}
@@ -16,7 +16,7 @@ use Rattle.data_read.specs.Reading.{or_not_json, value_of}
 use Rattle.data_read.specs.Shape.{shapes_of}
 use Rattle.data_read.proofs.FormLemmas.{form_fits, fitting, same_ok}
 use Rattle.data_read.proofs.HoldingLemmas.{made}
-use Rattle.data_read.proofs.KeyOfSource.{source_stream}
+use Rattle.topo_forms.proofs.KeyOfSource.{source_stream}
 use Rattle.data_read.proofs.TextWeight.{text_weighs}
 
 -- there are no more lists than streams

@@ -5,7 +5,7 @@ use Rattle.serde_json.specs.Events.{items_len}
 use Rattle.serde_json.specs.View.{items_view}
 use Rattle.serde_json.specs.declared.value.Value.{Value}
 use Rattle.serde_json.proofs.Views.{items_len-items_view}
-use Rattle.topo_types.specs.declared.topology.ColumnType.{ColumnType}
+use Rattle.topo_forms.specs.declared.topology.ColumnType.{ColumnType}
 use Rattle.data_read.specs.Values.{values_in, row_in}
 
 equal : (a b c : ℕ) → a ≡ b → b ≡ c → (a == c) ≡ true

@@ -1,12 +1,12 @@
 -- The rows and the parts of each source that a JSON value gives, or its first break: sources in file order, then names of no source in byte order.
 use Rattle.std.specs.Prelude.{ℕ, ◌+◌, List, [], ◌∷◌, map, Option, Some, None, Result, Ok, Err}
-use Rattle.bloom_ast.specs.Query.{Name}
+use Rattle.bloom_forms.specs.Query.{Name}
 use Rattle.blz_value.specs.Record.{Row}
 use Rattle.serde_json.specs.Data.{Data as Json, Items, no_items, item}
 use Rattle.serde_json.specs.Events.{items_len}
 use Rattle.serde_json.specs.Find.{get, as_object}
-use Rattle.topo_types.specs.Data.{SourceData, no_data}
-use Rattle.topo_types.specs.declared.topology.ColumnType.{ColumnType}
+use Rattle.topo_forms.specs.Data.{SourceData, no_data}
+use Rattle.topo_forms.specs.declared.topology.ColumnType.{ColumnType}
 use Rattle.data_read.specs.declared.shape.Shape.{Shape}
 use Rattle.data_read.specs.declared.fault.DataFault.{DataFault}
 use Rattle.data_read.specs.declared.fault.DataFault.TheVariants.{DataForm}

@@ -4,9 +4,9 @@ use Rattle.std.specs.List.{zip}
 use Rattle.blz_value.specs.Record.{Row}
 use Rattle.source_deps.specs.declared.dependencies.BrokenFd.{BrokenFd}
 use Rattle.source_deps.specs.Broken.{first_broken}
-use Rattle.topo_types.specs.Data.{Data, SourceData}
-use Rattle.topo_types.specs.Messages.{distinct_rows}
-use Rattle.topo_types.specs.View.{View}
+use Rattle.topo_forms.specs.Data.{Data, SourceData}
+use Rattle.topo_forms.specs.Messages.{distinct_rows}
+use Rattle.topo_forms.specs.View.{View}
 use Rattle.data_read.specs.declared.fault.DataFault.{DataFault}
 use Rattle.data_read.specs.declared.fault.DataFault.TheVariants.{FdBroken}
 use Rattle.data_read.specs.Steps.{◌>>=◌}

@@ -3,8 +3,8 @@ use Rattle.std.specs.Prelude.{ℕ, List, Option, Some, None, option_and_then, Re
 use Rattle.std.specs.Str.{is_utf8}
 use Rattle.serde_json.specs.Data as json
 use Rattle.serde_json.specs.Read as json_text
-use Rattle.topo_types.specs.Data.{Data}
-use Rattle.topo_types.specs.Valid.{Validated}
+use Rattle.topo_forms.specs.Data.{Data}
+use Rattle.topo_forms.specs.Valid.{Validated}
 use Rattle.data_read.specs.declared.fault.DataFault.{DataFault}
 use Rattle.data_read.specs.declared.fault.DataFault.TheVariants.{NotJson}
 use Rattle.data_read.specs.Form.{form_of}

@@ -1,13 +1,13 @@
 -- What a source may hold: the type of each column, and of each attribute of its key.
 use Rattle.std.specs.Prelude.{ℕ, Option, None, Some, is_some, List, [], map, length, slice_index_or}
-use Rattle.fd_closure.specs.declared.attrs.Attrs.{Attrs}
-use Rattle.topo_types.specs.Data.{key_places}
-use Rattle.topo_types.specs.Sets.{below}
-use Rattle.topo_types.specs.Valid.{Validated}
-use Rattle.topo_types.specs.View.{stream_at, source_count}
-use Rattle.topo_types.specs.declared.topology.ColumnType.{ColumnType}
-use Rattle.topo_types.specs.declared.topology.ColumnType.TheVariants.{Any}
-use Rattle.topo_types.specs.declared.topology.SourceEntry.{SourceEntry}
+use Rattle.blz_value.specs.declared.attrs.Attrs.{Attrs}
+use Rattle.topo_forms.specs.Data.{key_places}
+use Rattle.blz_value.specs.NumberSets.{below}
+use Rattle.topo_forms.specs.Valid.{Validated}
+use Rattle.topo_forms.specs.View.{stream_at, source_count}
+use Rattle.topo_forms.specs.declared.topology.ColumnType.{ColumnType}
+use Rattle.topo_forms.specs.declared.topology.ColumnType.TheVariants.{Any}
+use Rattle.topo_forms.specs.declared.topology.SourceEntry.{SourceEntry}
 use Rattle.data_read.specs.declared.shape.Shape.{Shape}
 
 -- past the last source stands one without anything

@@ -1,12 +1,12 @@
 //! How many rows and parts there are.
 ghost use Rattle.std.specs.Prelude.{◌≡◌, ◌<◌, ◌≤◌, IfSome, OnOk, length};
+ghost use Rattle.topo_forms.specs.DataCounts as counts;
 ghost use Rattle.data_read.specs.Counting as spec;
 ghost use Rattle.data_read.specs.Gives.{Gives};
-ghost use Rattle.topo_types.specs.View as view;
+ghost use Rattle.topo_forms.specs.View as view;
 
 use crate::fault::{DataFault, too_many};
-use source_deps::SourceLists;
-use topo_types::Valid;
+use topo_forms::{SourceLists, Valid};
 
 pub(crate) const MAX_ROWS: usize = 65_536;
 
@@ -31,7 +31,7 @@ fn passed_at(sources: &[SourceLists]) -> Option<usize>
 pub(crate) fn counted(valid: &Valid, sources: &[SourceLists]) -> Result<(), DataFault>
     requires { length sources.now ≤ length valid.now.view.streams }
     ensures count { Gives (λ _. tt) result (spec.counted valid.now.view sources.now) }
-    ensures few { OnOk result (spec.AreFew sources.now) }
+    ensures few { OnOk result (counts.AreFew sources.now) }
 {
     valid.known();
     match passed_at(sources) {

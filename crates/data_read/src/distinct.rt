@@ -1,13 +1,13 @@
 //! The distinct records of a list.
 ghost use Rattle.std.specs.Prelude.{◌≡◌, IfOk, map};
-ghost use Rattle.topo_types.specs.Messages.{distinct_rows};
+ghost use Rattle.topo_forms.specs.Messages.{distinct_rows};
 ghost use Rattle.data_read.specs.Making.{distinct_lists};
 
 use blz_value::Record;
 use indexmap::IndexSet;
-use source_deps::SourceLists;
 use std::alloc::{AllocError, Global};
 use std::hash::{BuildHasherDefault, DefaultHasher};
+use topo_forms::SourceLists;
 
 // The distinct records of a list, each where it first stands. As in a pool, SipHash is the hash: strangers
 // may have written the file.

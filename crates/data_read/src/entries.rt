@@ -17,9 +17,8 @@ use crate::shape::Shape;
 use crate::values::record_in;
 use blz_value::{Record, Str};
 use serde_json::{Map, Value as Json};
-use source_deps::SourceLists;
 use std::alloc::{AllocError, Global};
-use topo_types::ColumnType;
+use topo_forms::{ColumnType, SourceLists};
 
 fn record_at(
     alloc: Global,

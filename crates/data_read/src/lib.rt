@@ -1,8 +1,8 @@
-//! Reads the records of a topology's sources from the JSON text of a file.
+//! Reads the records of a topology's sources from the JSON text of a file. The data themselves lie in
+//! `topo_forms`.
 #![tactic(auto)]
 
 mod counting;
-mod data;
 mod distinct;
 mod entries;
 mod fault;
@@ -12,7 +12,7 @@ mod reading;
 mod shape;
 mod values;
 
-pub use data::Data;
 pub use fault::DataFault;
 pub use making::of_lists;
 pub use reading::read;
+pub use topo_forms::Data;

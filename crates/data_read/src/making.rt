@@ -4,17 +4,16 @@ ghost use Rattle.std.specs.List.{zip};
 ghost use Rattle.data_read.specs.Code.Pairs.{source_in};
 ghost use Rattle.data_read.specs.Gives.{Gives};
 ghost use Rattle.data_read.specs.Making.{data_from, sources_of, upheld};
-ghost use Rattle.topo_types.specs.Data.{IsData, Holds};
-ghost use Rattle.topo_types.specs.View.{source_count};
+ghost use Rattle.topo_forms.specs.Data.{IsData, Holds};
+ghost use Rattle.topo_forms.specs.View.{source_count};
 
 use crate::counting::counted;
-use crate::data::Data;
 use crate::distinct::all_distinct;
 use crate::fault::DataFault;
 use blz_value::Record;
-use source_deps::{SourceLists, first_broken};
+use source_deps::first_broken;
 use std::alloc::{AllocError, Global};
-use topo_types::Valid;
+use topo_forms::{Data, SourceLists, Valid};
 
 // FdBroken for the first dependency that is broken.
 fn upheld(alloc: Global, valid: &Valid, sources: &[SourceLists]) -> Result<(), DataFault>

@@ -6,17 +6,15 @@ ghost use Rattle.data_read.specs.Gives.{Gives};
 ghost use Rattle.data_read.specs.Reading as spec;
 ghost use Rattle.data_read.specs.Shape.{shapes_of};
 ghost use Rattle.serde_json.specs.View.{view};
-ghost use Rattle.topo_types.specs.Data.{IsData, Holds};
+ghost use Rattle.topo_forms.specs.Data.{IsData, Holds};
 
-use crate::data::Data;
 use crate::entries::form_of;
 use crate::fault::DataFault;
 use crate::making::data_from;
 use crate::shape::shapes_of;
 use serde_json::Value as Json;
-use source_deps::SourceLists;
 use std::alloc::Global;
-use topo_types::Valid;
+use topo_forms::{Data, SourceLists, Valid};
 
 fn value_of(alloc: Global, text: &[u8]) -> Result<Json, DataFault>
     ensures { Gives view result (spec.or_not_json (spec.value_of text.now)) }

@@ -1,12 +1,12 @@
 //! What a row and what a part of each source hold.
 ghost use Rattle.std.specs.Prelude.{◌≡◌, ◌<◌, IfOk, length, map};
 ghost use Rattle.data_read.specs.Shape as spec;
-ghost use Rattle.topo_types.specs.View as view;
+ghost use Rattle.topo_forms.specs.View as view;
 
-use blz_value::{Items, Str};
+use blz_value::{Attrs, Items, Str};
 use source_deps::{columns_of, places_of};
 use std::alloc::{AllocError, Global};
-use topo_types::{Attrs, ColumnType, Valid, carries};
+use topo_forms::{ColumnType, Valid, carries};
 
 /// What a source may hold.
 #[derive(Drop)]
@@ -87,7 +87,7 @@ fn key_of(valid: &Valid, source: u32) -> Option<Attrs>
     carries(valid, source)
 }
 
-#[tactic(auto, using(crate::proofs::KeyOfSource::source_stream))]
+#[tactic(auto, using(topo_forms::proofs::KeyOfSource::source_stream))]
 fn shape_of(alloc: Global, valid: &Valid, source: u32) -> Result<Shape, AllocError>
     requires { source < view.source_count valid.now.view }
     ensures { IfOk result (λ shape. shape ≡ spec.shape_of valid.now source) }

@@ -8,7 +8,7 @@ use crate::fault::ValueFault;
 use blz_value::{Record, Str, Value};
 use serde_json::Value as Json;
 use std::alloc::Global;
-use topo_types::ColumnType;
+use topo_forms::ColumnType;
 
 pub(crate) const MAX_TEXT: usize = 64;
 

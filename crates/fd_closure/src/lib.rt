@@ -1,12 +1,10 @@
-//! Sets of attributes, what dependencies add to them, and the names of attributes.
+//! The front of sets of attributes, of what dependencies add to them, and of the names of attributes. The sets,
+//! the dependencies and closures lie in `blz_value`.
 #![tactic(auto)]
 
-mod attrs;
-mod closing;
-mod laws;
+mod gates;
 mod names;
 
-pub use attrs::{Attrs, Fd};
-pub use closing::{closure, compatible};
-pub use laws::closure_law;
+pub use blz_value::{Attrs, Fd, closure, closure_law};
+pub use gates::compatible;
 pub use names::{AttrNames, NamesFault};

@@ -1,7 +1,7 @@
 //! Names of attributes, by their numbers.
 ghost use Rattle.std.specs.Prelude.{◌≡◌, ◌≤◌, ◌<◌, ◌≢◌, ◌↔◌, [], ◌∷◌, ◌++◌, length, slice_get, AllPairs, IsNone, IfSome, IfOk, IsOk, OnOk, OnErr};
 ghost use Rattle.blz_value.specs.Members.{Has};
-ghost use Rattle.fd_closure.specs.Names.{place_of, added};
+ghost use Rattle.blz_value.specs.Names.{place_of, added};
 ghost use Rattle.fd_closure.specs.declared.names.NamesFault.TheVariants.{NoMemory};
 
 use blz_value::Str;
@@ -47,7 +47,7 @@ pub struct AttrNames {
 
 impl Model for AttrNames {
     ghost use Rattle.std.specs.Prelude.{List, ℕ};
-    ghost use Rattle.fd_closure.specs.Names.{IsNameList};
+    ghost use Rattle.blz_value.specs.Names.{IsNameList};
 
     ghost Value = { List (List ℕ) };
 

@@ -3,13 +3,14 @@ use Rattle.std.proofs.Common.{◌≡◌, refl, ap, sym, subst, ◌∙◌, ℕ, �
 use Rattle.std.specs.List.{list_all}
 use Rattle.std.specs.Option.{option_and_then}
 use Rattle.std.proofs.lemmas.Bool.{eqb-true, eq-eqb}
-use Rattle.fd_closure.specs.declared.attrs.Attrs.{Attrs}
-use Rattle.topo_types.specs.Carried.{is_key, may_carry, streams_towards, carries_key, key_before, carries}
-use Rattle.topo_types.specs.Laws.{carries_next}
-use Rattle.topo_types.specs.Valid.{IsValid}
-use Rattle.topo_types.specs.View.{View, End, origin_of, stream_at, mode_of, mode_key, has_body}
-use Rattle.topo_types.proofs.Found.OneLevel.{carries_law}
-use Rattle.topo_types.proofs.Regions.Spreading.{same_truth, both_true}
+use Rattle.blz_value.specs.declared.attrs.Attrs.{Attrs}
+use Rattle.topo_forms.specs.Carried.{may_carry, streams_towards, carries_key, key_before, carries}
+use Rattle.blz_value.specs.Arrows.{is_key}
+use Rattle.topo_forms.specs.Laws.{carries_next}
+use Rattle.topo_forms.specs.Valid.{IsValid}
+use Rattle.topo_forms.specs.View.{View, End, origin_of, stream_at, mode_of, mode_key, has_body}
+use Rattle.topo_forms.proofs.Found.OneLevel.{carries_law}
+use Rattle.topo_forms.proofs.Regions.Spreading.{same_truth, both_true}
 
 is_key-is : (key : ℕ) (o : Option Attrs) → is_key key o ≡ true → (own : Attrs) × (o ≡ Some own) × (own.bits ≡ key)
 is_key-is key None e = cc

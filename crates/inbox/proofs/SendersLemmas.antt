@@ -1,9 +1,9 @@
 -- The feeds of an instance are those of its ports' streams by the replicas that send to it.
 use Rattle.std.proofs.Common.{◌≡◌, refl, ap, ℕ, ◌||◌, Bool, true, false, List, [], ◌∷◌, filter, cond}
 use Rattle.std.specs.List.{flat_map}
-use Rattle.topo_types.specs.Feeds.{Feed, are_paired, feeds_from, feeds, log_feeds}
-use Rattle.topo_types.specs.Sets.{below}
-use Rattle.topo_types.specs.View.{View, port_numbers, streams_to, stream_replicas, replicas_of, is_order}
+use Rattle.topo_forms.specs.Feeds.{Feed, are_paired, feeds_from, feeds, log_feeds}
+use Rattle.blz_value.specs.NumberSets.{below}
+use Rattle.topo_forms.specs.View.{View, port_numbers, streams_to, stream_replicas, replicas_of, is_order}
 use Rattle.inbox.specs.Code.Senders.{senders_for}
 use Rattle.inbox.specs.Wiring.{feeds_for}
 

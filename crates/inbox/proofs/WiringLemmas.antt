@@ -7,10 +7,10 @@ use Rattle.std.proofs.lemmas.List.FromFn.{get_or-map-range_with_len, length-map-
 use Rattle.std.proofs.lemmas.Option.{slice_get-get_or}
 use Rattle.blz_value.specs.Members.{Has}
 use Rattle.blz_value.proofs.Membership.{Has-get_or, Has-from_map, Has-from_flat_map, Has-from_filter}
-use Rattle.topo_types.specs.View.{View, no_stream, replicas_of, port_numbers, streams_to, stream_replicas, component_at, goes_to, is_order, mode_of, mode_key, stream_at, stream_numbers}
-use Rattle.topo_types.specs.Feeds.{Feed, no_feed, feeds, log_feeds, feeds_at, feeds_from, paired_senders}
-use Rattle.topo_types.specs.Sets.{below}
-use Rattle.topo_types.specs.Messages.{row}
+use Rattle.topo_forms.specs.View.{View, no_stream, replicas_of, port_numbers, streams_to, stream_replicas, component_at, goes_to, is_order, mode_of, mode_key, stream_at, stream_numbers}
+use Rattle.topo_forms.specs.Feeds.{Feed, no_feed, feeds, log_feeds, feeds_at, feeds_from, paired_senders}
+use Rattle.blz_value.specs.NumberSets.{below}
+use Rattle.topo_forms.specs.Messages.{row}
 use Rattle.messages.specs.Messages.{Pair, Batch, all_pairs}
 use Rattle.inbox.specs.Instances.{Instance, port_of_feed}
 use Rattle.inbox.specs.Growth.{feed_numbered}

@@ -4,3 +4,5 @@ pub mod Places
 pub mod Waiting
 pub mod Heard
 pub mod Batches
+pub mod Running
+pub mod Sources

@@ -1,11 +1,11 @@
 -- An execution is complete where nothing is left to deliver, to order or to take, and nothing is held.
 use Rattle.std.specs.Prelude.{◌≡◌, ℕ, ◌+◌, ◌-◌, not, IsTrue, if◌then◌else◌, List, filter, length}
 use Rattle.std.specs.List.{list_any, range_with_len, enumerate_from, sum_by}
-use Rattle.topo_types.specs.Messages.{Message, rows_in}
+use Rattle.topo_forms.specs.Messages.{Message, rows_in}
 use Rattle.messages.specs.Messages.{Pair, is_same_pair, is_same_entry, all_pairs}
-use Rattle.topo_types.specs.View.{is_order_mode}
+use Rattle.topo_forms.specs.View.{is_order_mode}
 use Rattle.inbox.specs.Timesteps.{held_count}
-use Rattle.topo_types.specs.Data.{Data}
+use Rattle.topo_forms.specs.Data.{Data}
 use Rattle.inbox.specs.Wiring.{Wiring, instance_at, is_there, is_sequencer}
 use Rattle.inbox.specs.Executions.{Execution, emitted_list}
 

@@ -3,10 +3,10 @@ use Rattle.std.specs.Prelude.{ℕ, Option, Some, None, List, [], map, slice_inde
 use Rattle.std.specs.List.{fold, enumerate_from}
 use Rattle.std.specs.Option.{option_and_then}
 use Rattle.blz_value.specs.Record.{Row}
-use Rattle.bloom_ast.specs.declared.program.Program.{Program}
-use Rattle.bloom_ast.specs.ProgramStep.{tables_after_step, outputs_of_step, empty_tables}
-use Rattle.bloom_ast.specs.Step.{Sets, set_at}
-use Rattle.messages.specs.Message.{Message}
+use Rattle.bloom_forms.specs.declared.program.Program.{Program}
+use Rattle.bloom_forms.specs.ProgramStep.{tables_after_step, outputs_of_step, empty_tables}
+use Rattle.bloom_forms.specs.Step.{Sets, set_at}
+use Rattle.blz_value.specs.Message.{Message}
 pub use Rattle.messages.specs.Emitted.{has_seal, with_row, with_rows, count_in, with_seal, with_seals}
 use Rattle.inbox.specs.Instances.{Instance}
 use Rattle.inbox.specs.Timesteps.{SetOff}

@@ -4,10 +4,10 @@ use Rattle.std.specs.List.{fold, position}
 use Rattle.std.specs.Option.{option_map_or}
 use Rattle.blz_value.specs.Record.{Row}
 use Rattle.blz_value.specs.Sets.{set_of}
-use Rattle.topo_types.specs.Data.{Data, source_data}
-use Rattle.topo_types.specs.Messages.{Message, row, seal, rows_in, source_messages}
+use Rattle.topo_forms.specs.Data.{Data, source_data}
+use Rattle.topo_forms.specs.Messages.{Message, row, seal, rows_in, source_messages}
 use Rattle.messages.specs.Messages.{Pair, Entry, is_same_entry, with_new}
-use Rattle.topo_types.specs.View.{End, Stream, is_order_mode}
+use Rattle.topo_forms.specs.View.{End, Stream, is_order_mode}
 use Rattle.inbox.specs.Instances.{Instance}
 use Rattle.inbox.specs.Lives.{Lives, one_life, hear_batch, take_entry, forget_all, emitted_by}
 use Rattle.inbox.specs.Wiring.{Wiring, instance_at, is_there, is_sequencer}

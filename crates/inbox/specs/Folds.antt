@@ -1,10 +1,10 @@
 -- What a program puts out over the entries of a log, one timestep for each.
 use Rattle.std.specs.Prelude.{ℕ, List, length}
 use Rattle.blz_value.specs.Record.{Row}
-use Rattle.bloom_ast.specs.declared.program.Program.{Program}
-use Rattle.bloom_ast.specs.Program.{port_columns}
-use Rattle.bloom_ast.specs.Step.{Sets}
-use Rattle.row_laws.specs.Runs.{output_rows, output_over, over_steps}
+use Rattle.bloom_forms.specs.declared.program.Program.{Program}
+use Rattle.bloom_forms.specs.Program.{port_columns}
+use Rattle.bloom_forms.specs.Step.{Sets}
+use Rattle.bloom_forms.specs.Runs.{output_rows, output_over, over_steps}
 use Rattle.messages.specs.Messages.{Entry}
 use Rattle.inbox.specs.Timesteps.{one_by_one}
 

@@ -1,9 +1,9 @@
 -- Emitted lists and logs only grow, what is heard was emitted before, and no list repeats a message.
 use Rattle.std.specs.Prelude.{◌≡◌, ℕ, ◌≤◌, ◌<◌, Bool, false, List, [], ◌∷◌, length, slice_index_or}
 use Rattle.blz_value.specs.Members.{Has}
-use Rattle.topo_types.specs.Data.{Data}
-use Rattle.topo_types.specs.Feeds.{Feed, no_feed}
-use Rattle.topo_types.specs.Messages.{Message, row, seal, is_same_row}
+use Rattle.topo_forms.specs.Data.{Data}
+use Rattle.topo_forms.specs.Feeds.{Feed, no_feed}
+use Rattle.topo_forms.specs.Messages.{Message, row, seal, is_same_row}
 use Rattle.messages.specs.Messages.{Pair, Batch, Entry}
 pub use Rattle.messages.specs.Emitted.{Continues}
 use Rattle.inbox.specs.Instances.{Instance}

@@ -2,13 +2,13 @@
 use Rattle.std.specs.Prelude.{◌≡◌, ◌<◌, ℕ, true, false, not, Bool, List, length}
 use Rattle.blz_value.specs.Members.{Has}
 use Rattle.blz_value.specs.Record.{Row}
-use Rattle.topo_types.specs.View.{is_order_mode}
+use Rattle.topo_forms.specs.View.{is_order_mode}
 use Rattle.messages.specs.Messages.{Pair, Batch, Entry, all_pairs}
 use Rattle.inbox.specs.Instances.{Instance, entries_of}
 use Rattle.inbox.specs.Timesteps.{is_due}
 use Rattle.messages.specs.Log.{AreGiven}
-use Rattle.partitions.specs.Whole.{feeds_view}
-use Rattle.partitions.specs.Feeds.{feed_count}
+use Rattle.messages.specs.Whole.{feeds_view}
+use Rattle.messages.specs.Feeds.{feed_count}
 use Rattle.inbox.specs.Code.Heard.{FeedsHeard, WaitingHeard, IsIdle, is_sealing}
 use Rattle.inbox.specs.declared.inbox.Inbox.{Inbox}
 

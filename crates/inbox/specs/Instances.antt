@@ -4,12 +4,12 @@ use Rattle.std.specs.List.{filter_map, range_with_len}
 use Rattle.std.specs.Option.{option_map, option_map_or, option_and_then}
 use Rattle.blz_value.specs.Record.{Row}
 use Rattle.blz_value.specs.Operators.{cells}
-use Rattle.bloom_ast.specs.declared.program.Program.{Program}
-use Rattle.topo_types.specs.Feeds.{Feed}
-use Rattle.topo_types.specs.declared.mode.Mode.{Mode}
-use Rattle.topo_types.specs.Messages.{is_same_row, row_in}
+use Rattle.bloom_forms.specs.declared.program.Program.{Program}
+use Rattle.topo_forms.specs.Feeds.{Feed}
+use Rattle.bloom_forms.specs.declared.mode.Mode.{Mode}
+use Rattle.topo_forms.specs.Messages.{is_same_row, row_in}
 use Rattle.messages.specs.Messages.{Pair, Entry}
-pub use Rattle.partitions.specs.Ports.{PortKey}
+pub use Rattle.messages.specs.Ports.{PortKey}
 
 -- an instance: its program where it has a body, its mode, its ports, its feeds by their numbers, and of each output the places of the key that its stream carries
 pub record Instance : Type 0 where

@@ -1,9 +1,9 @@
 -- The laws of executions, complete or not, with forgets or without, each in one word.
 use Rattle.std.specs.Prelude.{◌≡◌, ◌↔◌, ℕ, ◌<◌, Ok, List, length, take}
-use Rattle.fd_closure.specs.declared.attrs.Attrs.{Attrs}
-use Rattle.bloom_ast.specs.declared.program.Program.{Program}
-use Rattle.topo_types.specs.declared.mode.Mode.TheVariants.{Seal}
-use Rattle.topo_types.specs.Data.{Data}
+use Rattle.blz_value.specs.declared.attrs.Attrs.{Attrs}
+use Rattle.bloom_forms.specs.declared.program.Program.{Program}
+use Rattle.bloom_forms.specs.declared.mode.Mode.TheVariants.{Seal}
+use Rattle.topo_forms.specs.Data.{Data}
 use Rattle.messages.specs.Messages.{Batch, Entry, all_pairs}
 use Rattle.inbox.specs.Instances.{Instance}
 use Rattle.inbox.specs.Timesteps.{timesteps, Stands, Goes}

@@ -1,4 +1,3 @@
-pub use Rattle.messages.specs.Messages
 pub mod Instances
 pub mod Timesteps
 pub mod Emission
@@ -12,8 +11,12 @@ pub mod OrderReplicas
 pub mod Growth
 pub mod Standing
 pub mod Laws
-pub use Rattle.messages.specs.Log
 pub mod Code
-pub use Rattle.messages.specs.Ids
 pub mod Inbox
 pub mod Pools
+pub mod Agreement
+pub mod Sent
+pub mod StreamLaws
+pub mod Limits
+pub mod Places
+pub mod Outlets

@@ -1,10 +1,10 @@
 -- An instance can forget: it then begins a life with empty tables, and its emitted lists go on.
 use Rattle.std.specs.Prelude.{ℕ, ◌+◌, ◌++◌, if◌then◌else◌, List, [], ◌∷◌, map, length, take}
 use Rattle.std.specs.List.{fold, flat_map}
-use Rattle.bloom_ast.specs.Step.{Sets}
-use Rattle.topo_types.specs.Messages.{Message}
+use Rattle.bloom_forms.specs.Step.{Sets}
+use Rattle.topo_forms.specs.Messages.{Message}
 use Rattle.messages.specs.Messages.{Batch, Entry}
-use Rattle.topo_types.specs.View.{is_order_mode}
+use Rattle.topo_forms.specs.View.{is_order_mode}
 use Rattle.inbox.specs.Instances.{Instance}
 use Rattle.inbox.specs.Timesteps.{SetOff, timestep_of, each_set_off}
 use Rattle.inbox.specs.Emission.{Kept, list_of, emit, begin_life, nothing_emitted}

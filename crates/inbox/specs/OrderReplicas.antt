@@ -1,9 +1,9 @@
 -- A replica of an Order component holds what its program puts out over the first entries of the log.
 use Rattle.std.specs.Prelude.{◌≡◌, ◌<◌, ℕ, max, Some, length, map, true, slice_get}
 use Rattle.std.specs.List.{fold}
-use Rattle.bloom_ast.specs.declared.program.Program.{Program}
-use Rattle.bloom_ast.specs.Program.{port_columns}
-use Rattle.topo_types.specs.View.{is_order_mode, Stream}
+use Rattle.bloom_forms.specs.declared.program.Program.{Program}
+use Rattle.bloom_forms.specs.Program.{port_columns}
+use Rattle.topo_forms.specs.View.{is_order_mode, Stream}
 use Rattle.inbox.specs.Lives.{Lives, all_lives}
 use Rattle.inbox.specs.Wiring.{Wiring, instance_at}
 

@@ -1,6 +1,6 @@
 -- A runner keeps tables, lists and counters in place of a history, and stands for it.
 use Rattle.std.specs.Prelude.{◌≡◌, ℕ, Ok, true, List}
-use Rattle.topo_types.specs.Data.{Data}
+use Rattle.topo_forms.specs.Data.{Data}
 use Rattle.messages.specs.Messages.{Batch, Entry}
 use Rattle.inbox.specs.Instances.{Instance}
 use Rattle.inbox.specs.Emission.{Kept}

@@ -5,10 +5,10 @@ use Rattle.std.specs.Option.{option_map_or}
 use Rattle.blz_value.specs.Members.{Has}
 use Rattle.blz_value.specs.Record.{Row}
 use Rattle.blz_value.specs.Sets.{set_of}
-use Rattle.bloom_ast.specs.Step.{Sets, set_at}
-use Rattle.topo_types.specs.declared.mode.Mode.{Mode}
-use Rattle.topo_types.specs.declared.mode.Mode.TheVariants.{Free, Pass, Seal, Order}
-use Rattle.topo_types.specs.Messages.{Message, row, seal, is_same_row}
+use Rattle.bloom_forms.specs.Step.{Sets, set_at}
+use Rattle.bloom_forms.specs.declared.mode.Mode.{Mode}
+use Rattle.bloom_forms.specs.declared.mode.Mode.TheVariants.{Free, Pass, Seal, Order}
+use Rattle.topo_forms.specs.Messages.{Message, row, seal, is_same_row}
 use Rattle.messages.specs.Messages.{Pair, Batch, Entry, is_same_entry, sealed_in, all_pairs, firsts}
 use Rattle.inbox.specs.Instances.{Instance, is_carrying, carrying_feeds, entries_of, key_of_entry, is_of_key}
 

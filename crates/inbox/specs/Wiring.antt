@@ -1,14 +1,14 @@
 -- Executions see a topology as its streams and the instances of its components.
 use Rattle.std.specs.Prelude.{ℕ, nat_lt, Bool, false, if◌then◌else◌, Option, Some, None, List, [], map, length, slice_index_or}
 use Rattle.std.specs.Option.{option_map, option_and_then}
-use Rattle.fd_closure.specs.declared.attrs.Attrs.{Attrs}
-use Rattle.fd_closure.specs.Closure.{within}
-use Rattle.topo_types.specs.declared.mode.Mode.TheVariants.{Free}
-use Rattle.topo_types.specs.View.{View, Stream, stream_at, mode_of, mode_key, program_of, replicas_of, port_at, port_attrs, component_numbers, port_numbers, output_numbers, stream_of, is_order, is_order_mode}
-use Rattle.topo_types.specs.Feeds.{Feed, feeds, log_feeds}
-use Rattle.topo_types.specs.Data.{key_places}
-use Rattle.topo_types.specs.Carried.{carries, port_carries}
-use Rattle.topo_types.specs.Sets.{below}
+use Rattle.blz_value.specs.declared.attrs.Attrs.{Attrs}
+use Rattle.blz_value.specs.Closure.{within}
+use Rattle.bloom_forms.specs.declared.mode.Mode.TheVariants.{Free}
+use Rattle.topo_forms.specs.View.{View, Stream, stream_at, mode_of, mode_key, program_of, replicas_of, port_at, port_attrs, component_numbers, port_numbers, output_numbers, stream_of, is_order, is_order_mode}
+use Rattle.topo_forms.specs.Feeds.{Feed, feeds, log_feeds}
+use Rattle.topo_forms.specs.Data.{key_places}
+use Rattle.topo_forms.specs.Carried.{carries, port_carries}
+use Rattle.blz_value.specs.NumberSets.{below}
 use Rattle.inbox.specs.Instances.{PortKey, Instance}
 
 -- the streams, and of each component its instances

@@ -11,7 +11,7 @@ pub struct Feed {
 }
 
 impl Model for Feed {
-    ghost use Rattle.topo_types.specs.Feeds.{Feed};
+    ghost use Rattle.topo_forms.specs.Feeds.{Feed};
 
     ghost Value = { Feed };
 

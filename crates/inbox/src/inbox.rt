@@ -4,9 +4,9 @@ ghost use Rattle.std.specs.List.{filter_map, cons_option};
 ghost use Rattle.std.specs.Option.{option_map};
 ghost use Rattle.blz_value.specs.Record.{Row};
 ghost use Rattle.blz_value.specs.Sets.{set_of};
-ghost use Rattle.topo_types.specs.Feeds.{feeds};
-ghost use Rattle.topo_types.specs.Messages.{row, seal};
-ghost use Rattle.topo_types.specs.View.{replicas_of, is_order};
+ghost use Rattle.topo_forms.specs.Feeds.{feeds};
+ghost use Rattle.topo_forms.specs.Messages.{row, seal};
+ghost use Rattle.topo_forms.specs.View.{replicas_of, is_order};
 ghost use Rattle.inbox.specs.Wiring.{instance_for};
 ghost use Rattle.inbox.specs.Code.Heard.{is_sealing};
 ghost use Rattle.messages.specs.Ids.{IsGiven, pair_with_id, batch_with_ids};
@@ -14,19 +14,19 @@ ghost use Rattle.messages.specs.Messages.{Pair, Batch, Entry, all_pairs};
 ghost use Rattle.inbox.specs.Instances.{Instance};
 ghost use Rattle.inbox.specs.Timesteps.{set_off, held_count, one_timestep};
 ghost use Rattle.messages.specs.Log.{row_with_id, entries_with_ids};
-ghost use Rattle.partitions.specs.Feeds.{port_count, port_in, key_in, carries_in, is_whole_in};
+ghost use Rattle.messages.specs.Feeds.{port_count, port_in, key_in, carries_in, is_whole_in};
 
 use crate::instance::{feeds_of, key_of, ports_of, ports_of_feeds};
 use crate::step::{push_one_by_one, push_some, timestep, together};
 use crate::waiting::Waiting;
 use bloom_eval::Arrivals;
+use bloom_forms::Mode;
 use blz_pool::{Id, Pool};
 use blz_value::{Items, Record};
-use messages::Message;
-use partitions::Feeds;
+use messages::{Feeds, Message};
 use std::alloc::{AllocError, Global};
 use std::collections::BTreeSet;
-use topo_types::{Mode, Valid};
+use topo_forms::Valid;
 
 /// What a batch sets off: its timesteps, and the keys of the partitions that it completes, in the
 /// order of key values.
@@ -59,7 +59,7 @@ impl Inbox {
     ghost use Rattle.inbox.specs.Inbox.{HasHeard, IsFrom, Keeps, feeds_in};
     ghost use Rattle.inbox.specs.Code.Batches.{WaitsWith, AllWaitWith, key_by, if_open, open_key, with_key, entry_id_of, entry_ids_of, goes_in, is_open, HearsIf, HearsRecord, Releases, steps_released};
     ghost use Rattle.inbox.specs.Code.Waiting.{KeepsEntry};
-    ghost use Rattle.partitions.specs.Whole.{feeds_view};
+    ghost use Rattle.messages.specs.Whole.{feeds_view};
 
     /// The inbox of an instance that heard nothing. An instance of an Order component hears through
     /// the component's log and has none. The error is want of memory.

@@ -1,20 +1,21 @@
 //! The ports and the feeds of an instance, off its topology.
 ghost use Rattle.std.specs.Prelude.{◌≡◌, ◌<◌, ◌++◌, ◌||◌, not, Some, length, map, filter, IfOk, OnOk};
 ghost use Rattle.std.specs.List.{flat_map, list_all};
-ghost use Rattle.topo_types.specs.Carried as carried;
-ghost use Rattle.topo_types.specs.Data.{key_places, place_of_attribute};
-ghost use Rattle.topo_types.specs.Feeds.{are_paired, feeds_from};
-ghost use Rattle.topo_types.specs.Sets.{set_of_numbers, below};
-ghost use Rattle.topo_types.specs.View as view;
+ghost use Rattle.topo_forms.specs.Carried as carried;
+ghost use Rattle.topo_forms.specs.Data.{key_places, place_of_attribute};
+ghost use Rattle.topo_forms.specs.Feeds.{are_paired, feeds_from};
+ghost use Rattle.blz_value.specs.NumberSets.{set_of_numbers, below};
+ghost use Rattle.topo_forms.specs.View as view;
 ghost use Rattle.inbox.specs.Wiring.{places_in_port, port_for, feeds_for};
-ghost use Rattle.partitions.specs.Ports.{port_key, port_keys};
+ghost use Rattle.messages.specs.Ports.{port_key, port_keys};
 ghost use Rattle.inbox.specs.Code.Senders.{is_sender, senders_for};
 
 use crate::feed::Feed;
-use blz_value::Items;
-use partitions::Port;
+use bloom_forms::Mode;
+use blz_value::{Attrs, Items};
+use messages::Port;
 use std::alloc::{AllocError, Global};
-use topo_types::{Attrs, Mode, Valid, carries, goes_to};
+use topo_forms::{Valid, carries, goes_to};
 
 /// The key of a mode, where it has one.
 pub(crate) fn key_of(mode: Mode) -> Option<Attrs>

@@ -1,11 +1,18 @@
-//! What an instance makes of the messages that it hears, and what an execution of a topology is.
+//! What an instance is: what it makes of the messages that it hears, what it emits, and what an execution of a
+//! topology is.
 #![tactic(auto)]
 
 mod feed;
 mod inbox;
 mod instance;
+mod keys;
 mod laws;
+mod outlets;
+mod places;
+mod running;
+mod sources;
 mod step;
+mod stream_laws;
 mod waiting;
 
 pub use feed::Feed;
@@ -13,4 +20,9 @@ pub use inbox::{Inbox, Timesteps};
 pub use instance::feeds_of;
 pub use laws::{execution_law, pool_law, sequencer_law};
 pub use messages::{Log, Message};
+pub use outlets::{Outlet, outlets_of};
+pub use places::Places;
+pub use running::emit_at;
+pub use sources::first_lists;
 pub use step::timestep;
+pub use stream_laws::{arriving_law, joint_law, key_law, output_law, traced_law};

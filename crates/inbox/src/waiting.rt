@@ -6,7 +6,7 @@ ghost use Rattle.std.specs.Option.{option_map};
 ghost use Rattle.std.specs.Ordering.{nat_cmp};
 ghost use Rattle.blz_value.specs.Record.{Row};
 ghost use Rattle.blz_value.specs.Sets.{set_by};
-ghost use Rattle.topo_types.specs.Messages.{is_same_row};
+ghost use Rattle.topo_forms.specs.Messages.{is_same_row};
 ghost use Rattle.inbox.specs.Code.Places.{places_of};
 ghost use Rattle.messages.specs.Log.{is_same_entry_id};
 

@@ -2,11 +2,11 @@
 use Rattle.std.proofs.Common.{◌≡◌, ◌≤◌, Bool, true, false, refl, arith, List, [], ◌∷◌, map}
 use Rattle.std.specs.List.{All}
 use Rattle.std.proofs.lemmas.List.Elements.{All-nil, All-cons, All-head, All-tail, All-contains}
-use Rattle.fd_closure.specs.declared.attrs.Attrs.{Attrs}
-use Rattle.fd_closure.specs.declared.attrs.Fd.{Fd}
-use Rattle.path_annotate.specs.declared.note.Note.{Note}
-use Rattle.path_annotate.specs.declared.note.Note.TheVariants.{CR, CW, OR, OW}
-use Rattle.topo_types.specs.declared.mode.Mode.{Mode}
+use Rattle.blz_value.specs.declared.attrs.Attrs.{Attrs}
+use Rattle.blz_value.specs.declared.attrs.Fd.{Fd}
+use Rattle.bloom_forms.specs.declared.note.Note.{Note}
+use Rattle.bloom_forms.specs.declared.note.Note.TheVariants.{CR, CW, OR, OW}
+use Rattle.bloom_forms.specs.declared.mode.Mode.{Mode}
 use Rattle.label_rules.specs.declared.label.Label.{Label}
 use Rattle.label_rules.specs.declared.label.Label.TheVariants.{Seal, Async, Run, Inst, Diverge}
 use Rattle.label_rules.specs.declared.label.PathLabel.{PathLabel}

@@ -1,11 +1,11 @@
 -- What holds of all labels, paths and outputs.
 use Rattle.std.specs.Prelude.{◌≡◌, ◌<◌, ◌≤◌, ◌↔◌, ◌⊎◌, Bool, true, false, ◌&&◌, not, if◌then◌else◌, IsTrue, List, ◌∷◌, ◌++◌, map}
 use Rattle.std.specs.List.{Contains}
-use Rattle.fd_closure.specs.declared.attrs.Attrs.{Attrs}
-use Rattle.fd_closure.specs.declared.attrs.Fd.{Fd}
-use Rattle.path_annotate.specs.declared.note.Note.{Note}
-use Rattle.path_annotate.specs.Note.{is_write}
-use Rattle.topo_types.specs.declared.mode.Mode.{Mode}
+use Rattle.blz_value.specs.declared.attrs.Attrs.{Attrs}
+use Rattle.blz_value.specs.declared.attrs.Fd.{Fd}
+use Rattle.bloom_forms.specs.declared.note.Note.{Note}
+use Rattle.bloom_forms.specs.Note.{is_write}
+use Rattle.bloom_forms.specs.declared.mode.Mode.{Mode}
 use Rattle.label_rules.specs.declared.label.Label.{Label}
 use Rattle.label_rules.specs.declared.label.Label.TheVariants.{Seal, Async, Run, Inst, Diverge}
 use Rattle.label_rules.specs.declared.label.PathLabel.{PathLabel}

@@ -2,7 +2,7 @@
 ghost use Rattle.std.specs.Prelude.{◌≡◌};
 ghost use Rattle.label_rules.specs.Label as spec;
 
-use topo_types::Attrs;
+use blz_value::Attrs;
 
 /// How much the contents of a stream depend on the order in which messages came, from the best to
 /// the worst.

@@ -3,8 +3,9 @@ ghost use Rattle.std.specs.Prelude.{◌≡◌};
 ghost use Rattle.label_rules.specs.PathTable as spec;
 
 use crate::label::{Base, Label, PathLabel};
+use bloom_forms::{Mode, Note};
+use blz_value::{Attrs, Fd};
 use fd_closure::compatible;
-use topo_types::{Attrs, Fd, Mode, Note};
 
 fn is_mode_key(mode: Mode, key: Attrs) -> bool
     ensures { result ≡ spec.is_mode_key mode key }

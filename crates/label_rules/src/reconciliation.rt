@@ -4,8 +4,9 @@ ghost use Rattle.std.specs.List.{list_all};
 ghost use Rattle.label_rules.specs.Reconciliation as spec;
 
 use crate::label::{Base, Label, PathLabel, severity};
+use bloom_forms::Mode;
+use blz_value::{Attrs, Fd};
 use fd_closure::compatible;
-use topo_types::{Attrs, Fd, Mode};
 
 fn is_covered(key: Attrs, fds: &[Fd], path: PathLabel) -> bool
     ensures { result ≡ spec.is_covered key fds.now path }

@@ -1,14 +1,14 @@
 -- Numbers of parts in a valid topology are those of parts that are there.
 use Rattle.std.proofs.Common.{◌≡◌, ◌<◌, ℕ, Some, List, length, get_or, map, filter, subst}
 use Rattle.blz_value.proofs.Membership.{Has-get_or, Has-from_filter, Has-from_flat_map, Has-from_map}
-use Rattle.fd_closure.specs.Bits.{bit_of, meets}
-use Rattle.topo_types.specs.Graph.{is_in}
-use Rattle.topo_types.specs.Regions.{regions, region_members}
-use Rattle.topo_types.specs.Valid.{IsValid}
-use Rattle.topo_types.specs.Sets.{below}
-use Rattle.topo_types.specs.View.{View, End, component_at, ends_of, origin_of, stream_numbers}
-use Rattle.topo_types.proofs.Regions.Spreading.{from_below}
-use Rattle.topo_types.proofs.Regions.RegionSets.{member_within}
+use Rattle.blz_value.specs.Bits.{bit_of, meets}
+use Rattle.blz_value.specs.Graph.{is_in}
+use Rattle.topo_forms.specs.Regions.{regions, region_members}
+use Rattle.topo_forms.specs.Valid.{IsValid}
+use Rattle.blz_value.specs.NumberSets.{below}
+use Rattle.topo_forms.specs.View.{View, End, component_at, ends_of, origin_of, stream_numbers}
+use Rattle.topo_forms.proofs.Regions.Spreading.{from_below}
+use Rattle.topo_forms.proofs.Regions.RegionSets.{member_within}
 use Rattle.label_walk.specs.Paths.{AreComponents, AreInputs, IsInput, region_at, region_inputs, ends_in, is_from_outside}
 
 pub component_within : (v : View) → IsValid v → (s c o : ℕ) → s < length v.streams → origin_of v s ≡ Some (c, o) → c < length v.components

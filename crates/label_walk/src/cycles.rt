@@ -1,19 +1,20 @@
 //! Regions as one node: what comes into a region from outside, and its one note.
 ghost use Rattle.std.specs.Prelude.{◌≡◌, ◌<◌, ◌++◌, ℕ, IfOk, OnOk, MatchOption, false, [], fold, length, map, slice_index_or};
 ghost use Rattle.std.specs.List.{filter_map, flat_map, list_any};
-ghost use Rattle.path_annotate.specs.declared.note.Note.TheVariants.{CR};
-ghost use Rattle.topo_types.specs.Regions as regions;
-ghost use Rattle.topo_types.specs.View as view;
-ghost use Rattle.path_annotate.specs.Note as notes;
+ghost use Rattle.bloom_forms.specs.declared.note.Note.TheVariants.{CR};
+ghost use Rattle.topo_forms.specs.Regions as regions;
+ghost use Rattle.topo_forms.specs.View as view;
+ghost use Rattle.bloom_forms.specs.Note as notes;
 ghost use Rattle.label_walk.specs.Paths as spec;
 ghost use Rattle.label_walk.specs.Paths.{AreComponents, AreInputs, IsCycleOf, region_at};
 
 use crate::paths::label_at;
 use crate::sets::{is_in, members};
+use bloom_forms::{Mode, Note, combine};
+use blz_value::Attrs;
 use label_rules::{Label, PathLabel, pass_path};
-use path_annotate::combine;
 use std::alloc::{AllocError, Global};
-use topo_types::{Attrs, Mode, Note, Valid};
+use topo_forms::Valid;
 
 fn is_from_outside(valid: &Valid, set: Attrs, stream: u32) -> bool
     requires { stream < length valid.now.view.streams }

@@ -1,12 +1,14 @@
 //! The paths to an output, and the labels that they have.
 ghost use Rattle.std.specs.Prelude.{◌≡◌, ◌<◌, ◌++◌, IfOk, OnOk, length, map};
-ghost use Rattle.topo_types.specs.Dependencies as dependencies;
-ghost use Rattle.topo_types.specs.View as view;
+ghost use Rattle.topo_forms.specs.Dependencies as dependencies;
+ghost use Rattle.topo_forms.specs.View as view;
 ghost use Rattle.label_walk.specs.Paths as spec;
 
+use bloom_forms::{Mode, Note};
+use blz_value::{Attrs, Fd};
 use label_rules::{Label, PathLabel, pass_path};
 use std::alloc::{AllocError, Global};
-use topo_types::{Attrs, Fd, Mode, Note, Valid, goes_to, usable};
+use topo_forms::{Valid, goes_to, usable};
 
 /// The label of a stream. Each stream has one.
 pub(crate) fn label_at(labels: &[Label], stream: u32) -> Label
@@ -43,7 +45,7 @@ pub fn port_attrs(valid: &Valid, component: u32, port: u32) -> Attrs
 }
 
 /// The dependencies that are usable at a component, in their order.
-#[tactic(auto, unfolding(topo_types::specs::Dependencies::usable_fds))]
+#[tactic(auto, unfolding(topo_forms::specs::Dependencies::usable_fds))]
 pub fn usable_fds(alloc: Global, valid: &Valid, component: u32) -> Result<Vec<Fd>, AllocError>
     requires { component < length valid.now.view.components }
     ensures { IfOk result (λ fds. fds.items ≡ dependencies.usable_fds valid.now.view component) }

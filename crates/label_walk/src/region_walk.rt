@@ -1,8 +1,8 @@
 //! The labels of a valid topology, region by region: each region comes after those that feed it, so
 //! the labels that go into it are known when its own are made.
 ghost use Rattle.std.specs.Prelude.{◌≡◌, ◌<◌, IfOk, Some, length};
-ghost use Rattle.topo_types.specs.Regions.{regions};
-ghost use Rattle.topo_types.specs.View as view;
+ghost use Rattle.topo_forms.specs.Regions.{regions};
+ghost use Rattle.topo_forms.specs.View as view;
 ghost use Rattle.label_walk.specs.Code.Remade as code;
 ghost use Rattle.label_walk.specs.Labels as spec;
 ghost use Rattle.label_walk.specs.Paths.{region_at};
@@ -11,9 +11,11 @@ use crate::cycles::{is_replicated, region_paths};
 use crate::label_list::Labels;
 use crate::paths::{is_order, label_at, output_paths, usable_fds};
 use crate::sets::is_in;
+use bloom_forms::Mode;
+use blz_value::Attrs;
 use label_rules::{Label, reconcile};
 use std::alloc::{AllocError, Global};
-use topo_types::{Attrs, Mode, Valid, carries};
+use topo_forms::{Valid, carries};
 
 #[tactic(auto, using(crate::proofs::Labelling::SourceLemmas::source_carries))]
 fn source_label(valid: &Valid, stream: u32) -> Label

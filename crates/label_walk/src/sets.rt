@@ -1,10 +1,10 @@
 //! Sets of numbers below 64.
 ghost use Rattle.std.specs.Prelude.{◌≡◌, IfOk};
-ghost use Rattle.fd_closure.specs.Bits as bits;
-ghost use Rattle.topo_types.specs.Graph as graph;
+ghost use Rattle.blz_value.specs.Bits as bits;
+ghost use Rattle.blz_value.specs.Graph as graph;
 
+use blz_value::Attrs;
 use std::alloc::{AllocError, Global};
-use topo_types::Attrs;
 
 /// Whether a number is in a set.
 pub(crate) fn is_in(number: u32, set: Attrs) -> bool

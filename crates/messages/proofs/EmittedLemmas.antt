@@ -6,7 +6,7 @@ use Rattle.std.proofs.lemmas.List.Elements.{filter_map-append}
 use Rattle.blz_value.specs.Members.{Has, HaveEqualMembers}
 use Rattle.blz_value.specs.Record.{Row}
 use Rattle.blz_value.proofs.Membership.{Has-append_left, Has-append_right, Has-append_cases}
-use Rattle.messages.specs.Message.{Message, row, seal, row_in, rows_in}
+use Rattle.blz_value.specs.Message.{Message, row, seal, row_in, rows_in}
 use Rattle.messages.specs.Messages.{is_same_message}
 use Rattle.messages.specs.Emitted.{Continues, has_seal, count_in, with_row, with_rows, with_seal, with_seals}
 use Rattle.messages.proofs.MessagesLemmas.{is_same_message-is, is_same_message-itself, same-from_any}

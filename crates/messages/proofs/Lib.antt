@@ -5,3 +5,17 @@ pub mod CountingLemmas
 pub mod NumbersLemmas
 pub mod KnownLemmas
 pub mod LogLemmas
+pub mod FewLemmas
+pub mod CountersLemmas
+pub mod FeedsLemmas
+pub mod TalliesLemmas
+pub mod HearingLemmas
+pub mod ListsLemmas
+pub mod ListSeals
+pub mod CountsLemmas
+pub mod Tallies
+pub mod ListLoops
+pub mod FaultLemmas
+pub mod SubjectLemmas
+pub mod Ids
+pub mod SealedSources

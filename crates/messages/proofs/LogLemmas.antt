@@ -11,7 +11,7 @@ use Rattle.blz_pool.specs.Pool.{IsPool}
 use Rattle.blz_value.specs.Members.{Has}
 use Rattle.blz_value.specs.Record.{Row}
 use Rattle.blz_value.proofs.Membership.{Has-get_or, any_from_Has}
-use Rattle.messages.specs.Message.{is_same_row}
+use Rattle.blz_value.specs.Message.{is_same_row}
 use Rattle.messages.specs.Messages.{is_same_entry, with_new}
 use Rattle.messages.specs.Log.{EntryId, is_same_entry_id, row_with_id, entry_with_id, entries_with_ids, AreGiven, IsLog}
 use Rattle.messages.specs.Known.{is_known, KnowsAlso, IsKept}

@@ -9,7 +9,7 @@ use Rattle.blz_value.specs.Members.{Has}
 use Rattle.blz_value.specs.Record.{Row, record_cmp}
 use Rattle.blz_value.specs.RecordOrder.{record_cmp_total, record_cmp_exact}
 use Rattle.blz_value.proofs.Membership.{Has-append_left, Has-append_right, Has-append_cases, any_from_Has, Has-from_any}
-use Rattle.messages.specs.Message.{Message, row, seal, is_same_row}
+use Rattle.blz_value.specs.Message.{Message, row, seal, is_same_row}
 use Rattle.messages.specs.Messages.{Pair, Entry, is_same_message, is_same_pair, is_same_entry, with_new, firsts}
 
 -- ---- records

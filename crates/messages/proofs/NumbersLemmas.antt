@@ -4,8 +4,8 @@ use Rattle.std.proofs.Common.{◌≡◌, ◌<◌, ◌≤◌, ◌+◌, ◌*◌, �
 use Rattle.std.proofs.lemmas.Bool.{cases_eq, cases_lt, eq-eqb, ne_eqb, or_left}
 use Rattle.std.proofs.lemmas.List.{get_or_read, get_or-set_same, get_or-set_other, get_or_past, take_all}
 use Rattle.std.proofs.lemmas.Nat.{div-add-mod', mod_below, one_shl}
-use Rattle.fd_closure.specs.Bits.{bit_of, meets}
-use Rattle.fd_closure.proofs.Members.{bit_of-is, in-bit_same, in-bit_other, in-empty}
+use Rattle.blz_value.specs.Bits.{bit_of, meets}
+use Rattle.blz_value.proofs.Members.{bit_of-is, in-bit_same, in-bit_other, in-empty}
 use Rattle.messages.specs.Numbers.{has_number, HasAlso, IsCountOf, AreCounted, word_limit}
 use Rattle.messages.proofs.CountingLemmas.{none_counted, same_counted, one_counted, few_counted}
 

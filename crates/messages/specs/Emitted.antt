@@ -3,7 +3,7 @@ use Rattle.std.specs.Prelude.{◌≡◌, ℕ, ◌++◌, Bool, if◌then◌else�
 use Rattle.std.specs.List.{list_any, fold}
 use Rattle.blz_value.specs.Record.{Row}
 use Rattle.blz_value.specs.Operators.{cells}
-use Rattle.messages.specs.Message.{Message, row, seal, is_same_row, rows_in}
+use Rattle.blz_value.specs.Message.{Message, row, seal, is_same_row, rows_in}
 use Rattle.messages.specs.Messages.{is_same_message, sealed_in, with_new}
 
 -- the second list begins with the first

@@ -1,7 +1,7 @@
 -- Messages by the ids of their records, read in a pool with some records.
 use Rattle.std.specs.Prelude.{◌<◌, ℕ, List, map, length}
 use Rattle.blz_value.specs.Record.{Row as Record}
-use Rattle.messages.specs.Message.{Message, row, seal}
+use Rattle.blz_value.specs.Message.{Message, row, seal}
 use Rattle.messages.specs.Messages.{Pair, Batch}
 use Rattle.messages.specs.Log.{row_with_id}
 use Rattle.messages.specs.declared.message.Message.{Message as IdMessage}

@@ -2,7 +2,7 @@
 use Rattle.std.specs.Prelude.{ℕ, ◌==◌, ◌&&◌, ◌++◌, Bool, false, if◌then◌else◌, Option, Some, None, List, [], ◌∷◌}
 use Rattle.std.specs.List.{list_any, fold, filter_map, flat_map}
 use Rattle.blz_value.specs.Record.{Row}
-use Rattle.messages.specs.Message.{Message, row, seal, is_same_row}
+use Rattle.blz_value.specs.Message.{Message, row, seal, is_same_row}
 
 -- a message that is heard, with the number of the feed from which it comes
 abbrev pub Pair : Type 0

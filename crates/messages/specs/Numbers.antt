@@ -1,7 +1,7 @@
 -- A set of numbers is words of 64 bits, one bit for each number.
 use Rattle.std.specs.Prelude.{◌≡◌, ◌<◌, ◌≤◌, ◌/◌, ◌%◌, ◌==◌, ◌||◌, ℕ, Bool, true, List, length, slice_index}
 use Rattle.std.specs.List.{count_by, range_with_len}
-use Rattle.fd_closure.specs.Bits.{bit_of, meets}
+use Rattle.blz_value.specs.Bits.{bit_of, meets}
 
 -- the bit of a number is set
 abbrev pub has_number : (words : List ℕ) → (number : ℕ) → Bool

@@ -1,6 +1,6 @@
 //! Sets of numbers, one bit for each number up to the greatest.
 ghost use Rattle.std.specs.Prelude.{◌≡◌, ◌≤◌, ◌<◌, ◌/◌, ◌%◌, ℕ, [], not, length, slice_index, IfOk, OnOk, OnErr};
-ghost use Rattle.fd_closure.specs.Bits.{bit_of};
+ghost use Rattle.blz_value.specs.Bits.{bit_of};
 ghost use Rattle.messages.specs.Numbers.{has_number, HasAlso, IsCountOf, word_limit, number_limit};
 
 use std::alloc::{AllocError, Global};

@@ -1,4 +1,6 @@
-pub mod Combining
-pub mod Reach
-pub mod Copies
-pub mod ByNumber
+mod Lists
+mod ByNumberLemmas
+mod ByNumberCorrect
+mod ReadingsCorrect
+mod UsesLemmas
+mod AnnotationCorrect

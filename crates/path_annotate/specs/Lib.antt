@@ -1,15 +1,2 @@
-pub mod Note
-pub mod Laws
-pub mod Roots
-pub mod HeadRoots
-pub mod Attributes
-pub mod RootsLaw
-pub mod Gates
-pub mod Good
-pub mod ClosedForms
-pub mod Uses
-pub mod ReadLaws
-pub mod Annotation
-pub mod Given
-pub mod Copies
-pub mod CopiesLaw
+pub mod Outputs
+pub mod Code

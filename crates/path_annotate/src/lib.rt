@@ -1,11 +1,19 @@
-//! What the rules of a component do with what arrives, as it is defined: roots, gates, and notes from
-//! a port to an output, with their laws.
+//! The roots, the gate and the notes of every module and stock body, as its rules are walked. The notes
+//! themselves lie in `bloom_forms`.
 #![tactic(auto)]
 
-mod laws;
-mod note;
-mod notes;
+mod annotation;
+mod collection_roots;
+mod facts;
+mod kinds;
+mod readings;
+mod stock;
+mod tracing;
+mod uses;
 
-pub use laws::{combine_law, copies_law, covers_law, feeds_law, good_law, roots_law, uses_law};
-pub use note::{Note, combine, covers};
-pub use notes::Notes;
+pub use annotation::{annotate, gate_of, roots};
+pub use bloom_forms::{
+    Note, Notes, combine, combine_law, copies_law, covers, covers_law, feeds_law, good_law,
+    roots_law, uses_law,
+};
+pub use facts::{ProgramFacts, program_facts};

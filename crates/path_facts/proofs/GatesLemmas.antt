@@ -4,7 +4,7 @@ use Rattle.std.specs.List.{flat_map}
 use Rattle.std.specs.Int.Bits.{and_self}
 use Rattle.std.proofs.lemmas.List.{drop_all, drop_more}
 use Rattle.std.proofs.lemmas.Nat.{and_assoc, and_comm}
-use Rattle.path_annotate.specs.Gates.{in_all}
+use Rattle.bloom_forms.specs.Gates.{in_all}
 
 -- it lies among all
 pub in_all-within : (all : ℕ) (sets : List ℕ) → bit_and (in_all all sets) all ≡ in_all all sets

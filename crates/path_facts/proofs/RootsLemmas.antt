@@ -3,8 +3,8 @@ use Rattle.std.proofs.Common.{◌&&◌, eq-eqb, ◌≡◌, ◌<◌, ◌+◌, ℕ
 use Rattle.std.specs.List.{list_all, enumerate_from, remove, take-map, drop-map}
 use Rattle.std.proofs.lemmas.List.{drop_more, map-append}
 use Rattle.blz_value.specs.Operators.{Pairs, is_paired}
-use Rattle.path_annotate.specs.HeadRoots.{agreed_root}
-use Rattle.path_annotate.specs.Roots.{Roots, root_at, are_same, no_roots}
+use Rattle.bloom_forms.specs.HeadRoots.{agreed_root}
+use Rattle.bloom_forms.specs.Roots.{Roots, root_at, are_same, no_roots}
 
 -- to remove a place and to map
 pub map_remove : {X Y : Type 0} (f : X → Y) (xs : List X) (i : ℕ) → map f (remove xs i) ≡ remove (map f xs) i

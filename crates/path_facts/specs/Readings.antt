@@ -1,14 +1,15 @@
 -- What the rules of a module read, told what each rule says by itself.
 use Rattle.std.specs.Prelude.{ℕ, ◌&&◌, not, if◌then◌else◌, List, map, bit_and}
-use Rattle.fd_closure.specs.declared.attrs.Fd.{Fd}
-use Rattle.fd_closure.specs.Bits.{bit_of, meets}
-use Rattle.fd_closure.specs.Closure.{closure}
-use Rattle.bloom_ast.specs.declared.module.Kind.TheVariants.{Input, Table, Scratch}
-use Rattle.bloom_ast.specs.declared.module.Collection.{Collection}
-use Rattle.bloom_ast.specs.Kinds.{same_kind}
-use Rattle.bloom_ast.specs.Reads.{arrow_from, bit_if, kind_set, with_all}
-use Rattle.path_annotate.specs.Gates.{in_all}
-use Rattle.path_annotate.specs.Good.{all_tables}
+use Rattle.blz_value.specs.declared.attrs.Fd.{Fd}
+use Rattle.blz_value.specs.Bits.{bit_of, meets}
+use Rattle.blz_value.specs.Closure.{closure}
+use Rattle.bloom_forms.specs.declared.module.Kind.TheVariants.{Input, Table, Scratch}
+use Rattle.bloom_forms.specs.declared.module.Collection.{Collection}
+use Rattle.bloom_forms.specs.Kinds.{same_kind}
+use Rattle.bloom_forms.specs.Reads.{kind_set}
+use Rattle.blz_value.specs.Arrows.{arrow_from, bit_if, with_all}
+use Rattle.bloom_forms.specs.Gates.{in_all}
+use Rattle.bloom_forms.specs.Good.{all_tables}
 use Rattle.path_facts.specs.declared.readings.Graph.{Graph}
 use Rattle.path_facts.specs.declared.readings.Reading.{Reading}
 use Rattle.path_facts.specs.declared.readings.Readings.{Readings}

@@ -1,10 +1,11 @@
 //! The collections of a kind, and sets that a test chooses.
 ghost use Rattle.std.specs.Prelude.{◌≡◌, if◌then◌else◌};
-ghost use Rattle.bloom_ast.specs.Kinds.{same_kind};
-ghost use Rattle.bloom_ast.specs.Reads as reads;
+ghost use Rattle.bloom_forms.specs.Kinds.{same_kind};
+ghost use Rattle.blz_value.specs.Arrows as arrows;
+ghost use Rattle.bloom_forms.specs.Reads as reads;
 
-use bloom_ast::{Collection, Kind};
-use fd_closure::Attrs;
+use bloom_forms::{Collection, Kind};
+use blz_value::Attrs;
 
 /// Whether a collection has a kind.
 pub fn has_kind(collection: &Collection, kind: Kind) -> bool
@@ -15,7 +16,7 @@ pub fn has_kind(collection: &Collection, kind: Kind) -> bool
 
 /// The set of this one collection where the test holds, else the empty one.
 pub fn set_if(here: bool, number: usize) -> Attrs
-    ensures { result.bits ≡ reads.bit_if here number }
+    ensures { result.bits ≡ arrows.bit_if here number }
 {
     if here {
         Attrs::of(number)

@@ -3,9 +3,8 @@ ghost use Rattle.std.specs.Prelude.{◌≡◌, map, IfOk};
 ghost use Rattle.path_facts.specs.Readings as spec;
 
 use crate::kinds::{gate_if, kind_set, set_if};
-use bloom_ast::{Collection, Kind};
-use blz_value::Items;
-use fd_closure::{Attrs, Fd, closure};
+use bloom_forms::{Collection, Kind};
+use blz_value::{Attrs, Fd, Items, closure};
 use std::alloc::{AllocError, Global};
 
 /// What a rule says by itself.

@@ -3,12 +3,11 @@ ghost use Rattle.std.specs.Prelude.{◌≡◌, ◌∷◌, ◌++◌, [], None, if
 ghost use Rattle.std.specs.List.{list_all};
 ghost use Rattle.blz_value.specs.Operators.{unpaired};
 ghost use Rattle.blz_value.specs.Operators as operators;
-ghost use Rattle.path_annotate.specs.Gates as gates;
-ghost use Rattle.path_annotate.specs.HeadRoots as collections;
-ghost use Rattle.path_annotate.specs.Roots as spec;
+ghost use Rattle.bloom_forms.specs.Gates as gates;
+ghost use Rattle.bloom_forms.specs.HeadRoots as collections;
+ghost use Rattle.bloom_forms.specs.Roots as spec;
 
-use blz_value::Items;
-use fd_closure::Attrs;
+use blz_value::{Attrs, Items};
 use std::alloc::{AllocError, Global};
 
 // The root of the column with the number; past the end there is none.

@@ -1,13 +1,8 @@
-//! Schedules that are given, applied to a net in order: plain ones, and those in which instances forget, with their
-//! steps and the text of these.
+//! The front of schedules that are given, and the reading of those in which instances forget. The steps, and
+//! what applies them to a net, lie in `sched_net`.
 #![tactic(auto)]
 
-mod as_step;
 mod reading;
-mod running;
-mod step;
 
-pub use as_step::{AsStep, StepRef};
 pub use reading::read;
-pub use running::{StepRefusal, run};
-pub use step::Step;
+pub use sched_net::{AsStep, Step, StepRef, StepRefusal, run};

@@ -1,8 +1,8 @@
 -- What a bench answers goes by the kinds of its shells alone.
 use Rattle.std.proofs.Common.{◌≡◌, ◌∙◌, ℕ, Bool, true, false, cond, ◌||◌, List, [], ◌∷◌, Option, Some, map, refl, ap}
 use Rattle.std.specs.List.{list_any}
-use Rattle.blz_boxes.specs.declared.kind.ProgramKind.{ProgramKind}
-use Rattle.topo_types.specs.View.{View}
+use Rattle.bloom_eval.specs.declared.kind.ProgramKind.{ProgramKind}
+use Rattle.topo_forms.specs.View.{View}
 use Rattle.sched_bench.specs.Bench.{without_first, first_short, fits_component, fault_of_opening, fault_of_bodies, first_without_body, instance_components}
 
 module _ {X K : Type 0} (kind : X → K) (fit : ℕ → K → Bool) where

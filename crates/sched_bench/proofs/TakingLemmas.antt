@@ -8,18 +8,18 @@ use Rattle.std.proofs.lemmas.List.{map-append, map-set, length-map, take_more, t
 use Rattle.std.proofs.lemmas.List.Sorted.{IsPermutation-refl, IsPermutation-trans, IsPermutation-append_right, IsPermutation-append_left, IsPermutation-cons, IsPermutation-append_comm, IsPermutation-map}
 use Rattle.std.proofs.lemmas.Iterator.Adapters.{position_from-zero}
 use Rattle.std.proofs.Math.ListN.{set}
-use Rattle.bloom_ast.specs.declared.program.Program.{Program}
-use Rattle.bloom_ast.specs.Program.{IsStock}
-use Rattle.bloom_ast.proofs.Reach.ProperLemmas.{proper_is_stock}
-use Rattle.fd_closure.proofs.MembersInOrder.{from_range}
+use Rattle.bloom_forms.specs.declared.program.Program.{Program}
+use Rattle.bloom_forms.specs.Program.{IsStock}
+use Rattle.bloom_forms.proofs.Reach.ProperLemmas.{proper_is_stock}
+use Rattle.blz_value.proofs.MembersInOrder.{from_range}
 use Rattle.blz_value.specs.Members.{Has}
 use Rattle.blz_value.proofs.Membership.{Has-from_flat_map}
-use Rattle.blz_boxes.specs.declared.kind.ProgramKind.{ProgramKind}
-use Rattle.blz_boxes.specs.declared.kind.ProgramKind.TheVariants.{Module, Split, Latest, Number}
-use Rattle.blz_boxes.specs.Kind.{kind_of}
-use Rattle.topo_types.specs.Valid.{IsValid}
-use Rattle.topo_types.specs.Sets.{below}
-use Rattle.topo_types.specs.View.{View, Component, no_component, program_of, replicas_of, component_numbers}
+use Rattle.bloom_eval.specs.declared.kind.ProgramKind.{ProgramKind}
+use Rattle.bloom_eval.specs.declared.kind.ProgramKind.TheVariants.{Module, Split, Latest, Number}
+use Rattle.bloom_eval.specs.Kind.{kind_of}
+use Rattle.topo_forms.specs.Valid.{IsValid}
+use Rattle.blz_value.specs.NumberSets.{below}
+use Rattle.topo_forms.specs.View.{View, Component, no_component, program_of, replicas_of, component_numbers}
 use Rattle.sched_bench.specs.Bench.{number_of_kind, same_kind, fits_kind, fits_component, without_first, first_passing, taken_by, left_by, first_short, instance_components, first_without_body}
 use Rattle.sched_bench.specs.Code.Flags.{flagged, claimed, may_claim}
 

@@ -2,11 +2,11 @@
 use Rattle.std.specs.Prelude.{◌≡◌, ℕ, ◌==◌, ◌++◌, Bool, false, is_none, if◌then◌else◌, List, [], ◌∷◌, replicate, Option, Some, None, Result, Ok, Err}
 use Rattle.std.specs.List.{list_any, flat_map, position_from}
 use Rattle.std.specs.Option.{option_map_or}
-use Rattle.bloom_ast.specs.declared.program.Program.{Program}
-use Rattle.blz_boxes.specs.declared.kind.ProgramKind.{ProgramKind}
-use Rattle.blz_boxes.specs.declared.kind.ProgramKind.TheVariants.{Module, Split, Latest, Number}
-use Rattle.blz_boxes.specs.Kind.{kind_of}
-use Rattle.topo_types.specs.View.{View, program_of, replicas_of, component_numbers}
+use Rattle.bloom_forms.specs.declared.program.Program.{Program}
+use Rattle.bloom_eval.specs.declared.kind.ProgramKind.{ProgramKind}
+use Rattle.bloom_eval.specs.declared.kind.ProgramKind.TheVariants.{Module, Split, Latest, Number}
+use Rattle.bloom_eval.specs.Kind.{kind_of}
+use Rattle.topo_forms.specs.View.{View, program_of, replicas_of, component_numbers}
 use Rattle.sched_bench.specs.declared.fault.OpenFault.{OpenFault}
 use Rattle.sched_bench.specs.declared.fault.OpenFault.TheVariants.{NoBody, NoShell, NoMemory}
 

@@ -2,19 +2,19 @@
 ghost use Rattle.std.specs.Prelude.{◌≡◌, ◌<◌, ◌≤◌, ◌+◌, ◌++◌, ◌∷◌, [], ℕ, IfSome, IfOk, OnOk, OnErr, IsSome, Some, None, Err, map, length, position, true, false, replicate, slice_index_or, slice_set, vec_capacity};
 ghost use Rattle.std.specs.List.Sorted.{IsPermutation};
 ghost use Rattle.std.specs.Option.{option_map, option_to_list};
-ghost use Rattle.bloom_ast.specs.Program.{IsStock};
-ghost use Rattle.blz_boxes.specs.Kind.{kind_of};
-ghost use Rattle.blz_boxes.specs.Step.{nothing_kept};
-ghost use Rattle.topo_types.specs.View.{program_of};
+ghost use Rattle.bloom_forms.specs.Program.{IsStock};
+ghost use Rattle.bloom_eval.specs.Kind.{kind_of};
+ghost use Rattle.bloom_eval.specs.Step.{nothing_kept};
+ghost use Rattle.topo_forms.specs.View.{program_of};
 ghost use Rattle.sched_bench.specs.Bench.{fits_kind, instance_components, first_without_body, fits_component, without_first, first_passing, taken_by, left_by, first_short, fault_of_short, fault_of_opening, OpensAs};
 ghost use Rattle.sched_bench.specs.Code.Flags.{claimed, may_claim, HaveBodies, AreThere};
 ghost use Rattle.sched_bench.specs.declared.fault.OpenFault.TheVariants.{NoBody, NoShell};
 
 use crate::fault::OpenFault;
-use bloom_ast::Program;
-use blz_boxes::Component;
+use bloom_eval::Component;
+use bloom_forms::Program;
 use std::alloc::{AllocError, Global};
-use topo_types::Valid;
+use topo_forms::Valid;
 
 // ---- what is wanted
 

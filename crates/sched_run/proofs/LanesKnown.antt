@@ -7,10 +7,10 @@ use Rattle.std.proofs.lemmas.List.{get_or_past}
 use Rattle.std.proofs.lemmas.Option.{slice_get_within, get_or_from_slice_get}
 use Rattle.blz_value.specs.Members.{Has}
 use Rattle.blz_value.proofs.Membership.{Has-filter, Has-flat_map, Has-from_any, Has-from_filter, Has-from_flat_map, Has-from_map, Has-get_or, Has-map}
-use Rattle.fd_closure.proofs.MembersInOrder.{from_range, in_range}
-use Rattle.topo_types.specs.Feeds.{Feed}
-use Rattle.topo_types.specs.Valid.{IsValid}
-use Rattle.topo_types.specs.View.{View, End, Stream, ends_of, is_order, is_order_mode, replicas_of, same_end, stream_at}
+use Rattle.blz_value.proofs.MembersInOrder.{from_range, in_range}
+use Rattle.topo_forms.specs.Feeds.{Feed}
+use Rattle.topo_forms.specs.Valid.{IsValid}
+use Rattle.topo_forms.specs.View.{View, End, Stream, ends_of, is_order, is_order_mode, replicas_of, same_end, stream_at}
 use Rattle.inbox.specs.Instances.{Instance}
 use Rattle.inbox.specs.Wiring.{Wiring, feeds_for, instance_at, instance_for, instances_at, is_sequencer, nobody, wiring_of}
 use Rattle.inbox.proofs.WiringLemmas.{IsFeedInto, instance-feeds, instance-wired, instances-wired, length-below, stream-wired}

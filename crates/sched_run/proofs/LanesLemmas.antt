@@ -4,13 +4,13 @@ use Rattle.std.specs.List.{enumerate_from, flat_map}
 use Rattle.std.proofs.lemmas.Grind.{flat_map-append}
 use Rattle.std.proofs.lemmas.List.{length-take, map-append, take_more, take_all}
 use Rattle.std.proofs.lemmas.List.Elements.{filter-append}
-use Rattle.blz_boxes.proofs.Cuts.{enumerate_from-push}
+use Rattle.blz_value.proofs.Enumerated.{enumerate_from-push}
 use Rattle.blz_value.specs.Members.{Has}
 use Rattle.blz_value.proofs.Membership.{Has-get_or}
-use Rattle.topo_types.specs.Feeds.{Feed}
-use Rattle.topo_types.specs.Sets.{below}
-use Rattle.topo_types.specs.Valid.{IsValid}
-use Rattle.topo_types.specs.View.{View, End, Stream, no_stream, ends_of, replicas_of, is_order, is_order_mode}
+use Rattle.topo_forms.specs.Feeds.{Feed}
+use Rattle.blz_value.specs.NumberSets.{below}
+use Rattle.topo_forms.specs.Valid.{IsValid}
+use Rattle.topo_forms.specs.View.{View, End, Stream, no_stream, ends_of, replicas_of, is_order, is_order_mode}
 use Rattle.inbox.specs.Instances.{Instance}
 use Rattle.inbox.specs.Wiring.{feeds_for, instance_at, instance_for, is_sequencer, wiring_of}
 use Rattle.inbox.proofs.WiringLemmas.{instance-wired, instances-wired, length-below}

@@ -5,10 +5,10 @@ use Rattle.std.specs.List.{All, enumerate_from, flat_map}
 use Rattle.std.proofs.lemmas.Option.{get_or_from_slice_get, slice_get_within}
 use Rattle.blz_value.specs.Members.{Has}
 use Rattle.blz_value.proofs.Membership.{Has-get_or, Has-from_filter, Has-from_flat_map, Has-from_map}
-use Rattle.topo_types.specs.Feeds.{Feed}
-use Rattle.topo_types.specs.Sets.{below}
-use Rattle.topo_types.specs.Valid.{IsValid}
-use Rattle.topo_types.specs.View.{View, End, Stream, no_stream, replicas_of, is_order}
+use Rattle.topo_forms.specs.Feeds.{Feed}
+use Rattle.blz_value.specs.NumberSets.{below}
+use Rattle.topo_forms.specs.Valid.{IsValid}
+use Rattle.topo_forms.specs.View.{View, End, Stream, no_stream, replicas_of, is_order}
 use Rattle.inbox.specs.Wiring.{Wiring, feeds_for, instance_at, is_sequencer, wiring_of}
 use Rattle.inbox.proofs.WiringLemmas.{instance-feeds}
 use Rattle.sched_run.specs.Made.{comes_at, feeds_here, instance_lanes, log_lanes, lanes_at, all_lanes, replicas_at, takers_at, all_takers}
@@ -17,7 +17,7 @@ use Rattle.sched_run.specs.declared.lanes.Lane.{Lane}
 use Rattle.sched_run.specs.declared.lanes.Lane.TheVariants.{Deliver, Order}
 use Rattle.sched_run.specs.declared.lanes.Taker.{Taker}
 use Rattle.sched_run.proofs.LanesLemmas.{streams_wired, many_wired, replicas_wired, feeds_wired, order_wired}
-use Rattle.sched_lists.proofs.PlacesLemmas.{Has-below}
+use Rattle.inbox.proofs.PlacesLemmas.{Has-below}
 
 -- a numbered element stands at its number
 from_enumerated : {X : Type 0} (n : ℕ) (xs : List X) (place : ℕ × X) → Has place (enumerate_from n xs) → (k : ℕ) × (place.0 ≡ n + k) × (slice_get xs k ≡ Some place.1)

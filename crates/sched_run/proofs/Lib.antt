@@ -1,13 +1,3 @@
-pub mod ForgettingLemmas
-pub mod FirstSeats
-pub mod FirstBooks
-pub mod RecordsCounted
-pub mod SortedRows
-pub mod EmittedSeen
-pub mod HeldSeen
-pub mod Counting
-pub mod LeftSeen
-pub mod TablesLemmas
 pub mod MadeEnds
 pub mod PrintableNames
 pub mod WrittenSoFar

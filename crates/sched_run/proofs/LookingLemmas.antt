@@ -9,17 +9,17 @@ use Rattle.std.proofs.lemmas.List.{length-map}
 use Rattle.std.proofs.lemmas.Option.{slice_get-get_or, slice_get-map, slice_get_past, slice_get_within, get_or_from_slice_get}
 use Rattle.blz_pool.specs.Pool.{IsPool}
 use Rattle.blz_value.specs.Record.{Row as Record}
-use Rattle.topo_types.specs.Data.{Data}
-use Rattle.topo_types.specs.Feeds.{Feed, no_feed}
-use Rattle.topo_types.specs.Messages.{Message, row, row_in}
-use Rattle.topo_types.specs.Valid.{IsValid}
-use Rattle.topo_types.specs.View.{View, replicas_of, is_order}
+use Rattle.topo_forms.specs.Data.{Data}
+use Rattle.topo_forms.specs.Feeds.{Feed, no_feed}
+use Rattle.topo_forms.specs.Messages.{Message, row, row_in}
+use Rattle.topo_forms.specs.Valid.{IsValid}
+use Rattle.topo_forms.specs.View.{View, replicas_of, is_order}
 use Rattle.inbox.specs.Events.{Step}
 use Rattle.inbox.specs.Executions.{emitted_list}
 use Rattle.inbox.specs.Growth.{feed_numbered}
-use Rattle.inbox.specs.Ids.{IsGiven, message_with_id}
-use Rattle.inbox.specs.Log.{EntryId, AreGiven, is_same_entry_id, entry_with_id, entries_with_ids}
-use Rattle.inbox.specs.Messages.{Batch, Entry, Pair, all_pairs, is_same_entry, is_same_pair}
+use Rattle.messages.specs.Ids.{IsGiven, message_with_id}
+use Rattle.messages.specs.Log.{EntryId, AreGiven, is_same_entry_id, entry_with_id, entries_with_ids}
+use Rattle.messages.specs.Messages.{Batch, Entry, Pair, all_pairs, is_same_entry, is_same_pair}
 use Rattle.inbox.specs.Wiring.{feeds_for, instance_for, wiring_of}
 use Rattle.inbox.specs.declared.inbox.Inbox.{Inbox}
 use Rattle.messages.specs.declared.message.Message.{Message as IdMessage}
@@ -27,24 +27,24 @@ use Rattle.messages.specs.declared.message.Message.TheVariants.{Row, Seal}
 use Rattle.messages.proofs.LogLemmas.{any-with_ids, one_id}
 use Rattle.sched_turns.specs.Windows.{Looked, IsWindow, MayShow, OthersAreOpen}
 use Rattle.sched_turns.specs.declared.windows.Stale.{Stale}
-use Rattle.emitted.specs.Ids.{id_in}
-use Rattle.sched_lists.specs.Lists.{read_list, read_lists, list_at}
+use Rattle.messages.specs.EmittedIds.{id_in}
+use Rattle.messages.specs.Lists.{read_list, read_lists, list_at}
 use Rattle.sched_run.specs.Made.{is_undelivered, is_unordered, is_open_in}
 use Rattle.messages.specs.Known.{is_known}
-use Rattle.sched_hear.specs.Net.{BooksStand, ShowsEar, ShowsInbox, execution_in, list_on}
-use Rattle.sched_lists.specs.Places.{instance_place}
+use Rattle.sched_net.specs.Net.{BooksStand, ShowsEar, ShowsInbox, execution_in, list_on}
+use Rattle.inbox.specs.Places.{instance_place}
 use Rattle.sched_run.specs.Code.Looking.{is_unknown_at, is_unlogged_at, IsDelivery, IsOrdering, IsTaker, MayLook, LooksAt, TellsTake}
-use Rattle.sched_hear.specs.Seen.{list_seen}
-use Rattle.sched_hear.specs.Code.Taking.{taken_in}
-use Rattle.sched_hear.specs.declared.books.Books.{Books}
+use Rattle.sched_net.specs.Seen.{list_seen}
+use Rattle.sched_net.specs.Code.Taking.{taken_in}
+use Rattle.sched_net.specs.declared.books.Books.{Books}
 use Rattle.sched_run.specs.declared.lanes.Lane.TheVariants.{Deliver, Order}
 use Rattle.sched_run.specs.declared.lanes.Taker.{Taker}
-use Rattle.sched_hear.specs.declared.seated.Ear.{Ear}
-use Rattle.sched_hear.specs.declared.seated.Ear.TheVariants.{Hears, Takes}
-use Rattle.sched_hear.specs.declared.seated.Seated.{Seated}
-use Rattle.sched_run.proofs.EmittedSeen.{seen_emitted, seen_length}
-use Rattle.sched_run.proofs.LeftSeen.{known-heard, log_found}
-use Rattle.sched_hear.proofs.Showing.{emitted_shown, is_there-true}
+use Rattle.sched_net.specs.declared.seated.Ear.{Ear}
+use Rattle.sched_net.specs.declared.seated.Ear.TheVariants.{Hears, Takes}
+use Rattle.sched_net.specs.declared.seated.Seated.{Seated}
+use Rattle.sched_net.proofs.EmittedSeen.{seen_emitted, seen_length}
+use Rattle.sched_net.proofs.LeftSeen.{known-heard, log_found}
+use Rattle.sched_net.proofs.Showing.{emitted_shown, is_there-true}
 
 -- ---- windows by a test that is the same
 

@@ -12,23 +12,23 @@ use Rattle.std.proofs.lemmas.List.Sums.{length-filter, sum_by-cons}
 use Rattle.blz_value.specs.Members.{Has}
 use Rattle.blz_value.specs.Record.{Row as Record}
 use Rattle.blz_value.proofs.Membership.{Has-flat_map}
-use Rattle.topo_types.specs.Data.{Data}
-use Rattle.topo_types.specs.Messages.{Message, row, seal, row_in, rows_in}
-use Rattle.topo_types.specs.Sets.{below}
-use Rattle.topo_types.specs.Valid.{IsValid}
-use Rattle.topo_types.specs.View.{View, replicas_of}
+use Rattle.topo_forms.specs.Data.{Data}
+use Rattle.topo_forms.specs.Messages.{Message, row, seal, row_in, rows_in}
+use Rattle.blz_value.specs.NumberSets.{below}
+use Rattle.topo_forms.specs.Valid.{IsValid}
+use Rattle.topo_forms.specs.View.{View, replicas_of}
 use Rattle.inbox.specs.Completeness.{left_at, left_count, left_of, left_out, undelivered, unheard, unordered, untaken}
 use Rattle.inbox.specs.Events.{take_one}
 use Rattle.inbox.specs.Executions.{Execution, emitted_list}
 use Rattle.inbox.specs.Instances.{Instance}
-use Rattle.inbox.specs.Messages.{Pair, Entry, all_pairs, is_same_entry, is_same_pair}
+use Rattle.messages.specs.Messages.{Pair, Entry, all_pairs, is_same_entry, is_same_pair}
 use Rattle.inbox.specs.Wiring.{Wiring, instance_at, instances_at, is_sequencer, wiring_of}
 use Rattle.sched_turns.specs.Windows.{open_below, first_open}
 use Rattle.sched_run.specs.Made.{all_lanes, all_takers, can_take, event_in, is_open_in, is_undelivered, is_unordered, lane_list, open_works, works_in, works_of}
 use Rattle.sched_run.specs.declared.lanes.Lane.{Lane}
 use Rattle.sched_run.specs.declared.lanes.Lane.TheVariants.{Deliver, Order}
 use Rattle.sched_run.specs.declared.lanes.Taker.{Taker}
-use Rattle.sched_run.proofs.Counting.{numbers_counted}
+use Rattle.sched_net.proofs.Counting.{numbers_counted}
 use Rattle.sched_run.proofs.LanesKnown.{below_is, component_wired, count_wired, delivery_stands, enumerated_at, mode_wired, ordering_stands, place_of, taker_stands}
 use Rattle.sched_run.proofs.LanesLemmas.{order_wired}
 

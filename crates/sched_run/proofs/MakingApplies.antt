@@ -1,17 +1,17 @@
 -- What applying a work says of whatever data the net stood for.
 use Rattle.std.proofs.Common.{◌≡◌, ◌∙◌, ◌<◌, ◌++◌, ℕ, suc, true, false, List, [], ◌∷◌, Option, Result, Ok, Err, IsErrAnd, length, append_assoc, refl, sym, subst, ap}
-use Rattle.bloom_ast.specs.declared.program.Program.{Program}
-use Rattle.bloom_ast.specs.Step.{Sets}
-use Rattle.topo_types.specs.Data.{Data}
-use Rattle.topo_types.specs.View.{View}
+use Rattle.bloom_forms.specs.declared.program.Program.{Program}
+use Rattle.bloom_forms.specs.Step.{Sets}
+use Rattle.topo_forms.specs.Data.{Data}
+use Rattle.topo_forms.specs.View.{View}
 use Rattle.inbox.specs.Events.{Event}
 use Rattle.inbox.specs.Growth.{Continues}
 use Rattle.inbox.specs.Wiring.{wiring_of}
 use Rattle.sched_run.specs.Made.{event_limit, chosen_events, is_take, says_again}
-use Rattle.sched_hear.specs.Net.{EventAnswers, EventLeaves}
+use Rattle.sched_net.specs.Net.{EventAnswers, EventLeaves}
 use Rattle.sched_run.specs.Code.Making.{EndsNet, fault_with, GoesOn, HasRun, FailsIn, AppliedSo, AppliesEvents}
-use Rattle.sched_hear.specs.declared.books.Books.{Books}
-use Rattle.emitted.specs.declared.fault.EventFault.{EventFault}
+use Rattle.sched_net.specs.declared.books.Books.{Books}
+use Rattle.messages.specs.declared.fault.EventFault.{EventFault}
 use Rattle.sched_run.specs.declared.fault.MakeFault.{MakeFault}
 use Rattle.sched_run.specs.declared.fault.MakeFault.TheVariants.{TooManyEvents, NoMemory}
 use Rattle.sched_run.proofs.MakingRuns.{fails_on, legal_ends, no_memory, run_fails, run_more, too_many}

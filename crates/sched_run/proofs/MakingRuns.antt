@@ -2,10 +2,10 @@
 use Rattle.std.proofs.Common.{◌≡◌, ◌∙◌, ◌<◌, ◌++◌, ℕ, suc, List, [], ◌∷◌, Option, None, Some, Result, Ok, Err, map, length, refl, sym, subst, ap}
 use Rattle.std.specs.Result.{result_unwrap_or}
 use Rattle.std.proofs.lemmas.List.{map-append}
-use Rattle.bloom_ast.specs.declared.program.Program.{Program}
-use Rattle.bloom_ast.specs.Step.{Sets}
-use Rattle.topo_types.specs.Data.{Data}
-use Rattle.topo_types.specs.View.{View}
+use Rattle.bloom_forms.specs.declared.program.Program.{Program}
+use Rattle.bloom_forms.specs.Step.{Sets}
+use Rattle.topo_forms.specs.Data.{Data}
+use Rattle.topo_forms.specs.View.{View}
 use Rattle.inbox.specs.Events.{Step, Event, event, Refusal, no_instance, no_message, nothing_to_take}
 use Rattle.inbox.specs.Executions.{Execution, first_execution, after_event, execution_of, execution_of_events}
 use Rattle.inbox.specs.Growth.{Continues}
@@ -13,14 +13,14 @@ use Rattle.inbox.specs.Wiring.{Wiring, wiring_of}
 use Rattle.inbox.proofs.Executions.Appending.{legal_more}
 use Rattle.inbox.proofs.Executions.Results.{Ok_same}
 use Rattle.inbox.proofs.Lists.Growing.{continues_itself, continues_on}
-use Rattle.sched_hear.specs.Answers.{Answers, answer_at, answer_to, fault_at}
-use Rattle.sched_lists.specs.Limits.{Limit, too_many_rows, too_many_messages, limit_of_event}
+use Rattle.sched_net.specs.Answers.{Answers, answer_at, answer_to, fault_at}
+use Rattle.inbox.specs.Limits.{Limit, too_many_rows, too_many_messages, limit_of_event}
 use Rattle.sched_run.specs.Made.{event_limit, execution_after}
-use Rattle.sched_hear.specs.Net.{Stands, EventAnswers, EventLeaves, execution_in}
+use Rattle.sched_net.specs.Net.{Stands, EventAnswers, EventLeaves, execution_in}
 use Rattle.sched_run.specs.Code.Making.{EndsNet, fault_with, HasRun, MeetsLimit, FailsAt, FailsIn}
-use Rattle.sched_hear.specs.declared.books.Books.{Books}
-use Rattle.emitted.specs.declared.fault.EventFault.{EventFault}
-use Rattle.emitted.specs.declared.fault.EventFault.TheVariants.{NoInstance, NoMessage, NothingToTake, TooManyRows, TooManyMessages, NoMemory}
+use Rattle.sched_net.specs.declared.books.Books.{Books}
+use Rattle.messages.specs.declared.fault.EventFault.{EventFault}
+use Rattle.messages.specs.declared.fault.EventFault.TheVariants.{NoInstance, NoMessage, NothingToTake, TooManyRows, TooManyMessages, NoMemory}
 use Rattle.sched_run.specs.declared.fault.MakeFault.{MakeFault}
 use Rattle.sched_run.specs.declared.fault.MakeFault.TheVariants as make_fault
 use Rattle.sched_run.proofs.TurnsLemmas.{none_more}

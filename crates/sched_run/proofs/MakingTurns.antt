@@ -2,10 +2,10 @@
 use Rattle.std.proofs.Common.{◌≡◌, ◌∙◌, ◌+◌, ◌<◌, ◌≤◌, ◌%◌, ◌++◌, ℕ, suc, List, [], ◌∷◌, Option, Some, Result, Ok, Err, IsErrAnd, length, map, sum, slice_get, refl, sym, subst, ap, arith}
 use Rattle.std.proofs.lemmas.List.{length-append}
 use Rattle.std.proofs.lemmas.Option.{get_or_from_slice_get}
-use Rattle.bloom_ast.specs.declared.program.Program.{Program}
-use Rattle.bloom_ast.specs.Step.{Sets}
-use Rattle.topo_types.specs.Data.{Data}
-use Rattle.topo_types.specs.View.{View}
+use Rattle.bloom_forms.specs.declared.program.Program.{Program}
+use Rattle.bloom_forms.specs.Step.{Sets}
+use Rattle.topo_forms.specs.Data.{Data}
+use Rattle.topo_forms.specs.View.{View}
 use Rattle.inbox.specs.Completeness.{left_count}
 use Rattle.inbox.specs.Events.{Event, Step, event}
 use Rattle.inbox.specs.Executions.{Execution}
@@ -13,14 +13,14 @@ use Rattle.inbox.specs.Growth.{Continues}
 use Rattle.inbox.specs.Wiring.{Wiring, wiring_of}
 use Rattle.inbox.proofs.Lists.Growing.{continues_with}
 use Rattle.sched_turns.specs.Draws.{next_state, drawn_number}
-use Rattle.sched_lists.specs.Limits.{Limit, too_many_rows, too_many_messages, limit_of_event}
+use Rattle.inbox.specs.Limits.{Limit, too_many_rows, too_many_messages, limit_of_event}
 use Rattle.sched_run.specs.Made.{event_limit, Course, after_turns, chosen_events, execution_after, fault_by, made_of, made_within, open_works, turn, turn_among, AnswersSo}
 use Rattle.sched_run.specs.Naming.{CanBeWritten}
-use Rattle.sched_hear.specs.Net.{BooksStand, execution_in}
+use Rattle.sched_net.specs.Net.{BooksStand, execution_in}
 use Rattle.sched_run.specs.Code.Making.{AppliedSo, AppliesEvents, MeetNone, HasRun, HasTurned, IsReady, FailsAt, FailsIn, TurnedSo, Turns}
 use Rattle.sched_run.specs.Code.Watch.{IsWatched}
 use Rattle.sched_run.specs.Code.Works.{AreShown, AreWorksOf, IsOpenWork, work_event}
-use Rattle.sched_hear.specs.declared.books.Books.{Books}
+use Rattle.sched_net.specs.declared.books.Books.{Books}
 use Rattle.sched_run.specs.declared.fault.MakeFault.{MakeFault}
 use Rattle.sched_run.specs.declared.fault.MakeFault.TheVariants.{TooManyEvents, TooManyRows, TooManyMessages, NoMemory}
 use Rattle.sched_run.specs.declared.making.Making.{Making}

@@ -1,18 +1,19 @@
 -- Turns from the first to the last: a net that stands for no step has turned not once, and where nothing is open the schedule is answered.
 use Rattle.std.proofs.Common.{◌≡◌, ◌∙◌, ◌≤◌, ℕ, List, [], ◌∷◌, Option, Result, Ok, Err, IsErrAnd, length, map, sum, refl, sym, subst, ap, arith}
-use Rattle.bloom_ast.specs.declared.program.Program.{Program}
-use Rattle.bloom_ast.specs.Step.{Sets}
-use Rattle.topo_types.specs.Data.{Data}
-use Rattle.topo_types.specs.Valid.{IsValid}
-use Rattle.topo_types.specs.View.{View}
+use Rattle.bloom_forms.specs.declared.program.Program.{Program}
+use Rattle.bloom_forms.specs.Step.{Sets}
+use Rattle.topo_forms.specs.Data.{Data}
+use Rattle.topo_forms.specs.Valid.{IsValid}
+use Rattle.topo_forms.specs.View.{View}
 use Rattle.inbox.specs.Events.{Event, Step, event}
 use Rattle.inbox.specs.Wiring.{wiring_of}
 use Rattle.sched_run.specs.Made.{made_of, open_works, AnswersSo}
-use Rattle.sched_run.specs.Making.{RunsFirst, AnswersMade, AnswersNumbered, HasMade, HasMadeNumbered, LeavesMade, LeavesNumbered, events_in, events_of, Line, steps_of}
-use Rattle.sched_hear.specs.Net.{BooksRun, Stands, execution_in}
-use Rattle.sched_hear.specs.Numbered.{numbered}
+use Rattle.sched_run.specs.Making.{RunsFirst, AnswersMade, AnswersNumbered, HasMade, HasMadeNumbered, LeavesMade, LeavesNumbered, events_in}
+use Rattle.sched_net.specs.ScheduleLines.{events_of, Line, steps_of}
+use Rattle.sched_net.specs.Net.{BooksRun, Stands, execution_in}
+use Rattle.sched_net.specs.Numbered.{numbered}
 use Rattle.sched_run.specs.Code.Making.{Goes, HasTurned, IsReady, MeetNone, StandsMade, TurnedSo, Turns}
-use Rattle.sched_hear.specs.declared.books.Books.{Books}
+use Rattle.sched_net.specs.declared.books.Books.{Books}
 use Rattle.sched_run.specs.declared.fault.MakeFault.{MakeFault}
 use Rattle.sched_run.specs.declared.fault.MakeFault.TheVariants.{NoMemory}
 use Rattle.sched_run.specs.declared.making.Making.{Making}

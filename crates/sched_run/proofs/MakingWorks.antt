@@ -5,12 +5,12 @@ use Rattle.std.proofs.lemmas.Bool.{cases_lt}
 use Rattle.std.proofs.lemmas.Option.{get_or_from_slice_get, slice_get-get_or, slice_get_within}
 use Rattle.blz_value.specs.Members.{Has}
 use Rattle.blz_value.proofs.Membership.{Has-get_or}
-use Rattle.bloom_ast.specs.declared.program.Program.{Program}
-use Rattle.bloom_ast.specs.Step.{Sets}
-use Rattle.topo_types.specs.Data.{Data}
-use Rattle.topo_types.specs.Messages.{Message as Sent}
-use Rattle.topo_types.specs.Valid.{IsValid}
-use Rattle.topo_types.specs.View.{View}
+use Rattle.bloom_forms.specs.declared.program.Program.{Program}
+use Rattle.bloom_forms.specs.Step.{Sets}
+use Rattle.topo_forms.specs.Data.{Data}
+use Rattle.topo_forms.specs.Messages.{Message as Sent}
+use Rattle.topo_forms.specs.Valid.{IsValid}
+use Rattle.topo_forms.specs.View.{View}
 use Rattle.inbox.specs.Events.{Event, Step, event}
 use Rattle.inbox.specs.Executions.{Execution, after_event, execution_of_events}
 use Rattle.inbox.specs.Wiring.{Wiring, wiring_of}
@@ -19,13 +19,13 @@ use Rattle.inbox.proofs.Executions.Results.{Ok_same}
 use Rattle.sched_turns.specs.Windows.{IsWindow}
 use Rattle.sched_turns.specs.declared.windows.Stale.TheVariants.{Nothing}
 use Rattle.sched_run.specs.Made.{all_lanes, can_take, chosen_events, is_open_in, is_take, lane_list, open_works, says_again}
-use Rattle.sched_hear.specs.Net.{BooksRun, BooksStand, execution_in}
+use Rattle.sched_net.specs.Net.{BooksRun, BooksStand, execution_in}
 use Rattle.sched_run.specs.Code.Making.{AppliedSo, AppliesEvents, HasRun, Goes, GoesOn, IsDue}
 use Rattle.sched_run.specs.Code.Looking.{IsTaker, LooksAt}
 use Rattle.sched_run.specs.Code.Stale.{stale_on}
 use Rattle.sched_run.specs.Code.Watch.{IsUntouched, StillShows, touches, touches_taker}
 use Rattle.sched_run.specs.Code.Works.{AreShown, AreWorksOf, IsOpenWork, MayLookAt, ShowWorks, is_taking, sizes_shown, window_at, work_event}
-use Rattle.sched_hear.specs.declared.books.Books.{Books}
+use Rattle.sched_net.specs.declared.books.Books.{Books}
 use Rattle.sched_run.specs.declared.fault.MakeFault.{MakeFault}
 use Rattle.sched_run.specs.declared.lanes.Lane.{Lane}
 use Rattle.sched_run.specs.declared.lanes.Lane.TheVariants.{Deliver, Order}

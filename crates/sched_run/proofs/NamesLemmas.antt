@@ -1,13 +1,13 @@
 -- The event that is named by the names of its numbers is the one of these numbers.
 use Rattle.std.proofs.Common.{◌≡◌, ◌<◌, ℕ, length, ap, ◌∙◌}
-use Rattle.bloom_ast.specs.Query.{Name}
+use Rattle.bloom_forms.specs.Query.{Name}
 use Rattle.sched_text.specs.declared.event.Sent.{Sent as SentName}
 use Rattle.sched_text.specs.declared.event.Event.TheVariants.{Deliver, Order, Take}
-use Rattle.topo_types.specs.Valid.{IsValid, IsWhole, Validated}
-use Rattle.topo_types.specs.View.{View, component_at, port_at, stream_at}
+use Rattle.topo_forms.specs.Valid.{IsValid, IsWhole, Validated}
+use Rattle.topo_forms.specs.View.{View, component_at, port_at, stream_at}
 use Rattle.inbox.specs.Events.{Part, deliver, order, take_one}
-use Rattle.sched_hear.specs.Numbered.{stream_number, component_number, port_number, numbered_part, numbered}
-use Rattle.sched_hear.proofs.NamesNumbered.{stream_named, component_named, port_named}
+use Rattle.sched_net.specs.Numbered.{stream_number, component_number, port_number, numbered_part, numbered}
+use Rattle.sched_net.proofs.NamesNumbered.{stream_named, component_named, port_named}
 use Rattle.sched_run.specs.Naming.{HasPartNames}
 
 module _ (valid : Validated) (whole : IsWhole valid) (known : IsValid valid.view) (c : ℕ) (part : Part) (is : HasPartNames valid.view c part) (sent : SentName) (name port : Name) where

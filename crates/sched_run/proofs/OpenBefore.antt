@@ -5,10 +5,10 @@ use Rattle.std.specs.List.{list_any, range_with_len}
 use Rattle.std.specs.Option.{option_map_or, option_and_then}
 use Rattle.std.proofs.lemmas.Grind.{flat_map-append}
 use Rattle.blz_value.specs.Members.{Has}
-use Rattle.topo_types.specs.Data.{Data}
-use Rattle.topo_types.specs.Messages.{Message, row_in}
-use Rattle.topo_types.specs.View.{is_order_mode}
-use Rattle.inbox.specs.Messages.{Batch, Pair, Entry, all_pairs, is_same_entry, is_same_pair}
+use Rattle.topo_forms.specs.Data.{Data}
+use Rattle.topo_forms.specs.Messages.{Message, row_in}
+use Rattle.topo_forms.specs.View.{is_order_mode}
+use Rattle.messages.specs.Messages.{Batch, Pair, Entry, all_pairs, is_same_entry, is_same_pair}
 use Rattle.inbox.specs.Wiring.{Wiring, instance_at, is_sequencer, is_there}
 use Rattle.inbox.specs.Lives.{Lives, hear_batch, take_entry}
 use Rattle.inbox.specs.Events.{Part, Event, deliver, batch, order, take_one, Step, event, no_instance, nothing_to_take}

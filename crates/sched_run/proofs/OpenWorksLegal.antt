@@ -10,12 +10,12 @@ use Rattle.std.proofs.lemmas.List.{take-append-drop}
 use Rattle.std.proofs.lemmas.Option.{slice_get-get_or, slice_get_within}
 use Rattle.blz_value.specs.Members.{Has}
 use Rattle.blz_value.proofs.Membership.{Has-append_cases, Has-append_left, Has-from_filter, Has-from_flat_map, Has-from_map}
-use Rattle.topo_types.specs.Data.{Data}
-use Rattle.topo_types.specs.Feeds.{Feed}
-use Rattle.topo_types.specs.Messages.{Message, row}
-use Rattle.topo_types.specs.Valid.{IsValid}
-use Rattle.topo_types.specs.View.{View, is_order_mode}
-use Rattle.inbox.specs.Messages.{Pair}
+use Rattle.topo_forms.specs.Data.{Data}
+use Rattle.topo_forms.specs.Feeds.{Feed}
+use Rattle.topo_forms.specs.Messages.{Message, row}
+use Rattle.topo_forms.specs.Valid.{IsValid}
+use Rattle.topo_forms.specs.View.{View, is_order_mode}
+use Rattle.messages.specs.Messages.{Pair}
 use Rattle.inbox.specs.Instances.{Instance}
 use Rattle.inbox.specs.Wiring.{Wiring, instance_at, instances_at, is_sequencer, is_there, wiring_of}
 use Rattle.inbox.specs.Lives.{hear_batch, take_entry}

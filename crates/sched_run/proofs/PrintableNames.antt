@@ -6,31 +6,31 @@ use Rattle.std.proofs.lemmas.List.{get_or-map, length-map}
 use Rattle.blz_value.specs.Members.{Has}
 use Rattle.blz_value.specs.Name.{is_name}
 use Rattle.blz_value.proofs.Membership.{Has-append_left, Has-flat_map, Has-from_filter, Has-from_map, Has-get_or, all_member}
-use Rattle.bloom_ast.specs.declared.module.Collection.{Collection}
-use Rattle.bloom_ast.specs.declared.module.Kind.TheVariants.{Input}
-use Rattle.bloom_ast.specs.declared.program.Program.TheVariants as program
-use Rattle.bloom_ast.specs.Checks.{IsChecked}
-use Rattle.bloom_ast.specs.Form.{Accepted}
-use Rattle.bloom_ast.specs.Kinds.{of_kind, same_kind}
-use Rattle.bloom_ast.specs.Query.{Name}
-use Rattle.bloom_ast.specs.Reserved.{is_own_name, module_names, query_names}
-use Rattle.topo_types.specs.declared.topology.Body.{Body}
-use Rattle.topo_types.specs.declared.topology.Body.TheVariants as body
-use Rattle.topo_types.specs.declared.topology.ComponentEntry.{ComponentEntry}
-use Rattle.topo_types.specs.declared.topology.Side.{Side}
-use Rattle.topo_types.specs.declared.topology.Stock.{Stock}
-use Rattle.topo_types.specs.declared.topology.Stock.TheVariants as stock
-use Rattle.topo_types.specs.declared.topology.Topology.{Topology}
-use Rattle.topo_types.specs.Allowed.{allows_body, allows_component, allows_fd, allows_source, allows_stream, is_empty, is_side, IsAllowed}
-use Rattle.topo_types.specs.Sites.{Site, no_entry, site_at, side, collection_side, ports_with, program_in, program_ports, stock_program}
-use Rattle.topo_types.specs.Valid.{IsWhole, Validated}
-use Rattle.topo_types.specs.View.{View, Component, Port, Stream, no_port, component_at, port_at, stream_at}
-use Rattle.topo_types.specs.ViewOf.{modules_in, port_view, view_of}
-use Rattle.topo_types.proofs.Faults.NoFault.{length_sites, no_source, no_written}
-use Rattle.topo_types.proofs.Regions.Spreading.{both_true}
-use Rattle.topo_types.proofs.Views.ViewNumbers.{length_components}
-use Rattle.topo_types.proofs.Views.ViewParts.{at_component, attributes, each_stream, seen, sites}
-use Rattle.topo_types.proofs.Views.ViewRuns.{Made, made}
+use Rattle.bloom_forms.specs.declared.module.Collection.{Collection}
+use Rattle.bloom_forms.specs.declared.module.Kind.TheVariants.{Input}
+use Rattle.bloom_forms.specs.declared.program.Program.TheVariants as program
+use Rattle.bloom_forms.specs.Checks.{IsChecked}
+use Rattle.bloom_forms.specs.Form.{Accepted}
+use Rattle.bloom_forms.specs.Kinds.{of_kind, same_kind}
+use Rattle.bloom_forms.specs.Query.{Name}
+use Rattle.bloom_forms.specs.Reserved.{is_own_name, module_names, query_names}
+use Rattle.topo_forms.specs.declared.topology.Body.{Body}
+use Rattle.topo_forms.specs.declared.topology.Body.TheVariants as body
+use Rattle.topo_forms.specs.declared.topology.ComponentEntry.{ComponentEntry}
+use Rattle.topo_forms.specs.declared.topology.Side.{Side}
+use Rattle.topo_forms.specs.declared.topology.Stock.{Stock}
+use Rattle.topo_forms.specs.declared.topology.Stock.TheVariants as stock
+use Rattle.topo_forms.specs.declared.topology.Topology.{Topology}
+use Rattle.topo_forms.specs.Allowed.{allows_body, allows_component, allows_fd, allows_source, allows_stream, is_empty, is_side, IsAllowed}
+use Rattle.topo_forms.specs.Sites.{Site, no_entry, site_at, side, collection_side, ports_with, program_in, program_ports, stock_program}
+use Rattle.topo_forms.specs.Valid.{IsWhole, Validated}
+use Rattle.topo_forms.specs.View.{View, Component, Port, Stream, no_port, component_at, port_at, stream_at}
+use Rattle.topo_forms.specs.ViewOf.{modules_in, port_view, view_of}
+use Rattle.topo_forms.proofs.Faults.NoFault.{length_sites, no_source, no_written}
+use Rattle.topo_forms.proofs.Regions.Spreading.{both_true}
+use Rattle.topo_forms.proofs.Views.ViewNumbers.{length_components}
+use Rattle.topo_forms.proofs.Views.ViewParts.{at_component, attributes, each_stream, seen, sites}
+use Rattle.topo_forms.proofs.Views.ViewRuns.{Made, made}
 use Rattle.inbox.specs.Events.{Part}
 use Rattle.sched_run.specs.Naming.{HasPartNames}
 

@@ -1,30 +1,30 @@
 -- What is open, and what can be taken, is the same of any data and steps for which the same books stand.
 use Rattle.std.proofs.Common.{◌≡◌, ◌<◌, ◌∙◌, ℕ, List, Some, length, nat_lt, slice_get, refl, ap, sym}
-use Rattle.topo_types.specs.Data.{Data}
-use Rattle.topo_types.specs.Feeds.{Feed}
-use Rattle.topo_types.specs.Messages.{Message}
-use Rattle.topo_types.specs.Valid.{IsValid}
-use Rattle.topo_types.specs.View.{View, stream_replicas}
+use Rattle.topo_forms.specs.Data.{Data}
+use Rattle.topo_forms.specs.Feeds.{Feed}
+use Rattle.topo_forms.specs.Messages.{Message}
+use Rattle.topo_forms.specs.Valid.{IsValid}
+use Rattle.topo_forms.specs.View.{View, stream_replicas}
 use Rattle.inbox.specs.Events.{Step}
 use Rattle.inbox.specs.Executions.{emitted_list}
-use Rattle.inbox.specs.Messages.{Entry}
+use Rattle.messages.specs.Messages.{Entry}
 use Rattle.inbox.specs.Wiring.{Wiring, wiring_of}
 use Rattle.messages.specs.declared.message.Message.{Message as IdMessage}
 use Rattle.sched_turns.specs.Windows.{Looked, IsWindow}
-use Rattle.sched_hear.specs.Net.{BooksStand, execution_in}
-use Rattle.sched_hear.specs.Seen.{list_seen}
-use Rattle.sched_hear.specs.declared.books.Books.{Books}
-use Rattle.sched_lists.specs.Places.{instance_place}
-use Rattle.sched_hear.specs.declared.seated.Ear.{Ear}
-use Rattle.sched_hear.specs.declared.seated.Ear.TheVariants.{Hears, Takes}
-use Rattle.sched_hear.specs.declared.seated.Seated.{Seated}
-use Rattle.sched_hear.proofs.OrderingLemmas.{seat_at}
+use Rattle.sched_net.specs.Net.{BooksStand, execution_in}
+use Rattle.sched_net.specs.Seen.{list_seen}
+use Rattle.sched_net.specs.declared.books.Books.{Books}
+use Rattle.inbox.specs.Places.{instance_place}
+use Rattle.sched_net.specs.declared.seated.Ear.{Ear}
+use Rattle.sched_net.specs.declared.seated.Ear.TheVariants.{Hears, Takes}
+use Rattle.sched_net.specs.declared.seated.Seated.{Seated}
+use Rattle.sched_net.proofs.OrderingLemmas.{seat_at}
 use Rattle.sched_run.specs.Made.{is_open_in, is_unordered, lane_list, can_take}
 use Rattle.sched_run.specs.Code.Looking.{IsDelivery, IsOrdering, IsLane, IsTaker}
 use Rattle.sched_run.specs.declared.lanes.Lane.{Lane}
 use Rattle.sched_run.specs.declared.lanes.Lane.TheVariants.{Deliver, Order}
 use Rattle.sched_run.specs.declared.lanes.Taker.{Taker}
-use Rattle.sched_run.proofs.EmittedSeen.{seen_emitted}
+use Rattle.sched_net.proofs.EmittedSeen.{seen_emitted}
 use Rattle.sched_run.proofs.LookingLemmas.{heard_open, takes_nothing, took, window_same}
 
 module _ (v : View) (b : Books) (valid : IsValid v) (given also : Data) (steps later : List Step) (stand : BooksStand v given steps b) (other : BooksStand v also later b) where

@@ -11,11 +11,11 @@ use Rattle.std.proofs.lemmas.List.Folds.{list_any-append}
 use Rattle.std.proofs.lemmas.Option.{get_or_from_slice_get}
 use Rattle.blz_value.specs.Members.{Has}
 use Rattle.blz_value.proofs.Membership.{Has-from_filter}
-use Rattle.topo_types.specs.Data.{Data}
-use Rattle.topo_types.specs.Feeds.{Feed, no_feed}
-use Rattle.topo_types.specs.Messages.{Message, row, seal, row_in}
-use Rattle.topo_types.specs.View.{is_order_mode}
-use Rattle.inbox.specs.Messages.{Batch, Pair, Entry, all_pairs, is_same_entry, is_same_pair}
+use Rattle.topo_forms.specs.Data.{Data}
+use Rattle.topo_forms.specs.Feeds.{Feed, no_feed}
+use Rattle.topo_forms.specs.Messages.{Message, row, seal, row_in}
+use Rattle.topo_forms.specs.View.{is_order_mode}
+use Rattle.messages.specs.Messages.{Batch, Pair, Entry, all_pairs, is_same_entry, is_same_pair}
 use Rattle.inbox.specs.Wiring.{Wiring, instance_at, is_sequencer, is_there}
 use Rattle.inbox.specs.Lives.{Lives, hear_batch, take_entry}
 use Rattle.inbox.specs.Events.{Step, event, no_instance, nothing_to_take}
@@ -37,7 +37,7 @@ use Rattle.sched_run.specs.declared.lanes.Lane.TheVariants.{Deliver, Order}
 use Rattle.sched_run.specs.declared.works.Work.{Work}
 use Rattle.sched_run.specs.declared.works.Work.TheVariants.{Message as Comes, Take}
 use Rattle.sched_run.proofs.FrontsLemmas.{front_get}
-use Rattle.sched_hear.proofs.HeardBatch.{one_index, pairs_with}
+use Rattle.sched_net.proofs.HeardBatch.{one_index, pairs_with}
 use Rattle.sched_run.proofs.LanesKnown.{IsLaneIn, below_is}
 use Rattle.sched_run.proofs.OpenBefore.{OpensOnlyNew}
 

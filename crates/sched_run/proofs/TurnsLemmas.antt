@@ -10,13 +10,13 @@ use Rattle.std.proofs.lemmas.Bool.{cases_lt, le-ltb, lt-ltb}
 use Rattle.std.proofs.lemmas.List.{take_all, take-append-le, take-append-drop, length-take}
 use Rattle.std.proofs.lemmas.Option.{get_or_from_slice_get}
 use Rattle.std.proofs.Math.Seq.{take-append_seam}
-use Rattle.topo_types.specs.Data.{Data}
+use Rattle.topo_forms.specs.Data.{Data}
 use Rattle.inbox.specs.Events.{Event}
 use Rattle.inbox.specs.Growth.{Continues}
 use Rattle.inbox.specs.Wiring.{Wiring}
 use Rattle.inbox.proofs.Lists.Growing.{continues_itself, continues_with, continues_on}
 use Rattle.sched_turns.specs.Draws.{next_state, drawn_number}
-use Rattle.sched_lists.specs.Limits.{Limit, limit_of_event}
+use Rattle.inbox.specs.Limits.{Limit, limit_of_event}
 use Rattle.sched_run.specs.declared.fault.MakeFault.{MakeFault}
 use Rattle.sched_run.specs.declared.fault.MakeFault.TheVariants.{TooManyEvents}
 use Rattle.sched_run.specs.Made.{event_limit, Course, after_turns, chosen_events, execution_after, fault_by, faults_in, generated, is_take, limit_at_place, made_of, made_within, open_works, says_again, turn, turn_among, unless_at_fault}

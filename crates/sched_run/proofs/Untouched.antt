@@ -5,12 +5,12 @@ use Rattle.std.specs.List.{list_any}
 use Rattle.std.specs.Option.{option_map_or, option_and_then}
 use Rattle.std.proofs.lemmas.Bool.{cases_lt, or_parts}
 use Rattle.std.proofs.lemmas.Option.{get_or_from_slice_get, slice_get_past}
-use Rattle.topo_types.specs.Data.{Data}
-use Rattle.topo_types.specs.Feeds.{Feed}
-use Rattle.topo_types.specs.Messages.{Message, row, seal, row_in}
-use Rattle.topo_types.specs.View.{View, End, Stream, no_stream, origin_of, is_order_mode}
+use Rattle.topo_forms.specs.Data.{Data}
+use Rattle.topo_forms.specs.Feeds.{Feed}
+use Rattle.topo_forms.specs.Messages.{Message, row, seal, row_in}
+use Rattle.topo_forms.specs.View.{View, End, Stream, no_stream, origin_of, is_order_mode}
 use Rattle.messages.specs.Messages.{with_new}
-use Rattle.inbox.specs.Messages.{Batch, Entry, all_pairs, is_same_entry, is_same_pair}
+use Rattle.messages.specs.Messages.{Batch, Entry, all_pairs, is_same_entry, is_same_pair}
 use Rattle.inbox.specs.Events.{Part, deliver, order, take_one, no_instance, nothing_to_take}
 use Rattle.inbox.specs.Executions.{Execution, after_event, after_taking, emitted_list, is_hearing, list_from, pair_of, pairs_of, result_and_then, with_lives, with_logged}
 use Rattle.inbox.specs.Growth.{TakesWithinLogs}

@@ -6,16 +6,16 @@ use Rattle.std.proofs.lemmas.List.{get_or-set_other, get_or-set_same, length-set
 use Rattle.std.proofs.lemmas.Option.{slice_get_within}
 use Rattle.blz_value.specs.Members.{Has}
 use Rattle.blz_value.proofs.Membership.{Has-append_cases, Has-append_left, Has-append_right, Has-get_or}
-use Rattle.topo_types.specs.Feeds.{Feed}
-use Rattle.topo_types.specs.Valid.{IsValid}
-use Rattle.topo_types.specs.View.{View, End, origin_of, replicas_of, senders_of, stream_replicas}
-use Rattle.sched_lists.specs.Places.{instance_count, instance_place}
-use Rattle.sched_lists.proofs.PlacesLemmas.{place-before}
+use Rattle.topo_forms.specs.Feeds.{Feed}
+use Rattle.topo_forms.specs.Valid.{IsValid}
+use Rattle.topo_forms.specs.View.{View, End, origin_of, replicas_of, senders_of, stream_replicas}
+use Rattle.inbox.specs.Places.{instance_count, instance_place}
+use Rattle.inbox.proofs.PlacesLemmas.{place-before}
 use Rattle.sched_run.specs.Made.{lane_feed}
 use Rattle.sched_run.specs.Code.Looking.{IsLane}
 use Rattle.sched_run.specs.Code.Stale.{is_same_feed}
 use Rattle.sched_run.specs.Code.Watch.{AreBelow, AreHeardBelow, AreLanesBelow, AreLogs, AreReadersBelow, AreTakersBelow, IsUntouched, IsWatched, StillShows, comes_from, is_at_log, heard_at, heard_places, is_heard_on, log_places, reader_places, sends}
-use Rattle.sched_hear.specs.declared.books.Books.{Books}
+use Rattle.sched_net.specs.declared.books.Books.{Books}
 use Rattle.sched_run.specs.Code.Works.{AreShown, AreWorksOf, LookedFor}
 use Rattle.sched_run.specs.declared.lanes.Lane.{Lane}
 use Rattle.sched_run.specs.declared.lanes.Lane.TheVariants.{Deliver, Order}

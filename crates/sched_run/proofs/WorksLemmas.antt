@@ -10,9 +10,9 @@ use Rattle.std.proofs.lemmas.List.{length-map, length-set, map-append, get_or_de
 use Rattle.std.proofs.lemmas.Option.{slice_get-get_or, slice_get-map, slice_get_read, slice_get_within}
 use Rattle.blz_value.specs.Members.{Has}
 use Rattle.blz_value.proofs.Membership.{Has-append_left, Has-append_right, Has-append_cases}
-use Rattle.topo_types.specs.Data.{Data}
-use Rattle.topo_types.specs.Feeds.{no_feed}
-use Rattle.topo_types.specs.View.{View}
+use Rattle.topo_forms.specs.Data.{Data}
+use Rattle.topo_forms.specs.Feeds.{no_feed}
+use Rattle.topo_forms.specs.View.{View}
 use Rattle.inbox.specs.Events.{Event, Step, take_one}
 use Rattle.inbox.specs.Executions.{Execution}
 use Rattle.inbox.specs.Wiring.{wiring_of}
@@ -21,12 +21,12 @@ use Rattle.sched_turns.specs.Windows.{Looked, IsWindow, first_open}
 use Rattle.sched_turns.specs.declared.windows.Stale.{Stale}
 use Rattle.sched_turns.proofs.WindowsLemmas.{window_shows}
 use Rattle.sched_run.specs.Made.{event_in, is_open_in, lane_list, all_lanes, all_takers, can_take, open_works, works_in, works_of}
-use Rattle.sched_hear.specs.Net.{BooksStand, BooksRun, execution_in}
+use Rattle.sched_net.specs.Net.{BooksStand, BooksRun, execution_in}
 use Rattle.sched_run.specs.Code.Looking.{LooksAt, MayLook, TellsTake}
 use Rattle.sched_run.specs.Code.Stale.{stale_on}
 use Rattle.sched_run.specs.Code.Watch.{StillShows}
 use Rattle.sched_run.specs.Code.Works.{AreWorksOf, AreWindowsOn, AreSizesWith, AreShown, MayLookAt, ShowWorks, LooksAgain, LookedAt, LookedFor, sizes_shown, window_at}
-use Rattle.sched_hear.specs.declared.books.Books.{Books}
+use Rattle.sched_net.specs.declared.books.Books.{Books}
 use Rattle.sched_run.specs.declared.lanes.Lane.{Lane}
 use Rattle.sched_run.specs.declared.lanes.Lane.TheVariants.{Order}
 use Rattle.sched_run.specs.declared.lanes.Taker.{Taker}

@@ -13,12 +13,13 @@ use Rattle.sched_text.specs.Text.{event_text, is_printable, numbered_again, sche
 use Rattle.sched_text.proofs.PrintedEvents.{recursion_from_All}
 use Rattle.sched_text.proofs.PrintedLines.{read_again}
 use Rattle.sched_text.specs.declared.event.Event.{Event as NamedEvent}
-use Rattle.topo_types.specs.View.{View}
+use Rattle.topo_forms.specs.View.{View}
 use Rattle.inbox.specs.Events.{Event}
-use Rattle.sched_hear.specs.Numbered.{event_by_numbers, numbered}
-use Rattle.sched_hear.specs.declared.numbered.NumberedEvent.{NumberedEvent}
+use Rattle.sched_net.specs.Numbered.{event_by_numbers, numbered}
+use Rattle.sched_net.specs.declared.numbered.NumberedEvent.{NumberedEvent}
 use Rattle.sched_run.specs.Made.{event_limit}
-use Rattle.sched_run.specs.Making.{CountFromOne, IsTextOf, events_of, Line}
+use Rattle.sched_run.specs.Making.{CountFromOne, IsTextOf}
+use Rattle.sched_net.specs.ScheduleLines.{events_of, Line}
 use Rattle.sched_run.specs.Naming.{CanBeWritten, HasEventNames}
 use Rattle.sched_run.specs.Code.Works.{HasNames, work_event}
 use Rattle.sched_run.specs.Code.Written.{AreLines}

@@ -3,10 +3,10 @@ use Rattle.std.proofs.Common.{◌≡◌, ℕ, List, map, take}
 use Rattle.std.specs.List.{All}
 use Rattle.sched_text.specs.Small.{IsSmall}
 use Rattle.sched_text.specs.Text.{schedule_text}
-use Rattle.topo_types.specs.View.{View}
-use Rattle.sched_hear.specs.Numbered.{event_by_numbers}
-use Rattle.sched_hear.specs.declared.numbered.NumberedEvent.{NumberedEvent}
-use Rattle.sched_run.specs.Making.{events_of, Line}
+use Rattle.topo_forms.specs.View.{View}
+use Rattle.sched_net.specs.Numbered.{event_by_numbers}
+use Rattle.sched_net.specs.declared.numbered.NumberedEvent.{NumberedEvent}
+use Rattle.sched_net.specs.ScheduleLines.{events_of, Line}
 use Rattle.sched_run.specs.Code.Written.{AreLines}
 
 -- they are those of the first events, so many

@@ -3,18 +3,18 @@ use Rattle.std.specs.Prelude.{◌≡◌, ℕ, zero, suc, ◌/◌, ◌%◌, ◌==
 use Rattle.std.specs.List.{list_any, filter_map, flat_map, range_with_len, enumerate_from}
 use Rattle.std.specs.Option.{option_map, option_map_or, option_and_then}
 use Rattle.std.specs.Result.{result_unwrap_or}
-use Rattle.topo_types.specs.Data.{Data}
-use Rattle.topo_types.specs.Feeds.{Feed}
-use Rattle.topo_types.specs.Messages.{Message, row_in}
-use Rattle.topo_types.specs.View.{End}
-use Rattle.inbox.specs.Messages.{Pair, Entry, is_same_pair, is_same_entry, all_pairs}
+use Rattle.topo_forms.specs.Data.{Data}
+use Rattle.topo_forms.specs.Feeds.{Feed}
+use Rattle.topo_forms.specs.Messages.{Message, row_in}
+use Rattle.topo_forms.specs.View.{End}
+use Rattle.messages.specs.Messages.{Pair, Entry, is_same_pair, is_same_entry, all_pairs}
 use Rattle.inbox.specs.Wiring.{Wiring, instances_at, instance_at, is_sequencer}
 use Rattle.inbox.specs.Events.{Part, Event, deliver, batch, order, take_one}
 use Rattle.inbox.specs.Executions.{Execution, first_execution, emitted_list, execution_of_events}
 use Rattle.inbox.specs.Completeness.{left_count}
 use Rattle.sched_turns.specs.Draws.{next_state, drawn_number}
 use Rattle.sched_turns.specs.Windows.{first_open}
-use Rattle.sched_lists.specs.Limits.{Limit, too_many_rows, too_many_messages, limit_of_event}
+use Rattle.inbox.specs.Limits.{Limit, too_many_rows, too_many_messages, limit_of_event}
 use Rattle.sched_run.specs.declared.fault.MakeFault.{MakeFault}
 use Rattle.sched_run.specs.declared.fault.MakeFault.TheVariants.{TooManyEvents, TooManyRows, TooManyMessages, NoMemory}
 use Rattle.sched_run.specs.declared.lanes.Lane.{Lane}

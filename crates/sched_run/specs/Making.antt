@@ -1,20 +1,20 @@
 -- What is made of a net that made no step yet, from a seed.
 use Rattle.std.specs.Prelude.{◌≡◌, ℕ, true, Option, Result, Ok, Err, List, [], map, length}
 use Rattle.std.specs.List.{range_with_len}
-use Rattle.bloom_ast.specs.declared.program.Program.{Program}
-use Rattle.bloom_ast.specs.Step.{Sets}
+use Rattle.bloom_forms.specs.declared.program.Program.{Program}
+use Rattle.bloom_forms.specs.Step.{Sets}
 use Rattle.sched_text.specs.Reading.{ReadsAs, event_reading}
 use Rattle.sched_text.specs.Text.{schedule_text}
-use Rattle.sched_text.specs.declared.event.Event.{Event as NamedEvent}
-use Rattle.topo_types.specs.Data.{Data}
-use Rattle.topo_types.specs.View.{View}
-use Rattle.inbox.specs.Events.{Event, Step, event}
+use Rattle.topo_forms.specs.Data.{Data}
+use Rattle.topo_forms.specs.View.{View}
+use Rattle.inbox.specs.Events.{Event, event}
 use Rattle.inbox.specs.Wiring.{wiring_of}
 use Rattle.sched_run.specs.Made.{made_of, AnswersSo}
-use Rattle.sched_hear.specs.Net.{Stands}
-use Rattle.sched_hear.specs.Numbered.{numbered}
-use Rattle.sched_hear.specs.declared.books.Books.{Books}
+use Rattle.sched_net.specs.Net.{Stands}
+use Rattle.sched_net.specs.Numbered.{numbered}
+use Rattle.sched_net.specs.declared.books.Books.{Books}
 use Rattle.sched_run.specs.declared.fault.MakeFault.{MakeFault}
+use Rattle.sched_net.specs.ScheduleLines.{Line, steps_of, events_of}
 
 -- the net stands for no step: no event was applied to it, and nothing was forgotten
 pub record RunsFirst (v : View) (loaded : List (Option Program)) (tables : List Sets) (b : Books) : Type 0 where
@@ -36,18 +36,6 @@ abbrev pub LeavesNumbered : View → (loaded : List (Option Program)) → (table
 LeavesNumbered v loaded tables next old new result = (given : Data) → Stands v given [] loaded tables old → HasMadeNumbered v given loaded next new result
 
 -- ---- a schedule
-
--- a line of a schedule: its number and its event
-abbrev pub Line : Type 0
-Line = ℕ × NamedEvent
-
--- the steps of some lines
-abbrev pub steps_of : View → List Line → List Step
-steps_of v lines = map (λ line. event (numbered v line.1)) lines
-
--- the events of lines, by numbers
-abbrev pub events_of : View → List Line → List Event
-events_of v lines = map (λ line. numbered v line.1) lines
 
 -- those of a schedule that is answered
 abbrev pub events_in : View → Result (List Line) MakeFault → Result (List Event) MakeFault

@@ -1,7 +1,7 @@
 -- An event by numbers has names where all that it speaks of is there, and such events can be written as a schedule.
 use Rattle.std.specs.Prelude.{◌≤◌, ◌<◌, ℕ, List, length}
 use Rattle.std.specs.List.{All}
-use Rattle.topo_types.specs.View.{View, component_at}
+use Rattle.topo_forms.specs.View.{View, component_at}
 use Rattle.inbox.specs.Events.{Part, Event, deliver, batch, order, take_one}
 use Rattle.sched_run.specs.Made.{event_limit}
 

@@ -1,4 +1,4 @@
-//! Why a forget is refused, and why no schedule is made.
+//! Why no schedule is made.
 ghost use Rattle.std.specs.Prelude.{◌≡◌};
 ghost use Rattle.sched_run.specs.declared.fault.MakeFault.TheVariants as make_fault;
 
@@ -42,11 +42,4 @@ impl<T: Drop> From<AllocFailed<T>> for MakeFault {
     fn from(_error: AllocFailed<T>) -> MakeFault {
         MakeFault::NoMemory
     }
-}
-
-/// Why a forget is refused.
-#[derive(Clone, Copy, Debug, PartialEq, Eq)]
-pub enum ForgetFault {
-    /// The component or the replica isn't there.
-    NoInstance,
 }

@@ -1,15 +1,15 @@
 //! Lanes, on which messages come to an instance or to a log, and takers, which take from a log.
 ghost use Rattle.std.specs.Prelude.{◌≡◌, ◌<◌, ◌++◌, OnOk, IfOk, length};
 ghost use Rattle.std.specs.List.{flat_map};
-ghost use Rattle.topo_types.specs.View.{ends_of, replicas_of};
+ghost use Rattle.topo_forms.specs.View.{ends_of, replicas_of};
 ghost use Rattle.inbox.specs.Wiring.{wiring_of};
 ghost use Rattle.sched_run.specs.Made.{comes_at, instance_lanes, log_lanes, lanes_at, all_lanes, takers_at, all_takers};
-ghost use Rattle.sched_hear.specs.Net.{BooksRun};
+ghost use Rattle.sched_net.specs.Net.{BooksRun};
 
 use inbox::Feed;
-use sched_hear::{Books, is_order};
+use sched_net::{Books, is_order};
 use std::alloc::{AllocError, Global};
-use topo_types::Valid;
+use topo_forms::Valid;
 
 /// Where messages come in, from one sending replica of a stream at one port.
 #[derive(Clone, Copy)]

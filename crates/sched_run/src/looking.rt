@@ -1,15 +1,16 @@
 //! What is open on a lane, and for a taker.
 ghost use Rattle.std.specs.Prelude.{◌≡◌, OnOk};
-ghost use Rattle.sched_hear.specs.Net.{BooksRun};
+ghost use Rattle.sched_net.specs.Net.{BooksRun};
 ghost use Rattle.sched_run.specs.Code.Looking.{is_unknown_at, is_unlogged_at, IsDelivery, IsOrdering, LooksAt, MayLook, IsLane, IsTaker, TellsTake};
 ghost use Rattle.sched_run.specs.declared.lanes.Lane.TheVariants.{Deliver, Order};
 
 use crate::lanes::{Lane, Taker};
-use inbox::{Feed, Log, Message};
-use sched_hear::{Books, Ear, Known};
+use inbox::Feed;
+use messages::{Known, Log, Message};
+use sched_net::{Books, Ear};
 use sched_turns::{OpenPlaces, Stale, Window};
 use std::alloc::AllocError;
-use topo_types::Valid;
+use topo_forms::Valid;
 
 // The indexes of a list of so many messages that weren't heard on a feed.
 #[derive(Clone, Copy)]

@@ -2,18 +2,19 @@
 ghost use Rattle.std.specs.Prelude.{◌≡◌, ◌≤◌, ◌++◌, ◌∷◌, [], length, map, IfOk, OnOk};
 ghost use Rattle.std.specs.List.{All};
 ghost use Rattle.sched_text.specs.Text.{IsPrintable};
-ghost use Rattle.sched_hear.specs.Numbered.{event_by_numbers};
+ghost use Rattle.sched_net.specs.Numbered.{event_by_numbers};
 ghost use Rattle.sched_run.specs.Made.{event_limit};
-ghost use Rattle.sched_run.specs.Making.{CountFromOne, IsTextOf, events_of};
+ghost use Rattle.sched_run.specs.Making.{CountFromOne, IsTextOf};
+ghost use Rattle.sched_net.specs.ScheduleLines.{events_of};
 ghost use Rattle.sched_run.specs.Naming.{HasEventNames, CanBeWritten};
 ghost use Rattle.sched_run.specs.Code.Written.{AreLines};
 
 use crate::naming::named;
-use sched_hear::NumberedEvent;
+use sched_net::NumberedEvent;
 use sched_text::{Event, Schedule, push_line};
 use std::alloc::{AllocError, Global};
 use std::marker::Model;
-use topo_types::Valid;
+use topo_forms::Valid;
 
 /// The events of a schedule that was made, in order and by numbers.
 #[derive(Drop)]
@@ -24,7 +25,7 @@ pub struct Made {
 impl Model for Made {
     ghost use Rattle.std.specs.Prelude.{List, map};
     ghost use Rattle.inbox.specs.Events.{Event as Numbered};
-    ghost use Rattle.sched_hear.specs.Numbered.{event_by_numbers};
+    ghost use Rattle.sched_net.specs.Numbered.{event_by_numbers};
 
     ghost Value = { List Numbered };
 

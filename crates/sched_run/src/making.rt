@@ -6,9 +6,10 @@
 ghost use Rattle.std.specs.Prelude.{◌≡◌, ◌<◌, ◌++◌, ◌∷◌, [], ℕ, true, map, IfOk, OnOk, length, sum};
 ghost use Rattle.sched_text.specs.Text.{IsPrintable};
 ghost use Rattle.sched_run.specs.Made.{says_again, chosen_events};
-ghost use Rattle.sched_run.specs.Making.{RunsFirst, AnswersMade, LeavesMade, AnswersNumbered, LeavesNumbered, CountFromOne, events_of};
+ghost use Rattle.sched_run.specs.Making.{RunsFirst, AnswersMade, LeavesMade, AnswersNumbered, LeavesNumbered, CountFromOne};
+ghost use Rattle.sched_net.specs.ScheduleLines.{events_of};
 ghost use Rattle.sched_run.specs.Naming.{CanBeWritten};
-ghost use Rattle.sched_hear.specs.Net.{BooksRun};
+ghost use Rattle.sched_net.specs.Net.{BooksRun};
 ghost use Rattle.sched_run.specs.Code.Making.{EndsNet, fault_with, Goes, GoesOn, IsDue, AppliesEvents, IsReady, Turns, StandsMade};
 ghost use Rattle.sched_run.specs.Code.Watch.{IsUntouched, IsWatched, StillShows};
 ghost use Rattle.sched_run.specs.Code.Works.{AreWorksOf, AreShown, HasNames, IsOpenWork, MayLookAt, work_event};
@@ -16,10 +17,10 @@ ghost use Rattle.sched_run.specs.Code.Works.{AreWorksOf, AreShown, HasNames, IsO
 use crate::fault::MakeFault;
 use crate::limits::MAX_EVENTS;
 use crate::made::Made;
-use crate::net::Net;
 use crate::watch::Watch;
 use crate::works::Work;
-use sched_lists::EventFault;
+use messages::EventFault;
+use sched_net::{Net, end_net};
 use sched_text::Schedule;
 use sched_turns::Draws;
 use std::alloc::AllocError;
@@ -220,7 +221,7 @@ pub fn make_numbered(net: &mut Net<'_>, seed: u64) -> Result<Made, MakeFault>
 {
     let made = made_of(net, seed);
     if made.is_err() {
-        net.end();
+        end_net(net);
     }
     made
 }
@@ -260,7 +261,7 @@ pub fn make(net: &mut Net<'_>, seed: u64) -> Result<Schedule, MakeFault>
     match schedule_of(net, &made) {
         Ok(schedule) => Ok(schedule),
         Err(_) => {
-            net.end();
+            end_net(net);
             Err(MakeFault::NoMemory)
         }
     }

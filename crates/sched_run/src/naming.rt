@@ -1,15 +1,15 @@
 //! Events by numbers, written with names.
 ghost use Rattle.std.specs.Prelude.{◌≡◌, ◌<◌, true, IfOk, length};
 ghost use Rattle.sched_text.specs.Text.{is_printable};
-ghost use Rattle.topo_types.specs.View.{stream_at};
+ghost use Rattle.topo_forms.specs.View.{stream_at};
 ghost use Rattle.inbox.specs.Events.{deliver, order, take_one};
-ghost use Rattle.sched_hear.specs.Numbered.{numbered, event_by_numbers};
+ghost use Rattle.sched_net.specs.Numbered.{numbered, event_by_numbers};
 ghost use Rattle.sched_run.specs.Naming.{HasPartNames, HasEventNames};
 
-use sched_hear::{NumberedEvent, NumberedPart};
+use sched_net::{NumberedEvent, NumberedPart};
 use sched_text::{Event, Sent};
 use std::alloc::AllocError;
-use topo_types::Valid;
+use topo_forms::Valid;
 
 // A message by the name of its stream.
 fn sent_of(valid: &Valid, part: &NumberedPart) -> Result<Sent, AllocError>

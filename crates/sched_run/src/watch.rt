@@ -2,8 +2,8 @@
 //! and a log is read by all that stands at it.
 ghost use Rattle.std.specs.Prelude.{◌≡◌, ◌<◌, ◌+◌, ◌^◌, [], ℕ, IfOk, OnOk, length, replicate};
 ghost use Rattle.std.specs.List.{All};
-ghost use Rattle.sched_lists.specs.Places.{instance_count};
-ghost use Rattle.sched_hear.specs.Net.{BooksRun};
+ghost use Rattle.inbox.specs.Places.{instance_count};
+ghost use Rattle.sched_net.specs.Net.{BooksRun};
 ghost use Rattle.sched_run.specs.Code.Looking.{IsLane, IsTaker};
 ghost use Rattle.sched_run.specs.Code.Watch.{heard_places, log_places, reader_places, AreBelow, AreHeard, HasStreams, AreReaders, AreLogs, AreLanesAt, AreTakersAt, IsWatched, IsUntouched, StillShows};
 ghost use Rattle.sched_run.specs.Code.Works.{AreWorksOf, AreShown, HasNames, MayLookAt};
@@ -13,9 +13,9 @@ use crate::groups::Groups;
 use crate::lanes::{Lane, Taker};
 use crate::works::{Work, Works};
 use inbox::Feed;
-use sched_hear::Books;
+use sched_net::Books;
 use std::alloc::{AllocError, Global};
-use topo_types::Valid;
+use topo_forms::Valid;
 
 /// The works, and the places where they change: for each instance, by its place, the lanes on which it
 /// hears, by their streams, and those on which what it sends comes in, and for each component the lanes

@@ -2,18 +2,18 @@
 ghost use Rattle.std.specs.Prelude.{◌≡◌, ◌<◌, ℕ, IfOk, OnOk, length, map, sum};
 ghost use Rattle.std.specs.List.{All};
 ghost use Rattle.sched_run.specs.Made.{part_on};
-ghost use Rattle.sched_hear.specs.Net.{BooksRun};
-ghost use Rattle.sched_hear.specs.Numbered.{event_by_numbers};
+ghost use Rattle.sched_net.specs.Net.{BooksRun};
+ghost use Rattle.sched_net.specs.Numbered.{event_by_numbers};
 ghost use Rattle.sched_run.specs.Code.Looking.{IsLane, IsTaker, LooksAt};
 ghost use Rattle.sched_run.specs.Code.Works.{is_taking, work_event, HasNames, AreWindowsOn, AreSizesWith, AreWorksOf, AreShown, IsOpenWork, StandsThere, MayLookAt, LooksAgain, LookedAt, LookedFor};
 
 use crate::lanes::{Lane, Taker, lanes, takers};
 use crate::looking::{can_take, look};
 use inbox::Feed;
-use sched_hear::{Books, NumberedEvent, NumberedPart};
+use sched_net::{Books, NumberedEvent, NumberedPart};
 use sched_turns::{Sizes, Stale, Window};
 use std::alloc::{AllocError, Global};
-use topo_types::Valid;
+use topo_forms::Valid;
 
 /// One open work: the message of a lane with an index, or a take.
 #[derive(Clone, Copy)]

@@ -1,13 +1,13 @@
 //! The tests of the buckets of a column.
 ghost use Rattle.std.specs.Prelude.{◌≡◌, ◌∷◌, map, IfOk};
-ghost use Rattle.bloom_ast.specs.Form.{formula_of};
-ghost use Rattle.row_laws.specs.Shards.{below_bound, buckets, from_bound};
-ghost use Rattle.bloom_ast.specs.Query.Formula.{both, compare};
-ghost use Rattle.bloom_ast.specs.declared.expr.Term.TheVariants.{Column, Literal};
+ghost use Rattle.bloom_forms.specs.Form.{formula_of};
+ghost use Rattle.bloom_forms.specs.Shards.{below_bound, buckets, from_bound};
+ghost use Rattle.bloom_forms.specs.Query.Formula.{both, compare};
+ghost use Rattle.bloom_forms.specs.declared.expr.Term.TheVariants.{Column, Literal};
 ghost use Rattle.blz_value.specs.declared.value.Value.TheVariants.{Int};
 ghost use Rattle.shard_buckets.specs.Buckets as spec;
 
-use bloom_ast::{Pred, Term};
+use bloom_forms::{Pred, Term};
 use blz_value::{Op, Str, Value};
 use std::alloc::{AllocError, Global};
 

@@ -2,9 +2,9 @@
 use Rattle.std.proofs.Common.{◌≡◌, ◌∙◌, ◌<◌, ◌+◌, ◌||◌, ℕ, Bool, true, false, [], ◌∷◌, refl, ap}
 use Rattle.std.specs.List.{list_any, range_with_len}
 use Rattle.std.proofs.lemmas.List.Folds.{list_any-append}
-use Rattle.topo_types.proofs.Regions.Spreading.{in_below}
+use Rattle.topo_forms.proofs.Regions.Spreading.{in_below}
 use Rattle.label_walk.proofs.Loops.{below_more}
-use Rattle.shard_copies.proofs.Walks.{any_has}
+use Rattle.shard_route.proofs.Walks.{any_has}
 
 -- one number that passes is enough
 pub found_below : (p : ℕ → Bool) (count n : ℕ) → n < count → p n ≡ true → list_any p (range_with_len 0 count) ≡ true

@@ -1,1 +1,6 @@
 pub mod Code
+pub mod Copies
+pub mod Routing
+pub mod Sharding
+pub mod Laws
+pub mod Copying

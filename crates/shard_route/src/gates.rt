@@ -1,15 +1,16 @@
 //! Whether a column's attribute lies in the gates of outputs.
 ghost use Rattle.std.specs.Prelude.{◌≡◌, ◌<◌, [], not, length, IfOk};
-ghost use Rattle.bloom_ast.specs.Program.{IsStock, output_columns};
-ghost use Rattle.path_annotate.specs.Annotation.{gate_of_output};
-ghost use Rattle.topo_types.specs.Attributes.{with_columns};
-ghost use Rattle.shard_copies.specs.Sharding as spec;
+ghost use Rattle.bloom_forms.specs.Program.{IsStock, output_columns};
+ghost use Rattle.bloom_forms.specs.Annotation.{gate_of_output};
+ghost use Rattle.topo_forms.specs.Attributes.{with_columns};
+ghost use Rattle.shard_route.specs.Sharding as spec;
 
-use bloom_ast::Program;
-use blz_value::Str;
-use path_trace::gate_of;
+use bloom_forms::Program;
+use blz_value::{Attrs, Str};
+use fd_closure::AttrNames;
+use path_annotate::gate_of;
 use std::alloc::{AllocError, Global};
-use topo_types::{AttrNames, Attrs, Valid};
+use topo_forms::Valid;
 
 // A list of these names, each once.
 fn names_of(alloc: Global, list: &[Str]) -> Result<AttrNames, AllocError>

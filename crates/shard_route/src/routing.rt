@@ -1,13 +1,14 @@
 //! The topology in which copies stand in the place of a component.
 ghost use Rattle.std.specs.Prelude.{◌≡◌, ◌++◌, map, IfOk, OnOk};
 ghost use Rattle.std.specs.List.{flat_map};
-ghost use Rattle.shard_copies.specs.Routing as spec;
+ghost use Rattle.shard_route.specs.Routing as spec;
 
+use crate::names::{file_of, numbered};
 use blz_value::{Items, Str};
-use shard_copies::{file_of, numbered};
 use std::alloc::{AllocError, Global};
-use topo_copy::{Copied, copy_all};
-use topo_types::{Body, ComponentEntry, SourceEntry, Spot, StreamEntry, Topology};
+use topo_forms::{
+    Body, ComponentEntry, Copied, SourceEntry, Spot, StreamEntry, Topology, copy_all,
+};
 
 // ---- ports and outputs
 

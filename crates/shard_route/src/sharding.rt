@@ -2,34 +2,35 @@
 ghost use Rattle.std.specs.Prelude.{ℕ, ◌≡◌, ◌≤◌, ◌<◌, None, false, map, length, IfOk};
 ghost use Rattle.std.specs.List.{filter_map};
 ghost use Rattle.blz_value.specs.Members.{Has};
-ghost use Rattle.bloom_ast.specs.Form.{formula_of};
-ghost use Rattle.bloom_ast.specs.Query.{Formula};
-ghost use Rattle.bloom_ast.specs.declared.program.Program.TheVariants.{Module};
-ghost use Rattle.topo_types.specs.Allowed.{IsAllowed};
-ghost use Rattle.topo_types.specs.Regions as regions;
-ghost use Rattle.topo_types.specs.Valid.{needs_module};
-ghost use Rattle.topo_types.specs.Validity.{fault_of};
-ghost use Rattle.topo_types.specs.ViewOf.{view_of};
-ghost use Rattle.topo_types.specs.View as view;
-ghost use Rattle.shard_copies.specs.Copying.{IsTestOf};
+ghost use Rattle.bloom_forms.specs.Form.{formula_of};
+ghost use Rattle.bloom_forms.specs.Query.{Formula};
+ghost use Rattle.bloom_forms.specs.declared.program.Program.TheVariants.{Module};
+ghost use Rattle.topo_forms.specs.Allowed.{IsAllowed};
+ghost use Rattle.topo_forms.specs.Regions as regions;
+ghost use Rattle.topo_forms.specs.Valid.{needs_module};
+ghost use Rattle.topo_forms.specs.Validity.{fault_of};
+ghost use Rattle.topo_forms.specs.ViewOf.{view_of};
+ghost use Rattle.topo_forms.specs.View as view;
+ghost use Rattle.shard_route.specs.Copying.{IsTestOf};
 ghost use Rattle.shard_route.specs.Code.Staged as code;
-ghost use Rattle.shard_copies.specs.Copies.{lacks_column as lacks};
-ghost use Rattle.shard_copies.specs.Sharding as spec;
-ghost use Rattle.shard_copies.specs.Sharding.{Answers};
+ghost use Rattle.shard_route.specs.Copies.{lacks_column as lacks};
+ghost use Rattle.shard_route.specs.Sharding as spec;
+ghost use Rattle.shard_route.specs.Sharding.{Answers};
 
+use crate::copies::{copies_for, lacks_column};
+use crate::fault::ShardFault;
 use crate::gates::lacks_in_gates;
+use crate::modules::sharded_modules;
+use crate::names::{file_of, has_bad_names, numbers_to};
 use crate::routing::sharded_topology;
-use bloom_ast::{Checked, Pred, Program};
+use crate::sharded::{ShardFile, Sharded};
+use bloom_forms::{Checked, Pred, Program};
 use blz_value::{Items, Str};
 use label_walk::cycle_of;
 use shard_buckets::bucket_tests;
-use shard_copies::{
-    ShardFault, ShardFile, Sharded, copies_for, file_of, has_bad_names, lacks_column, numbers_to,
-    sharded_modules,
-};
 use std::alloc::{AllocError, Global};
-use topo_check::validate;
-use topo_types::{Topology, Valid, ValidFault};
+use topo_forms::{Topology, Valid, ValidFault};
+use topo_types::validate;
 
 // What is asked for: the component of a topology, the column and the bounds by which it is split.
 #[derive(Drop)]

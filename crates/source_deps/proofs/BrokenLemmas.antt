@@ -5,9 +5,9 @@ use Rattle.std.specs.Option.{option_or}
 use Rattle.blz_value.specs.Members.{Has}
 use Rattle.blz_value.specs.Record.{Row}
 use Rattle.blz_value.proofs.Membership.{Has-map, Has-append_left, Has-append_right}
-use Rattle.fd_closure.specs.declared.attrs.Fd.{Fd}
-use Rattle.topo_types.specs.Data.{Data, SourceData, source_data, has_both, HoldsFd, Holds}
-use Rattle.topo_types.specs.View.{View, stream_at, stream_attrs, source_count}
+use Rattle.blz_value.specs.declared.attrs.Fd.{Fd}
+use Rattle.topo_forms.specs.Data.{Data, SourceData, source_data, has_both, HoldsFd, Holds}
+use Rattle.topo_forms.specs.View.{View, stream_at, stream_attrs, source_count}
 use Rattle.source_deps.specs.declared.dependencies.BrokenFd.{BrokenFd}
 use Rattle.source_deps.specs.Broken.{Sides, sides_of, sides_in, all_sides, disagree, first_such, pair_or, broken_pair, broken_by, first_broken_from, first_broken}
 use Rattle.source_deps.proofs.EarliestLemmas.{AllAgree, agree_more}

@@ -5,10 +5,10 @@ use Rattle.std.proofs.Math.Seq.{drop-cons}
 use Rattle.std.proofs.lemmas.List.{take_more, get_or-map, get_or_append_left, length-append, append-nil, length-map, map-append}
 use Rattle.std.proofs.lemmas.Grind.{flat_map-append}
 use Rattle.blz_value.specs.Record.{Row}
-use Rattle.fd_closure.specs.declared.attrs.Fd.{Fd}
-use Rattle.path_annotate.specs.Roots.{Roots}
-use Rattle.topo_types.specs.Data.{SourceData, has_both, key_places}
-use Rattle.topo_types.specs.View.{View, stream_at, stream_attrs}
+use Rattle.blz_value.specs.declared.attrs.Fd.{Fd}
+use Rattle.bloom_forms.specs.Roots.{Roots}
+use Rattle.topo_forms.specs.Data.{SourceData, has_both, key_places}
+use Rattle.topo_forms.specs.View.{View, stream_at, stream_attrs}
 use Rattle.source_deps.specs.declared.dependencies.Placed.{Placed}
 use Rattle.source_deps.specs.declared.dependencies.Sided.{Sided}
 use Rattle.source_deps.specs.Broken.{Sides, sides_in, disagree, first_such, pair_or, broken_pair}

@@ -4,10 +4,10 @@ use Rattle.std.specs.List.{flat_map, enumerate_from}
 use Rattle.std.specs.Option.{option_or}
 use Rattle.std.specs.Ordering.{eq_by_cmp}
 use Rattle.blz_value.specs.Record.{Row, record_cmp}
-use Rattle.fd_closure.specs.declared.attrs.Fd.{Fd}
-use Rattle.path_annotate.specs.Roots.{Roots}
-use Rattle.topo_types.specs.Data.{Data, SourceData, key_value, has_both}
-use Rattle.topo_types.specs.View.{View, stream_at, stream_attrs}
+use Rattle.blz_value.specs.declared.attrs.Fd.{Fd}
+use Rattle.bloom_forms.specs.Roots.{Roots}
+use Rattle.topo_forms.specs.Data.{Data, SourceData, key_value, has_both}
+use Rattle.topo_forms.specs.View.{View, stream_at, stream_attrs}
 use Rattle.source_deps.specs.declared.dependencies.BrokenFd.{BrokenFd}
 
 -- a record with its values on the two sides of a dependency

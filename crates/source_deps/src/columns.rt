@@ -1,14 +1,15 @@
 //! The columns of a source, and the places of a key's columns among them.
 ghost use Rattle.std.specs.Prelude.{◌≡◌, ◌<◌, Some, IfOk, length};
 ghost use Rattle.std.specs.List.{position_from};
-ghost use Rattle.fd_closure.specs.Bits.{members};
-ghost use Rattle.path_annotate.specs.Gates.{root_set, set_of_roots};
-ghost use Rattle.path_annotate.specs.Roots.{are_same};
-ghost use Rattle.topo_types.specs.Data.{place_of_attribute, key_places};
-ghost use Rattle.topo_types.specs.View as view;
+ghost use Rattle.blz_value.specs.Bits.{members};
+ghost use Rattle.bloom_forms.specs.Gates.{root_set, set_of_roots};
+ghost use Rattle.bloom_forms.specs.Roots.{are_same};
+ghost use Rattle.topo_forms.specs.Data.{place_of_attribute, key_places};
+ghost use Rattle.topo_forms.specs.View as view;
 
+use blz_value::Attrs;
 use std::alloc::{AllocError, Global};
-use topo_types::{Attrs, Valid};
+use topo_forms::Valid;
 
 /// The attributes of a stream's columns.
 pub fn columns_of(alloc: Global, valid: &Valid, stream: u32) -> Result<Vec<Option<u8>>, AllocError>

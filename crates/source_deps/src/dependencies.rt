@@ -4,17 +4,16 @@ ghost use Rattle.std.specs.List.{flat_map};
 ghost use Rattle.blz_value.specs.Test.{cell};
 ghost use Rattle.source_deps.specs.Broken as spec;
 ghost use Rattle.source_deps.specs.Code.Earliest.{IsRowAt, if_known, number_of, one_place, placed_sides, sides_view, values_of, with_side};
-ghost use Rattle.topo_types.specs.Data as held;
-ghost use Rattle.topo_types.specs.View as view;
+ghost use Rattle.topo_forms.specs.Data as held;
+ghost use Rattle.topo_forms.specs.View as view;
 
 use crate::columns::{attributes_of, columns_of, places_of};
-use crate::lists::SourceLists;
 use crate::sides::{Side, SideSet};
-use blz_value::Record;
+use blz_value::{Attrs, Fd, Record};
 use indexmap::IndexSet;
 use std::alloc::{AllocError, Global};
 use std::hash::BuildHasherDefault;
-use topo_types::{Attrs, Fd, Valid};
+use topo_forms::{SourceLists, Valid};
 
 /// The records of a source that has all columns of a dependency, and the places of the columns of its two
 /// sides.

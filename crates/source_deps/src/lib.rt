@@ -3,9 +3,8 @@
 
 mod columns;
 mod dependencies;
-mod lists;
 mod sides;
 
 pub use columns::{columns_of, places_of};
 pub use dependencies::{BrokenFd, first_broken};
-pub use lists::SourceLists;
+pub use topo_forms::SourceLists;

@@ -1,21 +1,21 @@
 -- What is found of a view is what its definitions say, step by step as the code finds it.
 use Rattle.std.proofs.Common.{◌≡◌, ℕ, Bool, Option, List, map, ap, ◌∙◌}
 use Rattle.std.specs.List.{enumerate_from}
-use Rattle.fd_closure.specs.declared.attrs.Attrs.{Attrs}
+use Rattle.blz_value.specs.declared.attrs.Attrs.{Attrs}
 use Rattle.topo_graph.specs.declared.lines.Line.{Line}
-use Rattle.topo_reach.specs.declared.carried.Path.{Path}
-use Rattle.topo_types.specs.Carried.{carries}
-use Rattle.topo_types.specs.Found.{HasEnds, usable_at}
+use Rattle.blz_value.specs.declared.carried.Path.{Path}
+use Rattle.topo_forms.specs.Carried.{carries}
+use Rattle.topo_forms.specs.Found.{HasEnds, usable_at}
 use Rattle.topo_graph.specs.Code.Lines.{all_into, lines_by, upholders_by, good_set, usable_by}
 use Rattle.topo_graph.specs.Code.Paths.{paths_by}
-use Rattle.topo_reach.specs.Carried.{carried_by}
+use Rattle.blz_value.specs.Carried.{carried_by}
 use Rattle.topo_graph.specs.Code.Ports.{all_rows}
-use Rattle.topo_types.specs.Dependencies.{upholders}
-use Rattle.topo_types.specs.Regions.{is_in_cycle}
-use Rattle.topo_types.specs.View.{View, component_numbers, stream_numbers}
+use Rattle.topo_forms.specs.Dependencies.{upholders}
+use Rattle.topo_forms.specs.Regions.{is_in_cycle}
+use Rattle.topo_forms.specs.View.{View, component_numbers, stream_numbers}
 use Rattle.topo_graph.proofs.LinesFound.{lines, upholders-same, usable-same}
 use Rattle.topo_graph.proofs.PathsFound.{carried-same}
-use Rattle.topo_types.proofs.Lists.Tables.{map_same}
+use Rattle.topo_forms.proofs.Lists.Tables.{map_same}
 
 module _ (v : View) (given : HasEnds v) where
   lines_are : (cs : List Bool) (into : List ℕ) (ls : List Line) → cs ≡ map (is_in_cycle v) (component_numbers v) → into ≡ all_into v → ls ≡ lines_by v cs into → ls ≡ lines v given

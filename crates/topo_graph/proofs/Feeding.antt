@@ -3,23 +3,23 @@ use Rattle.std.proofs.Common.{◌≡◌, ◌<◌, ◌⊎◌, inl, inr, ℕ, not,
 use Rattle.std.specs.Option.{option_map_or}
 use Rattle.std.proofs.lemmas.Bool.{cases_Bool, true≢false}
 use Rattle.std.proofs.lemmas.Bool.Decides.{nat_tests}
-use Rattle.fd_closure.specs.declared.attrs.Fd.{Fd}
-use Rattle.fd_closure.specs.Bits.{bit_of}
-use Rattle.fd_closure.specs.Closure.{within, closure, IsClosed}
-use Rattle.fd_closure.proofs.Within.{within-empty, or-within}
-use Rattle.fd_closure.proofs.Members.{meets-within, within-meets, in-within}
-use Rattle.fd_closure.proofs.Least.{closure-least}
-use Rattle.fd_closure.proofs.Reached.{least-one, closed-map}
+use Rattle.blz_value.specs.declared.attrs.Fd.{Fd}
+use Rattle.blz_value.specs.Bits.{bit_of}
+use Rattle.blz_value.specs.Closure.{within, closure, IsClosed}
+use Rattle.blz_value.proofs.Within.{within-empty, or-within}
+use Rattle.blz_value.proofs.Members.{meets-within, within-meets, in-within}
+use Rattle.blz_value.proofs.Least.{closure-least}
+use Rattle.blz_value.proofs.Reached.{least-one, closed-map}
 use Rattle.blz_value.specs.Members.{Has}
 use Rattle.blz_value.proofs.Membership.{Has-map, Has-from_map, Has-filter, Has-from_filter, Has-flat_map, Has-from_flat_map, Has-from_any, any_from_Has}
-use Rattle.bloom_ast.specs.Reads.{arrow_from, with_all, bit_if}
-use Rattle.bloom_ast.proofs.Collections.Chosen.{in_chosen, from_chosen}
+use Rattle.blz_value.specs.Arrows.{arrow_from, with_all, bit_if}
+use Rattle.bloom_forms.proofs.Collections.Chosen.{in_chosen, from_chosen}
 use Rattle.topo_graph.specs.Code.Feeders.{counts_into, sender_of, feeders}
-use Rattle.topo_types.specs.Found.{HasEnds}
-use Rattle.topo_types.specs.Graph.{Edge, arrow, arrows, is_in}
-use Rattle.topo_types.specs.Regions.{edges, edges_of, counting_ends}
-use Rattle.topo_types.specs.View.{View, End, origin_of, ends_of, is_order, goes_into, stream_numbers, component_numbers}
-use Rattle.topo_types.proofs.Regions.Spreading.{from_below, in_below, same_number, both_true, and_true}
+use Rattle.topo_forms.specs.Found.{HasEnds}
+use Rattle.blz_value.specs.Graph.{Edge, arrow, arrows, is_in}
+use Rattle.topo_forms.specs.Regions.{edges, edges_of, counting_ends}
+use Rattle.topo_forms.specs.View.{View, End, origin_of, ends_of, is_order, goes_into, stream_numbers, component_numbers}
+use Rattle.topo_forms.proofs.Regions.Spreading.{from_below, in_below, same_number, both_true, and_true}
 
 pub not_true : (b : Bool) → not b ≡ true → b ≡ false
 not_true true e = absurd (true≢false (sym e))

@@ -2,23 +2,23 @@
 use Rattle.std.proofs.Common.{◌≡◌, ◌<◌, inl, inr, ℕ, zero, suc, not, ◌&&◌, ◌||◌, nat_lt, nat_eq, Bool, true, false, if◌then◌else◌, Option, None, Some, List, [], ◌∷◌, map, length, get_or, refl, arith, ap, sym, subst, ◌∙◌, bit_or}
 use Rattle.std.specs.List.{list_any, find}
 use Rattle.std.proofs.lemmas.Bool.{cases_Bool, true≢false}
-use Rattle.fd_closure.specs.Bits.{bit_of, members}
-use Rattle.fd_closure.specs.Closure.{within}
-use Rattle.fd_closure.proofs.Members.{in-within, in-or}
+use Rattle.blz_value.specs.Bits.{bit_of, members}
+use Rattle.blz_value.specs.Closure.{within}
+use Rattle.blz_value.proofs.Members.{in-within, in-or}
 use Rattle.blz_value.specs.Members.{Has}
 use Rattle.blz_value.proofs.Membership.{Has-from_any, any_from_Has}
 use Rattle.topo_graph.specs.Code.Feeders.{feeders, all_feeders}
-use Rattle.topo_reach.specs.Regions.{together_by, region_by, is_blocked_by, is_next_by, next_by, regions_by, is_cyclic_by}
-use Rattle.topo_types.specs.Found.{HasEnds}
-use Rattle.topo_types.specs.Graph.{Edge, arrows, is_in, up, together, region, is_blocked, is_next, next, regions_from, is_cyclic_set}
-use Rattle.topo_types.specs.Regions.{edges}
-use Rattle.topo_types.specs.Sets.{below}
-use Rattle.topo_types.specs.View.{View}
+use Rattle.blz_value.specs.Regions.{together_by, region_by, is_blocked_by, is_next_by, next_by, regions_by, is_cyclic_by}
+use Rattle.topo_forms.specs.Found.{HasEnds}
+use Rattle.blz_value.specs.Graph.{Edge, arrows, is_in, up, together, region, is_blocked, is_next, next, regions_from, is_cyclic_set}
+use Rattle.topo_forms.specs.Regions.{edges}
+use Rattle.blz_value.specs.NumberSets.{below}
+use Rattle.topo_forms.specs.View.{View}
 use Rattle.topo_graph.proofs.Feeding.{feeder_arrows, not_true, own_number, edge-feeds, feeder-edge, feeders-within, bounds_of, closure-same}
-use Rattle.topo_types.proofs.Regions.Numbering.{any-none, find-some}
-use Rattle.topo_types.proofs.Regions.RegionOrder.{where_same}
-use Rattle.topo_types.proofs.Lists.Tables.{at_below}
-use Rattle.topo_types.proofs.Regions.Spreading.{from_below, in_below, same_truth, both_true, and_true, same_number}
+use Rattle.topo_forms.proofs.Regions.Numbering.{any-none, find-some}
+use Rattle.topo_forms.proofs.Regions.RegionOrder.{where_same}
+use Rattle.topo_forms.proofs.Lists.Tables.{at_below}
+use Rattle.topo_forms.proofs.Regions.Spreading.{from_below, in_below, same_truth, both_true, and_true, same_number}
 
 find_same : (f g : ℕ → Bool) (ns : List ℕ) → ((k : ℕ) → Has k ns → f k ≡ g k) → find f ns ≡ find g ns
 find_same f g [] same = refl

@@ -6,3 +6,12 @@ pub mod LinesFound
 pub mod PortsFound
 pub mod PathsFound
 pub mod AllFound
+pub mod Altered
+pub mod KeyNames
+pub mod NamedAttributes
+pub mod OtherModes
+pub mod OtherSites
+pub mod WithModeLaw
+pub mod Remoding
+pub mod ValidEnds
+pub mod NextWhole

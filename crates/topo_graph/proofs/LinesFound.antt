@@ -1,22 +1,22 @@
 -- What is found of lines is what dependencies say.
 use Rattle.std.proofs.Common.{◌≡◌, ◌<◌, ℕ, not, is_none, Bool, true, false, ◌&&◌, ◌||◌, Option, None, Some, List, map, length, get_or, refl, arith, ap, ◌∙◌, bit_or}
-use Rattle.fd_closure.specs.declared.attrs.Fd.{Fd}
-use Rattle.fd_closure.specs.Bits.{bit_of, meets}
-use Rattle.fd_closure.specs.Closure.{within, closure}
+use Rattle.blz_value.specs.declared.attrs.Fd.{Fd}
+use Rattle.blz_value.specs.Bits.{bit_of, meets}
+use Rattle.blz_value.specs.Closure.{within, closure}
 use Rattle.blz_value.specs.Members.{Has}
 use Rattle.blz_value.proofs.Membership.{Has-from_filter}
-use Rattle.bloom_ast.specs.Reads.{arrow_from, with_all, bit_if}
+use Rattle.blz_value.specs.Arrows.{arrow_from, with_all, bit_if}
 use Rattle.topo_graph.specs.declared.lines.Line.{Line}
-use Rattle.topo_types.specs.Found.{HasEnds, usable_at}
+use Rattle.topo_forms.specs.Found.{HasEnds, usable_at}
 use Rattle.topo_graph.specs.Code.Lines.{into_set, all_into, line_from, line_by, lines_by, alone_by, start_by, arrow_by, upholders_by, is_good, good_by, good_set, usable_by}
-use Rattle.topo_types.specs.Data.{has_both}
-use Rattle.topo_types.specs.Dependencies.{upholds_alone, hands_on, streams_before, upholders, upholds, has_to_with_from, is_usable}
-use Rattle.topo_types.specs.Graph.{is_in}
-use Rattle.topo_types.specs.Regions.{is_in_cycle}
-use Rattle.topo_types.specs.Sets.{spreading}
-use Rattle.topo_types.specs.View.{View, End, origin_of, has_body, is_order, goes_into, stream_attrs, own_attrs, output_at, streams_into, stream_numbers, component_numbers}
-use Rattle.topo_types.proofs.Regions.Spreading.{from_below, numbers_within}
-use Rattle.topo_types.proofs.Lists.Tables.{at_below, placed, map_on, all_on, where-is}
+use Rattle.topo_forms.specs.Data.{has_both}
+use Rattle.topo_forms.specs.Dependencies.{upholds_alone, hands_on, streams_before, upholders, upholds, has_to_with_from, is_usable}
+use Rattle.blz_value.specs.Graph.{is_in}
+use Rattle.topo_forms.specs.Regions.{is_in_cycle}
+use Rattle.blz_value.specs.NumberSets.{spreading}
+use Rattle.topo_forms.specs.View.{View, End, origin_of, has_body, is_order, goes_into, stream_attrs, own_attrs, output_at, streams_into, stream_numbers, component_numbers}
+use Rattle.topo_forms.proofs.Regions.Spreading.{from_below, numbers_within}
+use Rattle.topo_forms.proofs.Lists.Tables.{at_below, placed, map_on, all_on, where-is}
 
 grouped : (a b c d : Bool) → ((a && (b && c)) && d) ≡ (a && (b && (c && d)))
 grouped false b c d = refl

@@ -3,24 +3,25 @@ use Rattle.std.proofs.Common.{◌≡◌, ◌<◌, inl, inr, ℕ, nat_lt, Bool, �
 use Rattle.std.specs.List.{enumerate_from, list_all, zip}
 use Rattle.std.specs.Option.{option_and_then}
 use Rattle.std.proofs.lemmas.Bool.{cases_Bool}
-use Rattle.fd_closure.specs.declared.attrs.Attrs.{Attrs}
-use Rattle.fd_closure.specs.declared.attrs.Fd.{Fd}
-use Rattle.fd_closure.specs.Bits.{bit_of, meets}
-use Rattle.fd_closure.specs.Closure.{within, closure}
-use Rattle.bloom_ast.specs.Reads.{arrow_from, with_all, bit_if}
-use Rattle.topo_reach.specs.declared.carried.Path.{Path}
-use Rattle.topo_types.specs.Carried.{is_key, allows_notes, may_carry, streams_behind, streams_towards, carriers, carries_key, key_before, carries}
-use Rattle.topo_types.specs.Found.{HasEnds, usable_at}
+use Rattle.blz_value.specs.declared.attrs.Attrs.{Attrs}
+use Rattle.blz_value.specs.declared.attrs.Fd.{Fd}
+use Rattle.blz_value.specs.Bits.{bit_of, meets}
+use Rattle.blz_value.specs.Closure.{within, closure}
+use Rattle.blz_value.specs.Arrows.{arrow_from, with_all, bit_if}
+use Rattle.blz_value.specs.declared.carried.Path.{Path}
+use Rattle.topo_forms.specs.Carried.{allows_notes, may_carry, streams_behind, streams_towards, carriers, carries_key, key_before, carries}
+use Rattle.blz_value.specs.Arrows.{is_key}
+use Rattle.topo_forms.specs.Found.{HasEnds, usable_at}
 use Rattle.topo_graph.specs.Code.Paths.{fds_by, is_some_set, path_from, path_by, paths_by}
-use Rattle.topo_reach.specs.Carried.{start_by, arrow_by, carriers_by, carried_if, carried_by}
+use Rattle.blz_value.specs.Carried.{start_by, arrow_by, carriers_by, carried_if, carried_by}
 use Rattle.topo_graph.specs.Code.Ports.{all_rows, at_port}
-use Rattle.topo_types.specs.Dependencies.{is_usable, usable_fds}
-use Rattle.topo_types.specs.Graph.{is_in}
-use Rattle.topo_types.specs.Sets.{set_of_numbers, spreading}
-use Rattle.topo_types.specs.View.{View, End, origin_of, stream_at, output_at, own_attrs, has_body, has_stream, mode_of, mode_key, ports_towards, stream_numbers}
+use Rattle.topo_forms.specs.Dependencies.{is_usable, usable_fds}
+use Rattle.blz_value.specs.Graph.{is_in}
+use Rattle.blz_value.specs.NumberSets.{set_of_numbers, spreading}
+use Rattle.topo_forms.specs.View.{View, End, origin_of, stream_at, output_at, own_attrs, has_body, has_stream, mode_of, mode_key, ports_towards, stream_numbers}
 use Rattle.topo_graph.proofs.PortsFound.{behind_found, fed_found}
-use Rattle.topo_types.proofs.Regions.Spreading.{from_below}
-use Rattle.topo_types.proofs.Lists.Tables.{placed, map_on, where-is}
+use Rattle.topo_forms.proofs.Regions.Spreading.{from_below}
+use Rattle.topo_forms.proofs.Lists.Tables.{placed, map_on, where-is}
 
 fds-same : (test : Fd → Bool) (by : ℕ → Bool) (f : Fd → ℕ) (fds : List Fd) → ((fd : Fd) → by (f fd) ≡ test fd) → map (λ (pair : Fd × ℕ). pair.0) (filter (λ pair. by pair.1) (zip fds (map f fds))) ≡ filter test fds
 fds-same test by f [] same = refl

@@ -9,19 +9,19 @@ use Rattle.std.proofs.lemmas.Nat.{le_or_l, le_or_r, pow_pos}
 use Rattle.std.proofs.lemmas.Nat.Bits.{bit_at_or, same_from_bits}
 use Rattle.blz_value.specs.Members.{Has}
 use Rattle.blz_value.proofs.Membership.{Has-from_filter}
-use Rattle.fd_closure.specs.Bits.{bit_of}
-use Rattle.fd_closure.proofs.Members.{bit_of-is, or-empty}
-use Rattle.fd_closure.proofs.Within.{or-absorbs, within-or_r}
-use Rattle.bloom_ast.specs.Reads.{bit_if, with_all}
+use Rattle.blz_value.specs.Bits.{bit_of}
+use Rattle.blz_value.proofs.Members.{bit_of-is, or-empty}
+use Rattle.blz_value.proofs.Within.{or-absorbs, within-or_r}
+use Rattle.blz_value.specs.Arrows.{bit_if, with_all}
 use Rattle.topo_graph.specs.declared.ports.Feed.{Feed}
 use Rattle.topo_graph.specs.Code.Paths.{is_some_set}
 use Rattle.topo_graph.specs.Code.Ports.{feed_of, feeds_in, feeds_at, feeds_of, sets_into, set_of_port, row_of, all_rows, at_port}
-use Rattle.topo_types.specs.Carried.{streams_towards}
-use Rattle.topo_types.specs.Found.{into_port, into_ports}
-use Rattle.topo_types.specs.Sets.{set_of_numbers}
-use Rattle.topo_types.specs.View.{View, End, Component, component_at, component_numbers, no_component, ends_of, goes_to, has_stream, note_at, port_numbers, ports_towards, same_end, stream_numbers, streams_to}
-use Rattle.topo_types.proofs.Regions.Spreading.{from_below, same_number}
-use Rattle.topo_types.proofs.Lists.Tables.{at_below, below_more, map_on, map_same}
+use Rattle.topo_forms.specs.Carried.{streams_towards}
+use Rattle.topo_forms.specs.Found.{into_port, into_ports}
+use Rattle.blz_value.specs.NumberSets.{set_of_numbers}
+use Rattle.topo_forms.specs.View.{View, End, Component, component_at, component_numbers, no_component, ends_of, goes_to, has_stream, note_at, port_numbers, ports_towards, same_end, stream_numbers, streams_to}
+use Rattle.topo_forms.proofs.Regions.Spreading.{from_below, same_number}
+use Rattle.topo_forms.proofs.Lists.Tables.{at_below, below_more, map_on, map_same}
 
 -- ---- the loop over the streams
 

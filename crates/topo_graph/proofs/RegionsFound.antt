@@ -2,18 +2,18 @@
 use Rattle.std.proofs.Common.{◌≡◌, ◌≤◌, ℕ, zero, suc, Bool, Option, None, Some, List, [], ◌∷◌, map, length, get_or, refl, arith, ap, sym, ◌∙◌, bit_or}
 use Rattle.std.specs.List.{enumerate_from, position_or_len, range_with_len}
 use Rattle.std.proofs.lemmas.List.FromFn.{length-map-range_with_len}
-use Rattle.path_annotate.proofs.ByNumber.NumbersLemmas.{map-places}
+use Rattle.bloom_forms.proofs.ByNumber.NumbersLemmas.{map-places}
 use Rattle.topo_graph.specs.Code.Feeders.{feeders, all_feeders}
-use Rattle.topo_reach.specs.Regions.{feeding_arrow, ups_by, all_regions, sets_by, region_by, next_by, regions_by, is_cyclic_by}
-use Rattle.topo_types.specs.Found.{HasEnds}
-use Rattle.topo_types.specs.Graph.{arrows, is_in, up, region, is_cyclic_set}
-use Rattle.topo_types.specs.Regions.{edges, regions, region_of, region_set, is_in_cycle, is_cyclic}
-use Rattle.topo_types.specs.Sets.{below}
-use Rattle.topo_types.specs.View.{View, component_numbers}
+use Rattle.blz_value.specs.Regions.{feeding_arrow, ups_by, all_regions, sets_by, region_by, next_by, regions_by, is_cyclic_by}
+use Rattle.topo_forms.specs.Found.{HasEnds}
+use Rattle.blz_value.specs.Graph.{arrows, is_in, up, region, is_cyclic_set}
+use Rattle.topo_forms.specs.Regions.{edges, regions, region_of, region_set, is_in_cycle, is_cyclic}
+use Rattle.blz_value.specs.NumberSets.{below}
+use Rattle.topo_forms.specs.View.{View, component_numbers}
 use Rattle.topo_graph.proofs.Feeding.{feeder_arrows}
 use Rattle.topo_graph.proofs.FeedingRegions.{ups, sets, region-same, regions-same, cyclic-same}
-use Rattle.topo_types.proofs.Regions.Spreading.{from_below}
-use Rattle.topo_types.proofs.Lists.Tables.{placed, numbered, map_on, map_twice}
+use Rattle.topo_forms.proofs.Regions.Spreading.{from_below}
+use Rattle.topo_forms.proofs.Lists.Tables.{placed, numbered, map_on, map_twice}
 
 -- a list by its places
 table_places : {X Y : Type 0} (f : X → Y) (d : X) (xs : List X) → map (λ k. f (get_or xs k d)) (range_with_len 0 (length xs)) ≡ map f xs

@@ -2,3 +2,4 @@ pub mod Feeders
 pub mod Lines
 pub mod Paths
 pub mod Ports
+pub mod Chosen

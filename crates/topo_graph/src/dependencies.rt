@@ -1,16 +1,14 @@
 //! Which streams uphold a dependency, and where it is usable.
 ghost use Rattle.std.specs.Prelude.{◌≡◌, map, IfOk};
 ghost use Rattle.std.specs.List.{enumerate_from};
-ghost use Rattle.bloom_ast.specs.Reads as reads;
-ghost use Rattle.fd_closure.specs.Closure.{within};
+ghost use Rattle.blz_value.specs.Arrows as reads;
+ghost use Rattle.blz_value.specs.Closure.{within};
 ghost use Rattle.topo_graph.specs.Code.Lines as spec;
-ghost use Rattle.topo_types.specs.Data.{has_both};
+ghost use Rattle.topo_forms.specs.Data.{has_both};
 
 use crate::lines::Line;
-use fd_closure::Fd;
+use blz_value::{Fd, arrow, bit_if, closed, is_in, is_within, union_of};
 use std::alloc::{AllocError, Global};
-use topo_reach::{arrow, bit_if, closed, is_within, union_of};
-use topo_types::is_in;
 
 // Whether a set has all columns of the dependency.
 fn has_both_sides(fd: Fd, columns: u64) -> bool

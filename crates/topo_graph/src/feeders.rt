@@ -1,14 +1,14 @@
 //! The components that feed each component.
 ghost use Rattle.std.specs.Prelude.{◌≡◌, map, IfOk};
 ghost use Rattle.topo_graph.specs.Code.Feeders as spec;
-ghost use Rattle.topo_types.specs.Kept.{view_kept};
-ghost use Rattle.topo_types.specs.View.{stream_numbers};
-ghost use Rattle.bloom_ast.specs.Reads.{bit_if};
+ghost use Rattle.topo_forms.specs.Kept.{view_kept};
+ghost use Rattle.topo_forms.specs.View.{stream_numbers};
+ghost use Rattle.blz_value.specs.Arrows.{bit_if};
 
 use crate::lookups::{component_count, goes_into, is_order, origin_of, stream_count};
+use blz_value::{bit_if, union_of};
 use std::alloc::{AllocError, Global};
-use topo_reach::{bit_if, union_of};
-use topo_types::Kept;
+use topo_forms::Kept;
 
 // A stream of an output that goes into a component which isn't Order.
 fn counts_into(kept: &Kept, component: usize, stream: usize) -> bool
@@ -49,7 +49,7 @@ fn feeders(alloc: Global, kept: &Kept, component: usize) -> Result<u64, AllocErr
 }
 
 /// The components that feed each component.
-#[tactic(auto, using(topo_types::proofs::Lists::Tables::below_more))]
+#[tactic(auto, using(topo_forms::proofs::Lists::Tables::below_more))]
 pub(crate) fn all_feeders(alloc: Global, kept: &Kept) -> Result<Vec<u64>, AllocError>
     ensures { IfOk result (λ sets. sets.items ≡ spec.all_feeders (view_kept kept.now)) }
 {

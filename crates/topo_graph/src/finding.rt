@@ -1,24 +1,23 @@
 //! Finds the streams into ports, regions, dependencies and carried seals of a view, each once.
 ghost use Rattle.std.specs.Prelude.{◌≡◌, ◌<◌, ◌≤◌, map, length, position, IfOk, IfSome};
 ghost use Rattle.std.specs.List.{position_or_len};
-ghost use Rattle.topo_reach.specs.Regions as reach;
-ghost use Rattle.topo_types.specs.Found as spec;
-ghost use Rattle.topo_types.specs.Dependencies.{upholders};
-ghost use Rattle.topo_types.specs.Graph as graph;
-ghost use Rattle.topo_types.specs.Kept.{view_kept};
-ghost use Rattle.topo_types.specs.Regions as regions_spec;
-ghost use Rattle.topo_types.specs.Sets.{below};
-ghost use Rattle.topo_types.specs.View.{component_numbers, stream_numbers};
+ghost use Rattle.blz_value.specs.Regions as reach;
+ghost use Rattle.topo_forms.specs.Found as spec;
+ghost use Rattle.topo_forms.specs.Dependencies.{upholders};
+ghost use Rattle.blz_value.specs.Graph as graph;
+ghost use Rattle.topo_forms.specs.Kept.{view_kept};
+ghost use Rattle.topo_forms.specs.Regions as regions_spec;
+ghost use Rattle.blz_value.specs.NumberSets.{below};
+ghost use Rattle.topo_forms.specs.View.{component_numbers, stream_numbers};
 
 use crate::dependencies::{all_upholders, all_usable};
 use crate::feeders::all_feeders;
 use crate::lines::{all_into, lines_of};
 use crate::paths::paths_of;
 use crate::ports::all_rows;
-use blz_value::Items;
+use blz_value::{Items, all_carried, is_cyclic, is_in, regions_in, sets_of};
 use std::alloc::{AllocError, Global};
-use topo_reach::{all_carried, is_cyclic, regions_in, sets_of};
-use topo_types::{GraphFacts, Kept, is_in};
+use topo_forms::{GraphFacts, Kept};
 
 /// Regions, and which components are in a cyclic one.
 #[derive(Drop)]
@@ -63,7 +62,7 @@ fn number_of(regions: &[u64], component: usize) -> u32
     place_of(regions, component).unwrap_or(regions.len()) as u32
 }
 
-#[tactic(auto, using(topo_types::proofs::Lists::Tables::below_more))]
+#[tactic(auto, using(topo_forms::proofs::Lists::Tables::below_more))]
 fn numbers_of(alloc: Global, regions: &[u64], count: usize) -> Result<Vec<u32>, AllocError>
     requires { length regions.now ≤ 64 }
     ensures { IfOk result (λ numbers. numbers.items ≡ map (λ c. position_or_len (graph.is_in c) regions.now) (below count)) }

@@ -1,17 +1,17 @@
 //! What is asked of a stream again and again, found once.
 ghost use Rattle.std.specs.Prelude.{◌≡◌, false, map, slice_index_or, IfOk};
-ghost use Rattle.fd_closure.specs.Bits as bits;
+ghost use Rattle.blz_value.specs.Bits as bits;
 ghost use Rattle.topo_graph.specs.Code.Lines as spec;
-ghost use Rattle.topo_types.specs.Kept.{view_kept};
-ghost use Rattle.topo_types.specs.View as view;
+ghost use Rattle.topo_forms.specs.Kept.{view_kept};
+ghost use Rattle.topo_forms.specs.View as view;
 
 use crate::lookups::{
     component_count, goes_into, has_body, is_order, origin_of, own_attrs, stream_attrs,
     stream_count,
 };
+use blz_value::{bit_of, set_at, union_of};
 use std::alloc::{AllocError, Global};
-use topo_reach::{bit_of, set_at, union_of};
-use topo_types::Kept;
+use topo_forms::Kept;
 
 /// A stream, as dependencies look at it.
 #[derive(Drop)]
@@ -47,7 +47,7 @@ fn streams_into(alloc: Global, kept: &Kept, component: usize) -> Result<u64, All
 }
 
 /// The streams into each component.
-#[tactic(auto, using(topo_types::proofs::Lists::Tables::below_more))]
+#[tactic(auto, using(topo_forms::proofs::Lists::Tables::below_more))]
 pub(crate) fn all_into(alloc: Global, kept: &Kept) -> Result<Vec<u64>, AllocError>
     ensures { IfOk result (λ sets. sets.items ≡ spec.all_into (view_kept kept.now)) }
 {
@@ -105,7 +105,7 @@ fn line_of(
 }
 
 /// Each stream, as dependencies look at it.
-#[tactic(auto, using(topo_types::proofs::Lists::Tables::below_more))]
+#[tactic(auto, using(topo_forms::proofs::Lists::Tables::below_more))]
 pub(crate) fn lines_of(
     alloc: Global,
     kept: &Kept,

@@ -1,17 +1,15 @@
 //! Parts of a view by their numbers; past the end of a list stands a part that holds nothing.
 ghost use Rattle.std.specs.Prelude.{◌≡◌, ◌==◌, None, [], length, map, slice_index_or, IfOk};
-ghost use Rattle.path_annotate.specs.Gates as gates;
+ghost use Rattle.bloom_forms.specs.Gates as gates;
 ghost use Rattle.std.specs.List.{list_any, zip};
 ghost use Rattle.std.specs.Option.{option_map_or};
-ghost use Rattle.topo_types.specs.Kept.{view_kept, output_kept};
-ghost use Rattle.topo_types.specs.View as view;
+ghost use Rattle.topo_forms.specs.Kept.{view_kept, output_kept};
+ghost use Rattle.topo_forms.specs.View as view;
 
-use blz_value::Items;
-use fd_closure::Attrs;
-use path_annotate::Note;
+use bloom_forms::{Mode, Note};
+use blz_value::{Attrs, Items, bit_of, union_of};
 use std::alloc::{AllocError, Global};
-use topo_reach::{bit_of, union_of};
-use topo_types::{Kept, KeptOutput, Mode};
+use topo_forms::{Kept, KeptOutput};
 
 // The set of a root.
 fn root_set(root: Option<u8>) -> u64

@@ -2,22 +2,20 @@
 ghost use Rattle.std.specs.Prelude.{◌≡◌, true, map, IfOk};
 ghost use Rattle.std.specs.List.{list_all};
 ghost use Rattle.std.specs.Option.{option_map_or};
-ghost use Rattle.topo_types.specs.Carried as carried;
+ghost use Rattle.topo_forms.specs.Carried as carried;
 ghost use Rattle.topo_graph.specs.Code.Paths as spec;
 ghost use Rattle.topo_graph.specs.Code.Ports as ports_spec;
-ghost use Rattle.topo_types.specs.Kept.{view_kept};
-ghost use Rattle.topo_types.specs.View as view;
+ghost use Rattle.topo_forms.specs.Kept.{view_kept};
+ghost use Rattle.topo_forms.specs.View as view;
 
 use crate::lookups::{
     gate_at, has_body, key_of, mode_of, note_at, origin_of, own_attrs, port_count, stream_count,
 };
 use crate::ports::set_of;
-use blz_value::Items;
-use fd_closure::{Attrs, Fd};
-use path_annotate::Note;
+use bloom_forms::{Mode, Note};
+use blz_value::{Attrs, Fd, Items, Path, closed, is_in, union_of};
 use std::alloc::{AllocError, Global};
-use topo_reach::{Path, closed, union_of};
-use topo_types::{Kept, Mode, is_in};
+use topo_forms::Kept;
 
 // The ports with a note towards an output.
 fn ports_towards(
@@ -175,7 +173,7 @@ fn path_of(
 }
 
 /// Each stream, as carried seals look at it.
-#[tactic(auto, using(topo_types::proofs::Lists::Tables::below_more))]
+#[tactic(auto, using(topo_forms::proofs::Lists::Tables::below_more))]
 pub(crate) fn paths_of(
     alloc: Global,
     kept: &Kept,

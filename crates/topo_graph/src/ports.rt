@@ -2,14 +2,13 @@
 //! component, and each of its ports takes its own from these.
 ghost use Rattle.std.specs.Prelude.{◌≡◌, ◌++◌, map, IfOk, OnOk};
 ghost use Rattle.topo_graph.specs.Code.Ports as spec;
-ghost use Rattle.topo_types.specs.Kept.{view_kept};
-ghost use Rattle.topo_types.specs.Sets.{below};
+ghost use Rattle.topo_forms.specs.Kept.{view_kept};
+ghost use Rattle.blz_value.specs.NumberSets.{below};
 
 use crate::lookups::{component_count, port_count, stream_count};
-use blz_value::Items;
+use blz_value::{Items, bit_of, set_at};
 use std::alloc::{AllocError, Global};
-use topo_reach::{bit_of, set_at};
-use topo_types::Kept;
+use topo_forms::Kept;
 
 /// A port of a component to which a stream goes, with the set of that stream.
 #[derive(Clone, Copy)]
@@ -94,7 +93,7 @@ fn row_of(alloc: Global, kept: &Kept, component: usize) -> Result<Items<u64>, Al
 }
 
 /// The streams into each port of each component.
-#[tactic(auto, using(topo_types::proofs::Lists::Tables::below_more))]
+#[tactic(auto, using(topo_forms::proofs::Lists::Tables::below_more))]
 pub(crate) fn all_rows(alloc: Global, kept: &Kept) -> Result<Vec<Items<u64>>, AllocError>
     ensures { IfOk result (λ rows. rows.items ≡ spec.all_rows (view_kept kept.now)) }
 {

@@ -3,9 +3,9 @@ use Rattle.std.proofs.Common.{◌≡◌, ◌≤◌, ◌&&◌, ◌||◌, inl, inr
 use Rattle.std.specs.List.{list_all}
 use Rattle.std.proofs.lemmas.Bool.{eqb-true, or_cases, true≢false}
 use Rattle.std.proofs.lemmas.Bool.Decides.{nat_tests}
-use Rattle.topo_types.specs.declared.topology.FdEntry.{FdEntry}
-use Rattle.topo_types.specs.declared.topology.Topology.{Topology}
-use Rattle.topo_types.specs.Allowed.{IsAllowed, are_some_names, allows_source, allows_component, allows_stream, allows_side, allows_fd}
+use Rattle.topo_forms.specs.declared.topology.FdEntry.{FdEntry}
+use Rattle.topo_forms.specs.declared.topology.Topology.{Topology}
+use Rattle.topo_forms.specs.Allowed.{IsAllowed, are_some_names, allows_source, allows_component, allows_stream, allows_side, allows_fd}
 use Rattle.topo_read.proofs.ReadBackValues.{both}
 
 and_true : (a b : Bool) → a ≡ true → b ≡ true → (a && b) ≡ true

@@ -5,20 +5,20 @@ use Rattle.std.specs.Prelude.{codes}
 use Rattle.std.proofs.lemmas.Bool.Decides.{nat_tests}
 use Rattle.toml.specs.Data.{Data, Members, as_integer, as_table}
 use Rattle.blz_value.specs.Name.{is_name}
-use Rattle.topo_types.specs.Allowed.{are_names, are_some_names, is_spot, is_side, is_empty, allows_source, allows_stock, allows_body, allows_note, allows_key, allows_component, allows_stream, allows_side, allows_fd, is_allowed, IsAllowed}
-use Rattle.topo_types.specs.declared.topology.ColumnType.{ColumnType}
-use Rattle.topo_types.specs.declared.topology.ComponentEntry.{ComponentEntry}
-use Rattle.topo_types.specs.declared.topology.FdEntry.{FdEntry}
-use Rattle.topo_types.specs.declared.topology.SourceEntry.{SourceEntry}
-use Rattle.topo_types.specs.declared.topology.StreamEntry.{StreamEntry}
-use Rattle.topo_types.specs.declared.topology.Topology.{Topology}
-use Rattle.topo_types.specs.declared.topology.Side.{Side}
-use Rattle.topo_types.specs.declared.topology.Body.{Body}
-use Rattle.topo_types.specs.declared.topology.Body.TheVariants as bodies
-use Rattle.topo_types.specs.declared.topology.Stock.{Stock}
-use Rattle.topo_types.specs.declared.topology.Stock.TheVariants as stocks
-use Rattle.topo_types.specs.declared.topology.ModeName.{ModeName}
-use Rattle.topo_types.specs.declared.topology.ModeName.TheVariants as modes
+use Rattle.topo_forms.specs.Allowed.{are_names, are_some_names, is_spot, is_side, is_empty, allows_source, allows_stock, allows_body, allows_note, allows_key, allows_component, allows_stream, allows_side, allows_fd, is_allowed, IsAllowed}
+use Rattle.topo_forms.specs.declared.topology.ColumnType.{ColumnType}
+use Rattle.topo_forms.specs.declared.topology.ComponentEntry.{ComponentEntry}
+use Rattle.topo_forms.specs.declared.topology.FdEntry.{FdEntry}
+use Rattle.topo_forms.specs.declared.topology.SourceEntry.{SourceEntry}
+use Rattle.topo_forms.specs.declared.topology.StreamEntry.{StreamEntry}
+use Rattle.topo_forms.specs.declared.topology.Topology.{Topology}
+use Rattle.topo_forms.specs.declared.topology.Side.{Side}
+use Rattle.topo_forms.specs.declared.topology.Body.{Body}
+use Rattle.topo_forms.specs.declared.topology.Body.TheVariants as bodies
+use Rattle.topo_forms.specs.declared.topology.Stock.{Stock}
+use Rattle.topo_forms.specs.declared.topology.Stock.TheVariants as stocks
+use Rattle.topo_forms.specs.declared.topology.ModeName.{ModeName}
+use Rattle.topo_forms.specs.declared.topology.ModeName.TheVariants as modes
 use Rattle.topo_read.specs.declared.values.FileName.{FileName}
 use Rattle.topo_read.specs.declared.values.Format.{Format}
 use Rattle.topo_read.specs.declared.values.Format.TheVariants.{One, Two}

@@ -5,13 +5,13 @@ use Rattle.std.specs.Prelude.{codes}
 use Rattle.std.proofs.lemmas.Bool.Decides.{nat_tests}
 use Rattle.toml.specs.Data.{Data, Items, no_items, item, Members, get_member, as_str, as_array, as_table}
 use Rattle.blz_value.specs.Name.{is_name}
-use Rattle.topo_types.specs.Allowed.{are_names, are_some_names, is_spot, is_side, allows_gate, allows_note, allows_side}
-use Rattle.topo_types.specs.declared.topology.ColumnType.{ColumnType}
-use Rattle.topo_types.specs.declared.topology.Declared.{Declared}
-use Rattle.topo_types.specs.declared.topology.NoteName.{NoteName}
-use Rattle.topo_types.specs.declared.topology.NoteName.TheVariants.{CR, CW, OR, OW}
-use Rattle.topo_types.specs.declared.topology.Side.{Side}
-use Rattle.topo_types.specs.declared.topology.Spot.{Spot}
+use Rattle.topo_forms.specs.Allowed.{are_names, are_some_names, is_spot, is_side, allows_gate, allows_note, allows_side}
+use Rattle.topo_forms.specs.declared.topology.ColumnType.{ColumnType}
+use Rattle.topo_forms.specs.declared.topology.Declared.{Declared}
+use Rattle.topo_forms.specs.declared.topology.NoteName.{NoteName}
+use Rattle.topo_forms.specs.declared.topology.NoteName.TheVariants.{CR, CW, OR, OW}
+use Rattle.topo_forms.specs.declared.topology.Side.{Side}
+use Rattle.topo_forms.specs.declared.topology.Spot.{Spot}
 use Rattle.topo_read.specs.declared.values.FileName.{FileName}
 use Rattle.topo_read.specs.declared.values.Format.{Format}
 use Rattle.topo_read.specs.declared.values.Format.TheVariants.{One, Two}

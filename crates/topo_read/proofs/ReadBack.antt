@@ -6,14 +6,14 @@ use Rattle.blz_value.specs.Members.{Has}
 use Rattle.blz_value.proofs.Membership.{all_member}
 use Rattle.toml.specs.Data.{Data, string, integer, depth, items_depth, members_depth, Members, as_table, get_member}
 use Rattle.toml.specs.View.{items_of}
-use Rattle.topo_types.specs.declared.topology.ColumnType.{ColumnType}
-use Rattle.topo_types.specs.declared.topology.ColumnType.TheVariants as type
-use Rattle.topo_types.specs.declared.topology.ComponentEntry.{ComponentEntry}
-use Rattle.topo_types.specs.declared.topology.FdEntry.{FdEntry}
-use Rattle.topo_types.specs.declared.topology.SourceEntry.{SourceEntry}
-use Rattle.topo_types.specs.declared.topology.StreamEntry.{StreamEntry}
-use Rattle.topo_types.specs.declared.topology.Topology.{Topology}
-use Rattle.topo_types.specs.Allowed.{IsAllowed, allows_source, allows_component, allows_stream, allows_fd}
+use Rattle.topo_forms.specs.declared.topology.ColumnType.{ColumnType}
+use Rattle.topo_forms.specs.declared.topology.ColumnType.TheVariants as type
+use Rattle.topo_forms.specs.declared.topology.ComponentEntry.{ComponentEntry}
+use Rattle.topo_forms.specs.declared.topology.FdEntry.{FdEntry}
+use Rattle.topo_forms.specs.declared.topology.SourceEntry.{SourceEntry}
+use Rattle.topo_forms.specs.declared.topology.StreamEntry.{StreamEntry}
+use Rattle.topo_forms.specs.declared.topology.Topology.{Topology}
+use Rattle.topo_forms.specs.Allowed.{IsAllowed, allows_source, allows_component, allows_stream, allows_fd}
 use Rattle.topo_read.specs.declared.values.Format.TheVariants.{Two}
 use Rattle.topo_read.specs.Component.{component_of}
 use Rattle.topo_read.specs.Entries.{source_of, stream_of, fd_of}

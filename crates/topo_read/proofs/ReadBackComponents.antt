@@ -7,24 +7,24 @@ use Rattle.blz_value.specs.Members.{Has}
 use Rattle.blz_value.specs.Name.{is_name}
 use Rattle.blz_value.proofs.Membership.{all_member}
 use Rattle.toml.specs.Data.{Data, string, integer, table, as_integer, get_member, Members}
-use Rattle.topo_types.specs.declared.topology.Body.{Body}
-use Rattle.topo_types.specs.declared.topology.Body.TheVariants as body
-use Rattle.topo_types.specs.declared.topology.ColumnType.{ColumnType}
-use Rattle.topo_types.specs.declared.topology.ColumnType.TheVariants as type
-use Rattle.topo_types.specs.declared.topology.ComponentEntry.{ComponentEntry}
-use Rattle.topo_types.specs.declared.topology.Declared.{Declared}
-use Rattle.topo_types.specs.declared.topology.FdEntry.{FdEntry}
-use Rattle.topo_types.specs.declared.topology.ModeName.{ModeName}
-use Rattle.topo_types.specs.declared.topology.ModeName.TheVariants as mode
-use Rattle.topo_types.specs.declared.topology.NoteName.{NoteName}
-use Rattle.topo_types.specs.declared.topology.NoteName.TheVariants as note
-use Rattle.topo_types.specs.declared.topology.Side.{Side}
-use Rattle.topo_types.specs.declared.topology.SourceEntry.{SourceEntry}
-use Rattle.topo_types.specs.declared.topology.Spot.{Spot}
-use Rattle.topo_types.specs.declared.topology.Stock.{Stock}
-use Rattle.topo_types.specs.declared.topology.Stock.TheVariants as stock
-use Rattle.topo_types.specs.declared.topology.StreamEntry.{StreamEntry}
-use Rattle.topo_types.specs.Allowed.{are_names, are_some_names, is_empty, is_spot, is_side, allows_source, allows_stock, allows_body, allows_gate, allows_note, allows_key, allows_component, allows_stream, allows_side, allows_fd}
+use Rattle.topo_forms.specs.declared.topology.Body.{Body}
+use Rattle.topo_forms.specs.declared.topology.Body.TheVariants as body
+use Rattle.topo_forms.specs.declared.topology.ColumnType.{ColumnType}
+use Rattle.topo_forms.specs.declared.topology.ColumnType.TheVariants as type
+use Rattle.topo_forms.specs.declared.topology.ComponentEntry.{ComponentEntry}
+use Rattle.topo_forms.specs.declared.topology.Declared.{Declared}
+use Rattle.topo_forms.specs.declared.topology.FdEntry.{FdEntry}
+use Rattle.topo_forms.specs.declared.topology.ModeName.{ModeName}
+use Rattle.topo_forms.specs.declared.topology.ModeName.TheVariants as mode
+use Rattle.topo_forms.specs.declared.topology.NoteName.{NoteName}
+use Rattle.topo_forms.specs.declared.topology.NoteName.TheVariants as note
+use Rattle.topo_forms.specs.declared.topology.Side.{Side}
+use Rattle.topo_forms.specs.declared.topology.SourceEntry.{SourceEntry}
+use Rattle.topo_forms.specs.declared.topology.Spot.{Spot}
+use Rattle.topo_forms.specs.declared.topology.Stock.{Stock}
+use Rattle.topo_forms.specs.declared.topology.Stock.TheVariants as stock
+use Rattle.topo_forms.specs.declared.topology.StreamEntry.{StreamEntry}
+use Rattle.topo_forms.specs.Allowed.{are_names, are_some_names, is_empty, is_spot, is_side, allows_source, allows_stock, allows_body, allows_gate, allows_note, allows_key, allows_component, allows_stream, allows_side, allows_fd}
 use Rattle.topo_read.specs.declared.values.FileName.{FileName}
 use Rattle.topo_read.specs.declared.values.Format.TheVariants.{Two}
 use Rattle.topo_read.specs.declared.values.StockName.{StockName}

@@ -9,14 +9,14 @@ use Rattle.blz_value.specs.Name.{is_name, is_name_byte, starts_name}
 use Rattle.blz_value.proofs.Membership.{all_member}
 use Rattle.toml.specs.Data.{Data, string, Items, item, array, Members, get_member}
 use Rattle.toml.specs.View.{items_of}
-use Rattle.topo_types.specs.declared.topology.ColumnType.{ColumnType}
-use Rattle.topo_types.specs.declared.topology.ColumnType.TheVariants as type
-use Rattle.topo_types.specs.declared.topology.NoteName.{NoteName}
-use Rattle.topo_types.specs.declared.topology.NoteName.TheVariants as note
-use Rattle.topo_types.specs.declared.topology.Declared.{Declared}
-use Rattle.topo_types.specs.declared.topology.Side.{Side}
-use Rattle.topo_types.specs.declared.topology.Spot.{Spot}
-use Rattle.topo_types.specs.Allowed.{is_empty, is_spot, are_names, are_some_names}
+use Rattle.topo_forms.specs.declared.topology.ColumnType.{ColumnType}
+use Rattle.topo_forms.specs.declared.topology.ColumnType.TheVariants as type
+use Rattle.topo_forms.specs.declared.topology.NoteName.{NoteName}
+use Rattle.topo_forms.specs.declared.topology.NoteName.TheVariants as note
+use Rattle.topo_forms.specs.declared.topology.Declared.{Declared}
+use Rattle.topo_forms.specs.declared.topology.Side.{Side}
+use Rattle.topo_forms.specs.declared.topology.Spot.{Spot}
+use Rattle.topo_forms.specs.Allowed.{is_empty, is_spot, are_names, are_some_names}
 use Rattle.topo_read.specs.declared.values.Format.TheVariants.{Two}
 use Rattle.topo_read.specs.Fill.{list_data, unless_empty}
 use Rattle.topo_read.specs.Tables.{at_key, maybe_at_key, list_at_key, lacks, none_or_list, none_or_some, has_only, side_of, gate_of, declared_of, up_to_eight, fd_names_at}

@@ -1,14 +1,14 @@
 -- Components: the entry that a table gives, or the path of its first break.
 use Rattle.std.specs.Prelude.{ℕ, ℤ, pos, List, [], ◌∷◌, Option, Some, None, unwrap_or, Result, Ok, Err, codes}
 use Rattle.toml.specs.Data.{Members, as_integer}
-use Rattle.topo_types.specs.declared.topology.ComponentEntry.{ComponentEntry}
-use Rattle.topo_types.specs.declared.topology.Side.{Side}
-use Rattle.topo_types.specs.declared.topology.Body.{Body}
-use Rattle.topo_types.specs.declared.topology.Body.TheVariants as bodies
-use Rattle.topo_types.specs.declared.topology.Stock.{Stock}
-use Rattle.topo_types.specs.declared.topology.Stock.TheVariants as stocks
-use Rattle.topo_types.specs.declared.topology.ModeName.{ModeName}
-use Rattle.topo_types.specs.declared.topology.ModeName.TheVariants as modes
+use Rattle.topo_forms.specs.declared.topology.ComponentEntry.{ComponentEntry}
+use Rattle.topo_forms.specs.declared.topology.Side.{Side}
+use Rattle.topo_forms.specs.declared.topology.Body.{Body}
+use Rattle.topo_forms.specs.declared.topology.Body.TheVariants as bodies
+use Rattle.topo_forms.specs.declared.topology.Stock.{Stock}
+use Rattle.topo_forms.specs.declared.topology.Stock.TheVariants as stocks
+use Rattle.topo_forms.specs.declared.topology.ModeName.{ModeName}
+use Rattle.topo_forms.specs.declared.topology.ModeName.TheVariants as modes
 use Rattle.topo_read.specs.declared.values.FileName.{FileName}
 use Rattle.topo_read.specs.declared.values.StockName.{StockName}
 use Rattle.topo_read.specs.declared.values.StockName.TheVariants as named

@@ -1,11 +1,11 @@
 -- Sources, streams and dependencies, each the table of its kind: the entry, or the path of the first break.
 use Rattle.std.specs.Prelude.{ℕ, List, [], ◌∷◌, length, map, Option, Some, None, unwrap_or, Result, Ok, Err, codes}
 use Rattle.toml.specs.Data.{Members}
-use Rattle.topo_types.specs.declared.topology.SourceEntry.{SourceEntry}
-use Rattle.topo_types.specs.declared.topology.ColumnType.{ColumnType}
-use Rattle.topo_types.specs.declared.topology.ColumnType.TheVariants.{Any}
-use Rattle.topo_types.specs.declared.topology.StreamEntry.{StreamEntry}
-use Rattle.topo_types.specs.declared.topology.FdEntry.{FdEntry}
+use Rattle.topo_forms.specs.declared.topology.SourceEntry.{SourceEntry}
+use Rattle.topo_forms.specs.declared.topology.ColumnType.{ColumnType}
+use Rattle.topo_forms.specs.declared.topology.ColumnType.TheVariants.{Any}
+use Rattle.topo_forms.specs.declared.topology.StreamEntry.{StreamEntry}
+use Rattle.topo_forms.specs.declared.topology.FdEntry.{FdEntry}
 use Rattle.topo_read.specs.declared.values.Format.{Format}
 use Rattle.topo_read.specs.declared.values.Format.TheVariants.{One, Two}
 use Rattle.topo_read.specs.Values.{name_in, some_names_in, spot_in, types_in}

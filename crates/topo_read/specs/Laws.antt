@@ -1,7 +1,7 @@
 -- What is written is read as the same topology.
 use Rattle.std.specs.Prelude.{◌≡◌, Ok}
-use Rattle.topo_types.specs.declared.topology.Topology.{Topology}
-use Rattle.topo_types.specs.Allowed.{IsAllowed}
+use Rattle.topo_forms.specs.declared.topology.Topology.{Topology}
+use Rattle.topo_forms.specs.Allowed.{IsAllowed}
 use Rattle.topo_read.specs.Topology.{topology_of}
 use Rattle.topo_read.specs.Written.{table_of}
 

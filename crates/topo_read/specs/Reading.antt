@@ -1,7 +1,7 @@
 -- How a reading of a file's bytes ends.
 use Rattle.std.specs.Prelude.{◌≡◌, ℕ, List, Some, None, Result, Ok, Err}
 use Rattle.toml.specs.Data.{Members}
-use Rattle.topo_types.specs.declared.topology.Topology.{Topology}
+use Rattle.topo_forms.specs.declared.topology.Topology.{Topology}
 use Rattle.topo_read.specs.declared.fault.TopoTextFault.{TopoTextFault}
 use Rattle.topo_read.specs.declared.fault.TopoTextFault.TheVariants.{NotToml, Form, NoMemory}
 use Rattle.topo_read.specs.Document.{document_of}

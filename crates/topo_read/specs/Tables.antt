@@ -5,10 +5,10 @@ use Rattle.std.specs.Cmp.Lexicographic.{slice_cmp}
 use Rattle.std.specs.Ordering.{nat_cmp, is_lt}
 use Rattle.std.specs.Str.{bytes_eq}
 use Rattle.toml.specs.Data.{Data, Members, no_members, member, get_member, as_table}
-use Rattle.topo_types.specs.declared.topology.Side.{Side}
-use Rattle.topo_types.specs.declared.topology.Declared.{Declared}
-use Rattle.topo_types.specs.declared.topology.NoteName.{NoteName}
-use Rattle.topo_types.specs.declared.topology.NoteName.TheVariants.{CR, CW, OR, OW}
+use Rattle.topo_forms.specs.declared.topology.Side.{Side}
+use Rattle.topo_forms.specs.declared.topology.Declared.{Declared}
+use Rattle.topo_forms.specs.declared.topology.NoteName.{NoteName}
+use Rattle.topo_forms.specs.declared.topology.NoteName.TheVariants.{CR, CW, OR, OW}
 use Rattle.topo_read.specs.declared.values.Format.{Format}
 use Rattle.topo_read.specs.declared.values.Format.TheVariants.{One, Two}
 use Rattle.topo_read.specs.Values.{◌>>=◌, only_if, name_in, names_in, some_names_in, note_in, list_in}

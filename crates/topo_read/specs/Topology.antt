@@ -2,7 +2,7 @@
 use Rattle.std.specs.Prelude.{ℕ, ◌+◌, List, [], ◌∷◌, ◌++◌, Result, Ok, Err, codes}
 use Rattle.std.specs.Fmt.{decimal}
 use Rattle.toml.specs.Data.{Members, as_table}
-use Rattle.topo_types.specs.declared.topology.Topology.{Topology}
+use Rattle.topo_forms.specs.declared.topology.Topology.{Topology}
 use Rattle.topo_read.specs.Values.{format_in}
 use Rattle.topo_read.specs.Fields.{◌>>=◌, Path, required, optional_list, only_keys}
 use Rattle.topo_read.specs.Entries.{source_of, stream_of, fd_of}

@@ -4,13 +4,13 @@ use Rattle.std.specs.List.{position_or_len, before_first, after_first}
 use Rattle.std.specs.Str.{bytes_eq}
 use Rattle.toml.specs.Data.{Data, Items, no_items, item, as_str, as_array, as_integer}
 use Rattle.blz_value.specs.Name.{is_name}
-use Rattle.topo_types.specs.declared.topology.Spot.{Spot}
-use Rattle.topo_types.specs.declared.topology.ColumnType.{ColumnType}
-use Rattle.topo_types.specs.declared.topology.ColumnType.TheVariants as types
-use Rattle.topo_types.specs.declared.topology.NoteName.{NoteName}
-use Rattle.topo_types.specs.declared.topology.NoteName.TheVariants as notes
-use Rattle.topo_types.specs.declared.topology.ModeName.{ModeName}
-use Rattle.topo_types.specs.declared.topology.ModeName.TheVariants as modes
+use Rattle.topo_forms.specs.declared.topology.Spot.{Spot}
+use Rattle.topo_forms.specs.declared.topology.ColumnType.{ColumnType}
+use Rattle.topo_forms.specs.declared.topology.ColumnType.TheVariants as types
+use Rattle.topo_forms.specs.declared.topology.NoteName.{NoteName}
+use Rattle.topo_forms.specs.declared.topology.NoteName.TheVariants as notes
+use Rattle.topo_forms.specs.declared.topology.ModeName.{ModeName}
+use Rattle.topo_forms.specs.declared.topology.ModeName.TheVariants as modes
 use Rattle.topo_read.specs.declared.values.Format.{Format}
 use Rattle.topo_read.specs.declared.values.Format.TheVariants.{One, Two}
 use Rattle.topo_read.specs.declared.values.FileName.{FileName}

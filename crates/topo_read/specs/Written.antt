@@ -2,24 +2,24 @@
 use Rattle.std.specs.Prelude.{ℕ, ℤ, pos, negsuc, Bool, true, false, ◌==◌, if◌then◌else◌, List, [], ◌∷◌, ◌++◌, Option, None, Some, codes}
 use Rattle.std.specs.List.{list_all}
 use Rattle.toml.specs.Data.{Data, string, integer, Members}
-use Rattle.topo_types.specs.declared.topology.Spot.{Spot}
-use Rattle.topo_types.specs.declared.topology.ColumnType.{ColumnType}
-use Rattle.topo_types.specs.declared.topology.ColumnType.TheVariants as type
-use Rattle.topo_types.specs.declared.topology.SourceEntry.{SourceEntry}
-use Rattle.topo_types.specs.declared.topology.Side.{Side}
-use Rattle.topo_types.specs.declared.topology.NoteName.{NoteName}
-use Rattle.topo_types.specs.declared.topology.NoteName.TheVariants as note
-use Rattle.topo_types.specs.declared.topology.Declared.{Declared}
-use Rattle.topo_types.specs.declared.topology.Stock.{Stock}
-use Rattle.topo_types.specs.declared.topology.Stock.TheVariants as stock
-use Rattle.topo_types.specs.declared.topology.Body.{Body}
-use Rattle.topo_types.specs.declared.topology.Body.TheVariants as body
-use Rattle.topo_types.specs.declared.topology.ModeName.{ModeName}
-use Rattle.topo_types.specs.declared.topology.ModeName.TheVariants as mode
-use Rattle.topo_types.specs.declared.topology.ComponentEntry.{ComponentEntry}
-use Rattle.topo_types.specs.declared.topology.StreamEntry.{StreamEntry}
-use Rattle.topo_types.specs.declared.topology.FdEntry.{FdEntry}
-use Rattle.topo_types.specs.declared.topology.Topology.{Topology}
+use Rattle.topo_forms.specs.declared.topology.Spot.{Spot}
+use Rattle.topo_forms.specs.declared.topology.ColumnType.{ColumnType}
+use Rattle.topo_forms.specs.declared.topology.ColumnType.TheVariants as type
+use Rattle.topo_forms.specs.declared.topology.SourceEntry.{SourceEntry}
+use Rattle.topo_forms.specs.declared.topology.Side.{Side}
+use Rattle.topo_forms.specs.declared.topology.NoteName.{NoteName}
+use Rattle.topo_forms.specs.declared.topology.NoteName.TheVariants as note
+use Rattle.topo_forms.specs.declared.topology.Declared.{Declared}
+use Rattle.topo_forms.specs.declared.topology.Stock.{Stock}
+use Rattle.topo_forms.specs.declared.topology.Stock.TheVariants as stock
+use Rattle.topo_forms.specs.declared.topology.Body.{Body}
+use Rattle.topo_forms.specs.declared.topology.Body.TheVariants as body
+use Rattle.topo_forms.specs.declared.topology.ModeName.{ModeName}
+use Rattle.topo_forms.specs.declared.topology.ModeName.TheVariants as mode
+use Rattle.topo_forms.specs.declared.topology.ComponentEntry.{ComponentEntry}
+use Rattle.topo_forms.specs.declared.topology.StreamEntry.{StreamEntry}
+use Rattle.topo_forms.specs.declared.topology.FdEntry.{FdEntry}
+use Rattle.topo_forms.specs.declared.topology.Topology.{Topology}
 use Rattle.topo_read.specs.Fill.{Field, table_with, table_data, list_data, unless_empty}
 
 -- ---- values

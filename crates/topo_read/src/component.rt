@@ -11,7 +11,7 @@ use crate::values::{FileName, Format, StockName};
 use blz_value::{Items, Str};
 use std::alloc::Global;
 use toml::Table;
-use topo_types::{Body, ComponentEntry, ModeName, Side, Stock};
+use topo_forms::{Body, ComponentEntry, ModeName, Side, Stock};
 
 #[tactic(auto, unfolding(crate::specs::Component::stock_with))]
 fn stock_with(

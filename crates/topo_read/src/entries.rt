@@ -16,7 +16,7 @@ use crate::values::{Format, types_in};
 use blz_value::{Items, Str};
 use std::alloc::{AllocError, Global};
 use toml::Table;
-use topo_types::{ColumnType, FdEntry, SourceEntry, StreamEntry};
+use topo_forms::{ColumnType, FdEntry, SourceEntry, StreamEntry};
 
 /// An entry that a table gives in a file of this format. The path of a break is the key in the table.
 pub(crate) trait FromTable: Drop + Sized {

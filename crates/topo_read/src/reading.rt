@@ -7,7 +7,7 @@ ghost use Rattle.topo_read.specs.Gives.{Gives, GivesValue, IsBreakAt, GivesDocum
 ghost use Rattle.topo_read.specs.Reading.{IsReading};
 ghost use Rattle.topo_read.specs.Topology as spec;
 ghost use Rattle.topo_read.specs.Values.{all_in};
-ghost use Rattle.topo_types.specs.Allowed.{IsAllowed};
+ghost use Rattle.topo_forms.specs.Allowed.{IsAllowed};
 ghost use Rattle.topo_read.specs.Tables.{list_at_key};
 
 use crate::entries::FromTable;
@@ -18,7 +18,7 @@ use crate::values::Format;
 use blz_value::Items;
 use std::alloc::Global;
 use toml::{Table, Value};
-use topo_types::Topology;
+use topo_forms::Topology;
 
 fn tables_in<'a>(alloc: Global, values: &'a [Value]) -> Result<Vec<&'a Table>, ValueFault>
     ensures { GivesValue (λ tables. map (λ table. table_view table.now) tables.items) result (all_in as_table (items_view values.now)) }

@@ -14,7 +14,7 @@ use crate::values::{Format, FromValue, list_in};
 use blz_value::{Items, Str};
 use std::alloc::{AllocError, Global};
 use toml::{Table, Value};
-use topo_types::{Declared, NoteName, Side};
+use topo_forms::{Declared, NoteName, Side};
 
 /// The value at a key.
 pub(crate) fn get<'a>(table: &'a Table, key: &str) -> Option<&'a Value>

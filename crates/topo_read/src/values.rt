@@ -9,7 +9,7 @@ use crate::fault::ValueFault;
 use blz_value::{Items, Str, is_name};
 use std::alloc::Global;
 use toml::Value;
-use topo_types::{ColumnType, ModeName, NoteName, Spot};
+use topo_forms::{ColumnType, ModeName, NoteName, Spot};
 
 /// What a value of one form gives.
 pub(crate) trait FromValue: Drop + Sized {

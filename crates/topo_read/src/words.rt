@@ -7,7 +7,7 @@ ghost use Rattle.topo_read.specs.Written as spec;
 use crate::fill::{IntoValue, text};
 use std::alloc::{AllocError, Global};
 use toml::Value;
-use topo_types::{ColumnType, NoteName, Spot};
+use topo_forms::{ColumnType, NoteName, Spot};
 
 // Two names with a dot between them.
 fn dotted(alloc: Global, component: &str, port: &str) -> Result<String, AllocError>

@@ -8,15 +8,14 @@ ghost use Rattle.topo_read.specs.Document.{document_of};
 ghost use Rattle.topo_read.specs.Fill.{table_with, with_field, with_value};
 ghost use Rattle.topo_read.specs.Reading.{IsReading};
 ghost use Rattle.topo_read.specs.Written as spec;
-ghost use Rattle.topo_types.specs.Allowed.{IsAllowed};
+ghost use Rattle.topo_forms.specs.Allowed.{IsAllowed};
 
 use crate::fill::{IntoValue, list, number, put, put_list, table_value, text};
 use std::alloc::{AllocError, Global};
 use toml::{Table, Value};
-use topo_copy::Copied;
-use topo_types::{
-    Body, ColumnType, ComponentEntry, Declared, FdEntry, ModeName, Side, SourceEntry, Stock,
-    StreamEntry, Topology, Valid,
+use topo_forms::{
+    Body, ColumnType, ComponentEntry, Copied, Declared, FdEntry, ModeName, Side, SourceEntry,
+    Stock, StreamEntry, Topology, Valid,
 };
 
 // ---- sources

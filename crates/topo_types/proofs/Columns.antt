@@ -1,4 +1,3 @@
 -- Columns, and the attributes that they name.
-pub mod AttributeNames
-pub mod SmallSides
-pub mod OwnPorts
+pub mod Growing
+pub mod BodyColumns

@@ -1,2 +1,3 @@
 -- Lists and their elements.
-pub mod Tables
+pub mod Distinct
+pub mod Positions

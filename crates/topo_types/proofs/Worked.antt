@@ -1,4 +1,2 @@
--- Worked topologies.
-pub mod WordCount
-pub mod Gossip
-pub mod WorkedFeeds
+-- Worked topologies with faults.
+pub mod Refusals

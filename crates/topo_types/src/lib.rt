@@ -1,26 +1,19 @@
-//! A topology as it is written, by its names, and a topology without a fault, by its numbers.
+//! The front of topologies, and the check of one: its first fault, or the topology with its parts by their
+//! numbers. The types lie in `topo_forms`, what is found of a view and changed modes in `topo_graph`.
 #![tactic(auto)]
 
-mod fault;
-mod graph_facts;
-mod index;
-mod kept;
-mod laws;
-mod mode;
-mod sets;
-mod topology;
-mod valid;
+mod validation;
+mod validity;
+mod view;
 
-pub use fault::{TopoFault, TopoKind, TopoPlace, ValidFault};
-pub use fd_closure::{AttrNames, Attrs, Fd};
-pub use graph_facts::GraphFacts;
-pub use kept::{Kept, KeptComponent, KeptOutput, KeptPort, KeptStream};
-pub use laws::{carried_law, regions_law, valid_law};
-pub use mode::Mode;
-pub use path_annotate::Note;
-pub use sets::is_in;
-pub use topology::{
-    Body, ColumnType, ComponentEntry, Declared, FdEntry, ModeName, NoteName, Side, SourceEntry,
-    Spot, Stock, StreamEntry, Topology,
+pub use bloom_forms::{Mode, Note};
+pub use blz_value::{Attrs, Fd, is_in};
+pub use fd_closure::AttrNames;
+pub use topo_forms::{
+    Body, ColumnType, ComponentEntry, Declared, FdEntry, GraphFacts, Kept, KeptComponent,
+    KeptOutput, KeptPort, KeptStream, ModeName, NoteName, Side, SourceEntry, Spot, Stock,
+    StreamEntry, TopoFault, TopoKind, TopoPlace, Topology, Valid, ValidFault, carried_law, carries,
+    goes_to, regions_law, upholds, usable, valid_law,
 };
-pub use valid::{Valid, carries, goes_to, upholds, usable};
+pub use topo_graph::{WithMode, other_modes_law, replace_mode, with_mode_law};
+pub use validation::validate;

@@ -5,10 +5,10 @@ use Rattle.std.specs.List.Sorted.{IsPermutation}
 use Rattle.std.proofs.lemmas.Bool.Decides.{nat_tests}
 use Rattle.std.proofs.lemmas.List.Recursion.{is_sum_by}
 use Rattle.std.proofs.lemmas.List.Sorted.{sum_by-IsPermutation}
-use Rattle.bloom_ast.specs.declared.program.Program.{Program}
-use Rattle.blz_boxes.specs.declared.kind.ProgramKind.{ProgramKind}
-use Rattle.blz_boxes.specs.Kind.{kind_of}
-use Rattle.topo_types.specs.View.{View, program_of}
+use Rattle.bloom_forms.specs.declared.program.Program.{Program}
+use Rattle.bloom_eval.specs.declared.kind.ProgramKind.{ProgramKind}
+use Rattle.bloom_eval.specs.Kind.{kind_of}
+use Rattle.topo_forms.specs.View.{View, program_of}
 use Rattle.sched_bench.specs.declared.fault.OpenFault.{OpenFault}
 use Rattle.sched_bench.specs.declared.fault.OpenFault.TheVariants.{NoBody, NoShell, NoMemory}
 use Rattle.sched_bench.proofs.BenchKinds.{opening_by_kinds}

@@ -7,20 +7,20 @@ use Rattle.std.proofs.lemmas.Bool.Decides.{nat_tests}
 use Rattle.blz_set.specs.References.{shown}
 use Rattle.blz_value.specs.Record.{Row}
 use Rattle.blz_value.specs.RecordOrder.{record_cmp_total}
-use Rattle.bloom_ast.specs.declared.program.Program.{Program}
-use Rattle.bloom_ast.specs.Step.{Sets}
-use Rattle.topo_types.specs.Messages.{is_same_row}
-use Rattle.topo_types.specs.View.{View, stream_replicas}
+use Rattle.bloom_forms.specs.declared.program.Program.{Program}
+use Rattle.bloom_forms.specs.Step.{Sets}
+use Rattle.topo_forms.specs.Messages.{is_same_row}
+use Rattle.topo_forms.specs.View.{View, stream_replicas}
 use Rattle.inbox.specs.Executions.{Execution, first_execution, contents}
 use Rattle.inbox.specs.Wiring.{wiring_of}
-use Rattle.sched_hear.specs.Net.{Stands, execution_in}
-use Rattle.sched_hear.specs.declared.books.Books.{Books}
-use Rattle.sched_run.specs.Making.{Line, steps_of}
-use Rattle.replay_run.specs.Steps.{after_lines, Applied, Applies}
-use Rattle.sched_run.specs.Reading.{IsRead}
-use Rattle.replay_run.specs.declared.running.StepRefusal.{StepRefusal}
-use Rattle.replay_run.specs.declared.step.Step.TheVariants as named
-use Rattle.replay_run.proofs.FirstLemmas.{applied_first}
+use Rattle.sched_net.specs.Net.{Stands, execution_in}
+use Rattle.sched_net.specs.declared.books.Books.{Books}
+use Rattle.sched_net.specs.ScheduleLines.{Line, steps_of}
+use Rattle.sched_net.specs.Steps.{after_lines, Applied, Applies}
+use Rattle.sched_net.specs.Reading.{IsRead}
+use Rattle.sched_net.specs.declared.running.StepRefusal.{StepRefusal}
+use Rattle.sched_net.specs.declared.step.Step.TheVariants as named
+use Rattle.sched_net.proofs.FirstLemmas.{applied_first}
 use Rattle.why_trace.specs.Trim.{Wanted, has_record, has_at_end, yields}
 use Rattle.why_trace.specs.Code.Trials.{Sought, is_yielded_by, TellsFound}
 

@@ -2,15 +2,15 @@
 use Rattle.std.specs.Prelude.{ℕ, ◌&&◌, nat_lt, Bool, false, Result, Ok, Err, List}
 use Rattle.std.specs.List.{list_any}
 use Rattle.blz_value.specs.Record.{Row}
-use Rattle.topo_types.specs.Data.{Data}
-use Rattle.topo_types.specs.Messages.{is_same_row}
-use Rattle.topo_types.specs.View.{View, stream_replicas}
+use Rattle.topo_forms.specs.Data.{Data}
+use Rattle.topo_forms.specs.Messages.{is_same_row}
+use Rattle.topo_forms.specs.View.{View, stream_replicas}
 use Rattle.inbox.specs.Executions.{Execution, first_execution, contents}
 use Rattle.inbox.specs.Wiring.{wiring_of}
-use Rattle.sched_run.specs.Making.{Line}
-use Rattle.replay_run.specs.Steps.{after_lines}
-use Rattle.replay_run.specs.declared.running.StepRefusal.{StepRefusal}
-use Rattle.replay_run.specs.declared.step.Step.TheVariants as named
+use Rattle.sched_net.specs.ScheduleLines.{Line}
+use Rattle.sched_net.specs.Steps.{after_lines}
+use Rattle.sched_net.specs.declared.running.StepRefusal.{StepRefusal}
+use Rattle.sched_net.specs.declared.step.Step.TheVariants as named
 use Rattle.why_trace.specs.Passes.{trim_by}
 
 -- a record that is looked for, with its stream and the sending replica

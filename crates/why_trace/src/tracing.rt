@@ -4,19 +4,18 @@ ghost use Rattle.std.specs.Prelude.{◌≡◌, ◌<◌, ℕ, IfOk, OnOk, None, l
 ghost use Rattle.std.specs.List.{remove};
 ghost use Rattle.std.specs.List.Sorted.{IsPermutation};
 ghost use Rattle.sched_bench.specs.Bench.{fault_of_opening};
-ghost use Rattle.topo_types.specs.Data.{IsData};
+ghost use Rattle.topo_forms.specs.Data.{IsData};
 ghost use Rattle.why_trace.specs.Passes.{without_needless, one_pass, trim_by, IsSublist};
 ghost use Rattle.why_trace.specs.Trim.{wanted, yields, trim};
 ghost use Rattle.why_trace.specs.Code.Trials.{sought_of, is_yielded_by};
 
 use crate::copies::copies_of_lines;
 use crate::trial::Trial;
-use blz_boxes::Component;
+use bloom_eval::Component;
 use blz_value::Record;
-use data_read::Data;
 use sched_text::{Event, Schedule};
 use std::alloc::{AllocError, Global};
-use topo_types::Valid;
+use topo_forms::{Data, Valid};
 
 impl Trial<'_> {
     // Leaves the line at a place out where the others yield the record.

@@ -1,22 +1,22 @@
 //! A trial: some lines happen on a net of their own, and then its contents are looked at.
 ghost use Rattle.std.specs.Prelude.{◌≡◌, ◌≢◌, ◌++◌, [], IfOk, OnOk, None, false, map};
 ghost use Rattle.std.specs.List.Sorted.{IsPermutation};
-ghost use Rattle.emitted.specs.declared.fault.EventFault.TheVariants as event_faults;
+ghost use Rattle.messages.specs.declared.fault.EventFault.TheVariants as event_faults;
 ghost use Rattle.sched_bench.specs.Bench.{fault_of_opening};
-ghost use Rattle.sched_hear.specs.Net.{BooksRun, Stands};
-ghost use Rattle.sched_run.specs.Reading.{IsRead};
-ghost use Rattle.topo_types.specs.Data.{IsData};
+ghost use Rattle.sched_net.specs.Net.{BooksRun, Stands};
+ghost use Rattle.sched_net.specs.Reading.{IsRead};
+ghost use Rattle.topo_forms.specs.Data.{IsData};
 ghost use Rattle.why_trace.specs.Trim.{has_record};
 ghost use Rattle.why_trace.specs.Code.Trials.{sought_of, is_yielded_by, TellsFound};
 
-use blz_boxes::Component;
+use bloom_eval::Component;
 use blz_value::Record;
-use data_read::Data;
-use replay_run::{StepRefusal, run};
-use sched_run::{EventFault, Net, OpenFault};
+use messages::EventFault;
+use sched_bench::OpenFault;
+use sched_net::{Net, StepRefusal, run};
 use sched_text::Event;
 use std::alloc::{AllocError, Global};
-use topo_types::Valid;
+use topo_forms::{Data, Valid};
 
 // Opens a net where the bench has a shell for each instance.
 fn opened<'a>(

@@ -7,10 +7,10 @@ use Rattle.std.proofs.lemmas.List.FromFn.{length-map-range_with_len, get_or-map-
 use Rattle.std.proofs.lemmas.Option.{same_Some, slice_get-map, slice_get_read, slice_get_within, get_or_from_slice_get}
 use Rattle.blz_value.specs.Record.{Row}
 use Rattle.blz_value.specs.Sets.{set_of}
-use Rattle.topo_types.specs.Data.{Data}
-use Rattle.topo_types.specs.Sets.{below}
-use Rattle.topo_types.specs.View.{View, stream_numbers, stream_replicas}
-use Rattle.topo_types.proofs.Regions.Numbering.{find-some}
+use Rattle.topo_forms.specs.Data.{Data}
+use Rattle.blz_value.specs.NumberSets.{below}
+use Rattle.topo_forms.specs.View.{View, stream_numbers, stream_replicas}
+use Rattle.topo_forms.proofs.Regions.Numbering.{find-some}
 use Rattle.inbox.specs.Executions.{Execution, contents}
 use Rattle.inbox.specs.Wiring.{wiring_of}
 use Rattle.witness_check.specs.declared.difference.Difference.{Difference}

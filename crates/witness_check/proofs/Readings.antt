@@ -2,14 +2,14 @@
 use Rattle.std.proofs.Common.{◌≡◌, ◌+◌, ◌<◌, ℕ, List, [], ◌∷◌, ◌++◌, map, length, length-append, refl, ap, ◌∙◌, sym, subst, arith}
 use Rattle.std.proofs.lemmas.List.FromFn.{map-range_with_len_more}
 use Rattle.blz_value.specs.Record.{Row}
-use Rattle.topo_types.specs.Data.{Data}
-use Rattle.topo_types.specs.Sets.{below}
-use Rattle.topo_types.specs.View.{View, stream_replicas}
+use Rattle.topo_forms.specs.Data.{Data}
+use Rattle.blz_value.specs.NumberSets.{below}
+use Rattle.topo_forms.specs.View.{View, stream_replicas}
 use Rattle.inbox.specs.Executions.{Execution, contents}
 use Rattle.inbox.specs.Wiring.{wiring_of}
-use Rattle.sched_hear.specs.Net.{BooksRun, execution_in}
-use Rattle.sched_hear.specs.declared.books.Books.{Books}
-use Rattle.sched_run.specs.Reading.{IsRead}
+use Rattle.sched_net.specs.Net.{BooksRun, execution_in}
+use Rattle.sched_net.specs.declared.books.Books.{Books}
+use Rattle.sched_net.specs.Reading.{IsRead}
 use Rattle.witness_check.specs.Difference.{HasPlaces, snapshot}
 use Rattle.witness_check.proofs.DifferenceLemmas.{has_places}
 

@@ -4,10 +4,10 @@ use Rattle.std.specs.List.{list_any}
 use Rattle.std.specs.Option.{option_map, option_or}
 use Rattle.blz_value.specs.Record.{Row}
 use Rattle.blz_value.specs.Sets.{set_of}
-use Rattle.topo_types.specs.Data.{Data}
-use Rattle.topo_types.specs.Messages.{is_same_row}
-use Rattle.topo_types.specs.Sets.{below}
-use Rattle.topo_types.specs.View.{View, stream_numbers, stream_replicas}
+use Rattle.topo_forms.specs.Data.{Data}
+use Rattle.topo_forms.specs.Messages.{is_same_row}
+use Rattle.blz_value.specs.NumberSets.{below}
+use Rattle.topo_forms.specs.View.{View, stream_numbers, stream_replicas}
 use Rattle.inbox.specs.Executions.{Execution, contents}
 use Rattle.inbox.specs.Wiring.{wiring_of}
 use Rattle.witness_check.specs.declared.difference.Which.{Which}

@@ -2,8 +2,8 @@
 use Rattle.std.proofs.Common.{◌≡◌, List, [], ◌∷◌, length, slice_index_or, subst, sym, arith}
 use Rattle.std.specs.List.{All}
 use Rattle.blz_value.specs.Record.{Row}
-use Rattle.bloom_ast.specs.Query.{Name}
-use Rattle.bloom_ast.specs.Widths.{AreSetsOf}
+use Rattle.bloom_forms.specs.Query.{Name}
+use Rattle.bloom_forms.specs.Widths.{AreSetsOf}
 
 pub two_ports_wide : (columns : List (List Name)) (first second : List Row) → length columns ≡ 2 → length (slice_index_or columns 0 []) ≡ 2 → length (slice_index_or columns 1 []) ≡ 2
     → All (λ row. length row ≡ 2) first → All (λ row. length row ≡ 2) second → AreSetsOf columns (first ∷ second ∷ [])

@@ -1,7 +1,7 @@
 -- What rows show of a call, which they name, over the bytes of a file.
 use Rattle.std.specs.Prelude.{◌≡◌, ℕ, List, [], ◌∷◌, ◌++◌, Option, None, Some, codes}
 use Rattle.std.specs.Fmt.{decimal}
-use Rattle.bloom_ast.specs.Form.{Form}
+use Rattle.bloom_forms.specs.Form.{Form}
 use Rattle.bloom_parse.specs.Layout.{printed}
 use Rattle.bloom_parse.specs.Parsing.{IsTextOf}
 use Rattle.sched_text.specs.declared.event.Event.{Event}

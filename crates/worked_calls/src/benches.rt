@@ -1,10 +1,10 @@
 //! Two shells that the program hasn't: one that tells what it kept, and one that has no memory.
 ghost use Rattle.std.specs.Prelude.{◌≡◌, [], None, IsSome};
-ghost use Rattle.blz_boxes.specs.declared.kind.ProgramKind.TheVariants.{Latest as LatestKind};
+ghost use Rattle.bloom_eval.specs.declared.kind.ProgramKind.TheVariants.{Latest as LatestKind};
 
-use bloom_ast::Program;
-use bloom_eval::{Arrivals, Outs, StepFault};
-use blz_boxes::{Component, LatestShell};
+use bloom_eval::{Arrivals, Component, Outs, StepFault};
+use bloom_forms::Program;
+use blz_boxes::LatestShell;
 use blz_set::RecordSet;
 use blz_value::write_record;
 use std::alloc::{AllocError, Global};

@@ -2,19 +2,17 @@
 ghost use Rattle.std.specs.Prelude.{◌≡◌, ◌≤◌, Some, IfOk, vec_len};
 ghost use Rattle.blz_outside.specs.MemFiles.{bytes_at};
 ghost use Rattle.command_checks.specs.Checks as check;
-ghost use Rattle.command_files.specs.Ends.{Ends};
-ghost use Rattle.command_files.specs.Script.{Ending};
-ghost use Rattle.topo_types.specs.Data.{IsData};
+ghost use Rattle.command_checks.specs.Ends.{Ends};
+ghost use Rattle.command_checks.specs.Script.{Ending};
+ghost use Rattle.topo_forms.specs.Data.{IsData};
 ghost use Rattle.worked_calls.specs.Told.{told_of};
 
 use anyhow::{Result, bail};
 use blz_outside::{End, Files, MemFiles};
-use command_checks::{data_file, valid_topology};
-use command_files::schedule_file;
-use data_read::Data;
+use command_checks::{data_file, schedule_file, valid_topology};
 use sched_text::Schedule;
 use std::alloc::Global;
-use topo_types::Valid;
+use topo_forms::{Data, Valid};
 
 /// The most bytes of a file.
 pub const FILE_LIMIT: usize = 16_777_216;

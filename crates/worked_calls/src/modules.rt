@@ -4,7 +4,7 @@ ghost use Rattle.worked_calls.specs.Shown.{IsModuleShown};
 
 use crate::roots::roots_shown;
 use anyhow::{Result, bail};
-use bloom_check::check;
+use bloom_ast::check;
 use bloom_parse::{ParseFault, parse, print, tokens};
 use std::alloc::{AllocError, Global};
 

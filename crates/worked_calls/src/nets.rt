@@ -1,22 +1,22 @@
 //! What is shown of a net: the schedule that it makes, how many records it keeps, and what was emitted.
 ghost use Rattle.std.specs.Prelude.{◌≡◌, ◌<◌, OnOk, length, map};
-ghost use Rattle.sched_hear.specs.Net.{BooksRun};
+ghost use Rattle.sched_net.specs.Net.{BooksRun};
 ghost use Rattle.sched_run.specs.Making.{RunsFirst};
-ghost use Rattle.topo_types.specs.Data.{IsData};
+ghost use Rattle.topo_forms.specs.Data.{IsData};
 
 use crate::benches::PoorShell;
 use crate::inputs::{given_of, schedule_of, valid_of};
 use anyhow::{Result, bail};
-use blz_boxes::{Component, PlainShell, SplitShell};
+use bloom_eval::Component;
+use blz_boxes::{PlainShell, SplitShell};
 use blz_outside::MemFiles;
 use blz_value::{Record, write_record};
-use data_read::Data;
-use inbox::Message;
-use replay_run::{StepRefusal, run};
-use sched_run::{Net, make};
+use messages::Message;
+use sched_net::{Net, StepRefusal, run};
+use sched_run::make;
 use sched_text::{Event, print};
 use std::alloc::Global;
-use topo_types::Valid;
+use topo_forms::{Data, Valid};
 
 /// The schedule that is made of the seed 0 over a topology and data, as it is printed.
 pub(crate) fn made_shown(

@@ -1,13 +1,13 @@
 //! What is shown of the roots of a module's outputs.
 ghost use Rattle.std.specs.Prelude.{◌<◌, ◌-◌, ◌^◌, IfOk, length};
-ghost use Rattle.bloom_ast.specs.Program.{IsStock, output_columns};
+ghost use Rattle.bloom_forms.specs.Program.{IsStock, output_columns};
 
 use anyhow::Result;
-use bloom_ast::{Checked, Collection, Kind, Program};
-use bloom_check::check;
+use bloom_ast::check;
+use bloom_forms::{Checked, Collection, Kind, Program};
 use bloom_parse::parse;
 use fd_closure::AttrNames;
-use path_trace::roots;
+use path_annotate::roots;
 use std::alloc::Global;
 
 /// A line for each output of the module of a text, with the root of each of its columns. The attributes are

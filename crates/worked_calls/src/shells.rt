@@ -1,16 +1,16 @@
 //! Three boxed shells, with a module, with Number and with Latest: what they put out step by step, and what
 //! they keep.
 ghost use Rattle.std.specs.Prelude.{◌≡◌, ◌<◌, ◌-◌, ◌^◌, ◌∷◌, [], codes, length, Some, IsSome, IfOk, All};
-ghost use Rattle.bloom_ast.specs.declared.program.Program.TheVariants.{Latest, Number};
-ghost use Rattle.bloom_ast.specs.Program.{IsStock, port_columns, table_columns};
-ghost use Rattle.bloom_ast.specs.Widths.{AreSetsOf};
+ghost use Rattle.bloom_forms.specs.declared.program.Program.TheVariants.{Latest, Number};
+ghost use Rattle.bloom_forms.specs.Program.{IsStock, port_columns, table_columns};
+ghost use Rattle.bloom_forms.specs.Widths.{AreSetsOf};
 
 use anyhow::{Result, ensure};
-use bloom_ast::Program;
-use bloom_check::check;
-use bloom_eval::{Arrivals, Outs};
+use bloom_ast::check;
+use bloom_eval::{Arrivals, Component, Outs};
+use bloom_forms::Program;
 use bloom_parse::parse;
-use blz_boxes::{Component, LatestShell, NumberShell, PlainShell};
+use blz_boxes::{LatestShell, NumberShell, PlainShell};
 use blz_set::RecordSet;
 use blz_value::{Items, Record, Str, Value, write_record};
 use std::alloc::{AllocError, Global};

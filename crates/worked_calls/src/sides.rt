@@ -1,17 +1,17 @@
 //! A shell that keeps indexes, over a module that joins its two tables by all of their columns: what its
 //! sides lend, and that each of its steps equals that of a plain shell.
 ghost use Rattle.std.specs.Prelude.{◌≡◌, ◌<◌, ◌-◌, ◌≤◌, ◌^◌, length, Some, IfOk};
-ghost use Rattle.bloom_ast.specs.Program.{IsStock, port_columns, table_columns};
-ghost use Rattle.bloom_ast.specs.Widths.{AreSetsOf};
+ghost use Rattle.bloom_forms.specs.Program.{IsStock, port_columns, table_columns};
+ghost use Rattle.bloom_forms.specs.Widths.{AreSetsOf};
 
 use crate::shells::{pair, show_sets, stepped};
 use anyhow::{Result, ensure};
-use bloom_ast::Program;
-use bloom_check::check;
-use bloom_eval::{Arrivals, Outs};
+use bloom_ast::check;
+use bloom_eval::{Arrivals, Component, Outs};
+use bloom_forms::Program;
 use bloom_index::IndexShell;
 use bloom_parse::parse;
-use blz_boxes::{Component, PlainShell};
+use blz_boxes::PlainShell;
 use blz_set::RecordSet;
 use blz_value::{Record, Value, write_record};
 use std::alloc::Global;

@@ -6,27 +6,27 @@ use Rattle.std.specs.List.{flat_map}
 use Rattle.std.specs.Option.{option_map_or}
 use Rattle.blz_outside.specs.Files.{FileMap}
 use Rattle.blz_outside.specs.MemFiles.{MemFilesView, bytes_at}
-use Rattle.blz_boxes.specs.declared.kind.ProgramKind.{ProgramKind}
-use Rattle.bloom_ast.specs.declared.program.Program.{Program}
-use Rattle.bloom_ast.specs.Step.{Sets}
-use Rattle.topo_types.specs.Data.{Data}
-use Rattle.topo_types.specs.Sets.{below}
-use Rattle.topo_types.specs.Valid.{Validated}
-use Rattle.topo_types.specs.View.{View, program_of, replicas_of}
+use Rattle.bloom_eval.specs.declared.kind.ProgramKind.{ProgramKind}
+use Rattle.bloom_forms.specs.declared.program.Program.{Program}
+use Rattle.bloom_forms.specs.Step.{Sets}
+use Rattle.topo_forms.specs.Data.{Data}
+use Rattle.blz_value.specs.NumberSets.{below}
+use Rattle.topo_forms.specs.Valid.{Validated}
+use Rattle.topo_forms.specs.View.{View, program_of, replicas_of}
 use Rattle.inbox.specs.Executions.{Execution}
 use Rattle.inbox.specs.Wiring.{instance_for}
 use Rattle.sched_bench.specs.Bench.{instance_components}
-use Rattle.sched_run.specs.Tables.{last_tables, tables_at}
+use Rattle.sched_net.specs.Tables.{last_tables, tables_at}
 use Rattle.blazes_words.specs.Words.{Asked, RunFiles, request_of}
-use Rattle.command_files.specs.Script.{Bytes, Script, Ending, ◌>>=◌}
-use Rattle.command_files.specs.Script.Script.{gives, refuses, reads}
-use Rattle.command_files.specs.Script.Ending.{gave, refused, failed}
-use Rattle.command_files.specs.Ends.{FilesStates, Ends, ended}
-use Rattle.command_files.specs.Reply.{Answer}
-use Rattle.command_files.specs.declared.status.Status.{Status}
-use Rattle.command_files.specs.declared.status.Status.TheVariants.{Done, Incomplete}
-use Rattle.command_runs.specs.Bench.{BenchStates, EndsWith, HasInstances}
-use Rattle.command_runs.specs.Contents.{HasRun}
+use Rattle.command_checks.specs.Script.{Bytes, Script, Ending, ◌>>=◌}
+use Rattle.command_checks.specs.Script.Script.{gives, refuses, reads}
+use Rattle.command_checks.specs.Script.Ending.{gave, refused, failed}
+use Rattle.command_checks.specs.Ends.{FilesStates, Ends, ended}
+use Rattle.command_checks.specs.Reply.{Answer}
+use Rattle.command_checks.specs.declared.status.Status.{Status}
+use Rattle.command_checks.specs.declared.status.Status.TheVariants.{Done, Incomplete}
+use Rattle.blazes_commands.specs.Runs.Bench.{BenchStates, EndsWith, HasInstances}
+use Rattle.blazes_commands.specs.Runs.Contents.{HasRun}
 use Rattle.blazes_commands.specs.Answer.{Answers}
 use Rattle.blazes_commands.specs.Checks as check
 use Rattle.blazes_commands.specs.Commands.{Work, Says, script, running}

@@ -2,9 +2,9 @@
 use Rattle.std.proofs.Common.{◌≡◌, ◌∙◌, List, [], ◌∷◌, Option, Some, length, sym, subst, ap}
 use Rattle.std.specs.List.{fold}
 use Rattle.std.proofs.lemmas.List.{length-map}
-use Rattle.bloom_ast.specs.declared.program.Program.{Program}
-use Rattle.bloom_ast.specs.Program.{table_columns}
-use Rattle.bloom_ast.specs.Query.{Name}
+use Rattle.bloom_forms.specs.declared.program.Program.{Program}
+use Rattle.bloom_forms.specs.Program.{table_columns}
+use Rattle.bloom_forms.specs.Query.{Name}
 use Rattle.blz_boxes.proofs.Tables.{as_many_tables}
 use Rattle.inbox.specs.Emission.{Kept, emit, emit_of, emit_step, first_tables, begin_life, nothing_emitted}
 use Rattle.inbox.specs.Instances.{Instance}

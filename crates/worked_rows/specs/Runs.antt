@@ -1,16 +1,16 @@
 -- What is known of a run before the program is asked for it, and of its bench after it.
 use Rattle.std.specs.Prelude.{◌≡◌, ℕ, List, [], ◌∷◌, Option, Some, length}
 use Rattle.blz_outside.specs.Files.{FileMap}
-use Rattle.bloom_ast.specs.declared.program.Program.{Program}
-use Rattle.bloom_ast.specs.Program.{table_columns}
-use Rattle.bloom_ast.specs.Step.{Sets}
-use Rattle.topo_types.specs.Valid.{Validated}
-use Rattle.topo_types.specs.View.{View, program_of, replicas_of}
+use Rattle.bloom_forms.specs.declared.program.Program.{Program}
+use Rattle.bloom_forms.specs.Program.{table_columns}
+use Rattle.bloom_forms.specs.Step.{Sets}
+use Rattle.topo_forms.specs.Valid.{Validated}
+use Rattle.topo_forms.specs.View.{View, program_of, replicas_of}
 use Rattle.blazes_words.specs.Words.{Asked, RunFiles, request_of}
 use Rattle.command_checks.specs.Checks as check
-use Rattle.command_files.specs.Ends.{ended}
-use Rattle.command_files.specs.Script.{Ending}
-use Rattle.command_runs.specs.Bench.{EndsWith}
+use Rattle.command_checks.specs.Ends.{ended}
+use Rattle.command_checks.specs.Script.{Ending}
+use Rattle.blazes_commands.specs.Runs.Bench.{EndsWith}
 
 -- a topology has one instance, whose program has one table
 pub record HasOneTable (v : View) : Type 0 where

@@ -1,17 +1,17 @@
 -- What the functions of `make` return.
 use Rattle.std.specs.Prelude.{◌≡◌, List, Result, Ok, Err}
-use Rattle.topo_types.specs.View.{View}
+use Rattle.topo_forms.specs.View.{View}
 use Rattle.inbox.specs.Events.{Event}
 use Rattle.sched_run.specs.Making.{IsTextOf}
-use Rattle.sched_hear.specs.declared.books.Books.{Books}
+use Rattle.sched_net.specs.declared.books.Books.{Books}
 use Rattle.sched_run.specs.declared.fault.MakeFault.{MakeFault}
 use Rattle.blazes_commands.specs.Checks.{make_refusal}
-use Rattle.command_files.specs.Reply.{Answer}
-use Rattle.command_files.specs.Ran.{answer_of, IsStopAt}
-use Rattle.command_runs.specs.Contents.{TellsStatus}
-use Rattle.command_files.specs.declared.reply.Reply.{Reply}
-use Rattle.command_files.specs.declared.stop.Stop.{Stop}
-use Rattle.command_files.specs.declared.stop.Stop.TheVariants.{NoMemory}
+use Rattle.command_checks.specs.Reply.{Answer}
+use Rattle.command_checks.specs.Ran.{answer_of, IsStopAt}
+use Rattle.blazes_commands.specs.Runs.Contents.{TellsStatus}
+use Rattle.command_checks.specs.declared.reply.Reply.{Reply}
+use Rattle.command_checks.specs.declared.stop.Stop.{Stop}
+use Rattle.command_checks.specs.declared.stop.Stop.TheVariants.{NoMemory}
 
 -- the text of a schedule with these events, under the status of whatever execution the books stand for
 pub record PrintsBooks (v : View) (b : Books) (events : List Event) (answer : Answer) : Type 0 where

@@ -1,11 +1,11 @@
 -- What a command returned, beside its script.
 use Rattle.std.specs.Prelude.{Result}
 use Rattle.blazes_words.specs.Words.{Asked}
-use Rattle.command_files.specs.Ends.{FilesStates}
-use Rattle.command_files.specs.declared.reply.Reply.{Reply}
-use Rattle.command_files.specs.declared.stop.Stop.{Stop}
-use Rattle.command_runs.specs.Bench.{BenchStates}
-use Rattle.command_runs.specs.Replies.{RepliesWith}
+use Rattle.command_checks.specs.Ends.{FilesStates}
+use Rattle.command_checks.specs.declared.reply.Reply.{Reply}
+use Rattle.command_checks.specs.declared.stop.Stop.{Stop}
+use Rattle.blazes_commands.specs.Runs.Bench.{BenchStates}
+use Rattle.blazes_commands.specs.Runs.Replies.{RepliesWith}
 use Rattle.blazes_commands.specs.Commands.{Says, script}
 
 -- the reply is the answer to what is asked

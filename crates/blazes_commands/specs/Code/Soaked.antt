@@ -1,16 +1,16 @@
 -- What the functions of `soak` return.
 use Rattle.std.specs.Prelude.{ℕ, List, Result}
-use Rattle.topo_types.specs.Data.{Data}
-use Rattle.topo_types.specs.View.{View}
+use Rattle.topo_forms.specs.Data.{Data}
+use Rattle.topo_forms.specs.View.{View}
 use Rattle.inbox.specs.Events.{Step, Event}
-use Rattle.sched_hear.specs.Net.{BooksStand, execution_in}
-use Rattle.sched_hear.specs.declared.books.Books.{Books}
+use Rattle.sched_net.specs.Net.{BooksStand, execution_in}
+use Rattle.sched_net.specs.declared.books.Books.{Books}
 use Rattle.sched_run.specs.declared.fault.MakeFault.{MakeFault}
-use Rattle.command_files.specs.Reply.{Answer}
+use Rattle.command_checks.specs.Reply.{Answer}
 use Rattle.blazes_commands.specs.Commands.{HasSummary}
 use Rattle.blazes_commands.specs.Code.Made.{IsMade}
-use Rattle.command_files.specs.declared.reply.Reply.{Reply}
-use Rattle.command_files.specs.declared.stop.Stop.{Stop}
+use Rattle.command_checks.specs.declared.reply.Reply.{Reply}
+use Rattle.command_checks.specs.declared.stop.Stop.{Stop}
 
 -- the summary of whatever execution the books stand for
 abbrev pub SumsBooks : (batches : ℕ) → View → Books → Answer → Type 0

@@ -1,9 +1,9 @@
 -- The beginning of a step, which takes the sets of tables out of what is kept.
 use Rattle.std.specs.Prelude.{ℕ, ◌≡◌, ◌⊎◌, ◌+◌, cond, [], length, slice_set}
-use Rattle.bloom_ast.specs.declared.module.Kind.{Kind}
-use Rattle.bloom_ast.specs.declared.module.Kind.TheVariants.{Input, Output, Table, Scratch}
-use Rattle.bloom_ast.specs.Kinds.{same_kind}
-use Rattle.bloom_ast.specs.Step.{Sets, set_at}
+use Rattle.bloom_forms.specs.declared.module.Kind.{Kind}
+use Rattle.bloom_forms.specs.declared.module.Kind.TheVariants.{Input, Output, Table, Scratch}
+use Rattle.bloom_forms.specs.Kinds.{same_kind}
+use Rattle.bloom_forms.specs.Step.{Sets, set_at}
 
 -- the tables after a collection of a kind took what it begins with
 abbrev pub left_by : Kind → Sets → ℕ → Sets

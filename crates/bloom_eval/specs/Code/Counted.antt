@@ -4,11 +4,11 @@ use Rattle.blz_value.specs.Record.{Row}
 use Rattle.blz_value.specs.Sets.{set_of}
 use Rattle.blz_set.specs.declared.fault.SetFault.{SetFault}
 use Rattle.blz_set.specs.declared.fault.SetFault.TheVariants.{TooManyRows, NoMemory}
-use Rattle.bloom_ast.specs.declared.module.Collection.{Collection}
-use Rattle.bloom_ast.specs.Lookup.{declared}
-use Rattle.bloom_ast.specs.Query.{Name}
-use Rattle.bloom_ast.specs.Form.{RuleForm}
-use Rattle.bloom_ast.specs.Step.{Sets, set_at, rows_named, rules_at, union_of}
+use Rattle.bloom_forms.specs.declared.module.Collection.{Collection}
+use Rattle.bloom_forms.specs.Lookup.{declared}
+use Rattle.bloom_forms.specs.Query.{Name}
+use Rattle.bloom_forms.specs.Form.{RuleForm}
+use Rattle.bloom_forms.specs.Step.{Sets, set_at, rows_named, rules_at, union_of}
 use Rattle.bloom_eval.specs.StepAnswers.{AllFit, SomeIsOver, rule_sets}
 
 -- rows were added to a set; TooManyRows comes exactly where they make it too large, or one of the sets that they come from has too many rows

@@ -4,7 +4,7 @@ use Rattle.blz_value.specs.Record.{Row}
 use Rattle.blz_set.specs.RecordSet.{row_limit}
 use Rattle.blz_set.specs.declared.fault.SetFault.{SetFault}
 use Rattle.blz_set.specs.declared.fault.SetFault.TheVariants.{TooManyRows, NoMemory}
-use Rattle.bloom_ast.specs.Step.{Sets}
+use Rattle.bloom_forms.specs.Step.{Sets}
 use Rattle.bloom_eval.specs.declared.rows.Rows.{Rows}
 use Rattle.bloom_eval.specs.StepAnswers.{AllFit, SomeIsOver}
 use Rattle.bloom_eval.specs.Code.Held.{rows_in}

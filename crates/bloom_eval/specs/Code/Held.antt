@@ -1,7 +1,7 @@
 -- Sets that are lent or owned.
 use Rattle.std.specs.Prelude.{List, map}
 use Rattle.blz_value.specs.Record.{Row}
-use Rattle.bloom_ast.specs.Step.{Sets}
+use Rattle.bloom_forms.specs.Step.{Sets}
 use Rattle.bloom_eval.specs.declared.rows.Rows.{Rows}
 use Rattle.bloom_eval.specs.declared.rows.Rows.TheVariants.{Lent, Own}
 

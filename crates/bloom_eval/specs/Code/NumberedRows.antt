@@ -6,8 +6,8 @@ use Rattle.blz_value.specs.Sets.{set_of}
 use Rattle.blz_value.specs.Test.{test_holds, TestFits}
 use Rattle.blz_value.specs.Operators.{select_rows, project_rows, join_rows, notin_rows}
 use Rattle.blz_value.specs.Groups.{group_rows, at_least_rows}
-use Rattle.bloom_ast.specs.declared.numbered.NumberedExpr.{NumberedExpr, Base, Select', Project', Join', NotIn', Group', AtLeast'}
-use Rattle.bloom_ast.specs.Step.{Sets, set_at}
+use Rattle.bloom_forms.specs.declared.numbered.NumberedExpr.{NumberedExpr, Base, Select', Project', Join', NotIn', Group', AtLeast'}
+use Rattle.bloom_forms.specs.Step.{Sets, set_at}
 
 -- the rows of an expression, where the collections hold these sets
 abbrev pub numbered_rows : Sets → NumberedExpr → List Row

@@ -3,14 +3,14 @@ use Rattle.std.specs.Prelude.{ℕ, ◌≡◌, ◌≢◌, Result, Ok, Err, Some, 
 use Rattle.std.specs.List.{fold}
 use Rattle.blz_set.specs.declared.fault.SetFault.{SetFault}
 use Rattle.blz_set.specs.declared.fault.SetFault.TheVariants.{TooManyRows, NoMemory}
-use Rattle.bloom_ast.specs.declared.module.Kind.TheVariants.{Table}
-use Rattle.bloom_ast.specs.declared.module.Collection.{Collection}
-use Rattle.bloom_ast.specs.Form.{Accepted}
-use Rattle.bloom_ast.specs.Heads.{IsDerived}
-use Rattle.bloom_ast.specs.Kinds.{kind_at}
-use Rattle.bloom_ast.specs.Step.{Sets, set_at, with_head}
+use Rattle.bloom_forms.specs.declared.module.Kind.TheVariants.{Table}
+use Rattle.bloom_forms.specs.declared.module.Collection.{Collection}
+use Rattle.bloom_forms.specs.Form.{Accepted}
+use Rattle.bloom_forms.specs.Heads.{IsDerived}
+use Rattle.bloom_forms.specs.Kinds.{kind_at}
+use Rattle.bloom_forms.specs.Step.{Sets, set_at, with_head}
 use Rattle.bloom_eval.specs.StepAnswers.{AllFit, SomeIsOver, counted_at}
-use Rattle.bloom_ast.specs.Widths.{AreSetsOf}
+use Rattle.bloom_forms.specs.Widths.{AreSetsOf}
 
 -- one set for each collection, with rows of its width
 abbrev pub AreSetsOfAll : List Collection → Sets → Type 0

@@ -3,9 +3,9 @@ use Rattle.std.specs.Prelude.{ℕ, ◌≡◌, []}
 use Rattle.blz_value.specs.declared.aggregate.Agg.TheVariants.{Count}
 use Rattle.blz_value.specs.Operators.{Pairs}
 use Rattle.blz_set.specs.Code.Pairs.{lefts_of, rights_of}
-use Rattle.bloom_ast.specs.declared.numbered.NumberedExpr.{NumberedExpr}
-use Rattle.bloom_ast.specs.declared.numbered.NumberedExpr as expr
-use Rattle.bloom_ast.specs.Step.{Sets, set_at}
+use Rattle.bloom_forms.specs.declared.numbered.NumberedExpr.{NumberedExpr}
+use Rattle.bloom_forms.specs.declared.numbered.NumberedExpr as expr
+use Rattle.bloom_forms.specs.Step.{Sets, set_at}
 use Rattle.bloom_growth.specs.declared.joining.JoinMemo.{JoinMemo}
 use Rattle.bloom_index.specs.declared.excluding.NotInMemo.{NotInMemo}
 use Rattle.bloom_growth.specs.Groups.{AreFreshGroups}

@@ -2,17 +2,17 @@
 use Rattle.std.specs.Prelude.{ℕ, ◌≡◌, ◌==◌, ◌&&◌, ◌||◌, not, Bool, true, false, Option, None, Some, List, length, slice_index_or}
 use Rattle.std.specs.List.{list_all}
 use Rattle.blz_value.specs.Members.{Has}
-use Rattle.bloom_ast.specs.declared.module.Kind.{Kind}
-use Rattle.bloom_ast.specs.declared.module.Kind.TheVariants.{Input, Output, Table, Scratch}
-use Rattle.bloom_ast.specs.declared.numbered.NumberedExpr.{NumberedExpr}
-use Rattle.bloom_ast.specs.declared.numbered.NumberedExpr as expr
-use Rattle.bloom_ast.specs.declared.numbered.NumberedRule.{NumberedRule}
-use Rattle.bloom_ast.specs.Form.{RuleForm, Form, Accepted}
-use Rattle.bloom_ast.specs.Heads.{names_of}
-use Rattle.bloom_ast.specs.Kinds.{kind_at}
-use Rattle.bloom_ast.specs.Lookup.{collection_number}
-use Rattle.bloom_ast.specs.Query.{Name}
-use Rattle.bloom_ast.specs.Step.{rules_at}
+use Rattle.bloom_forms.specs.declared.module.Kind.{Kind}
+use Rattle.bloom_forms.specs.declared.module.Kind.TheVariants.{Input, Output, Table, Scratch}
+use Rattle.bloom_forms.specs.declared.numbered.NumberedExpr.{NumberedExpr}
+use Rattle.bloom_forms.specs.declared.numbered.NumberedExpr as expr
+use Rattle.bloom_forms.specs.declared.numbered.NumberedRule.{NumberedRule}
+use Rattle.bloom_forms.specs.Form.{RuleForm, Form, Accepted}
+use Rattle.bloom_forms.specs.Heads.{names_of}
+use Rattle.bloom_forms.specs.Kinds.{kind_at}
+use Rattle.bloom_forms.specs.Lookup.{collection_number}
+use Rattle.bloom_forms.specs.Query.{Name}
+use Rattle.bloom_forms.specs.Step.{rules_at}
 use Rattle.bloom_index.specs.Growing.{is_growing}
 
 -- whether the collection with a number grows; where there is none it doesn't

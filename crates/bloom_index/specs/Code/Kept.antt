@@ -2,18 +2,18 @@
 use Rattle.std.specs.Prelude.{ℕ, ◌≡◌, Bool, true, false, IsTrue, Option, None, Some, List, length}
 use Rattle.std.specs.List.{AllZip}
 use Rattle.std.specs.Option.{option_map_or}
-use Rattle.blz_boxes.specs.Changes.{AreChanges}
-use Rattle.bloom_ast.specs.declared.module.Kind.TheVariants.{Table}
-use Rattle.bloom_ast.specs.declared.numbered.NumberedRule.{NumberedRule}
-use Rattle.bloom_ast.specs.declared.program.Program.TheVariants.{Module}
-use Rattle.bloom_ast.specs.Form.{Accepted}
-use Rattle.bloom_ast.specs.Kinds.{is_output, kind_at}
-use Rattle.bloom_ast.specs.Numbered.{AreNumbered}
-use Rattle.bloom_ast.specs.OverTables.{without_table_rules}
-use Rattle.bloom_ast.specs.Program.{columns_of_kind}
-use Rattle.bloom_ast.specs.ProgramStep.{no_arrivals, standing_outputs, empty_tables}
-use Rattle.bloom_ast.specs.Step.{Sets, set_at, rules_at, at_end, sets_of_kind, tables_after, outputs_of}
-use Rattle.bloom_ast.specs.Widths.{AreSetsOf}
+use Rattle.bloom_eval.specs.Changes.{AreChanges}
+use Rattle.bloom_forms.specs.declared.module.Kind.TheVariants.{Table}
+use Rattle.bloom_forms.specs.declared.numbered.NumberedRule.{NumberedRule}
+use Rattle.bloom_forms.specs.declared.program.Program.TheVariants.{Module}
+use Rattle.bloom_forms.specs.Form.{Accepted}
+use Rattle.bloom_forms.specs.Kinds.{is_output, kind_at}
+use Rattle.bloom_forms.specs.Numbered.{AreNumbered}
+use Rattle.bloom_forms.specs.OverTables.{without_table_rules}
+use Rattle.bloom_forms.specs.Program.{columns_of_kind}
+use Rattle.bloom_forms.specs.ProgramStep.{no_arrivals, standing_outputs, empty_tables}
+use Rattle.bloom_forms.specs.Step.{Sets, set_at, rules_at, at_end, sets_of_kind, tables_after, outputs_of}
+use Rattle.bloom_forms.specs.Widths.{AreSetsOf}
 use Rattle.bloom_eval.specs.Code.NumberedRows.{numbered_rows}
 use Rattle.bloom_index.specs.declared.heads.RuleMemo.{RuleMemo}
 use Rattle.bloom_index.specs.declared.step.Parts.{Parts}

@@ -5,13 +5,13 @@ use Rattle.std.specs.List.{AllZip}
 use Rattle.std.proofs.Props.{props}
 use Rattle.blz_boxes.specs.Code.KeptSets.{AreSetsOf-prop}
 use Rattle.blz_value.specs.declared.aggregate.Agg.TheVariants.{Count}
-use Rattle.bloom_ast.specs.declared.module.Kind.TheVariants.{Table}
-use Rattle.bloom_ast.specs.declared.numbered.NumberedExpr.{NumberedExpr}
-use Rattle.bloom_ast.specs.declared.numbered.NumberedExpr as expr
-use Rattle.bloom_ast.specs.declared.numbered.NumberedRule.{NumberedRule}
-use Rattle.bloom_ast.specs.Form.{Accepted}
-use Rattle.bloom_ast.specs.Program.{columns_of_kind}
-use Rattle.bloom_ast.specs.Step.{Sets}
+use Rattle.bloom_forms.specs.declared.module.Kind.TheVariants.{Table}
+use Rattle.bloom_forms.specs.declared.numbered.NumberedExpr.{NumberedExpr}
+use Rattle.bloom_forms.specs.declared.numbered.NumberedExpr as expr
+use Rattle.bloom_forms.specs.declared.numbered.NumberedRule.{NumberedRule}
+use Rattle.bloom_forms.specs.Form.{Accepted}
+use Rattle.bloom_forms.specs.Program.{columns_of_kind}
+use Rattle.bloom_forms.specs.Step.{Sets}
 use Rattle.bloom_eval.specs.Code.NumberedRows.{numbered_rows}
 use Rattle.bloom_index.specs.declared.heads.RuleMemo.{RuleMemo}
 use Rattle.bloom_index.specs.declared.memo.Memo.{Memo}

@@ -4,8 +4,8 @@ use Rattle.std.specs.List.{range_with_len}
 use Rattle.std.specs.Option.{option_map_or}
 use Rattle.blz_value.specs.Record.{Row}
 use Rattle.blz_set.specs.RecordSet.{IsRecordSet}
-use Rattle.bloom_ast.specs.declared.module.Collection.{Collection}
-use Rattle.bloom_ast.specs.Step.{Sets, set_at, at_start}
+use Rattle.bloom_forms.specs.declared.module.Collection.{Collection}
+use Rattle.bloom_forms.specs.Step.{Sets, set_at, at_start}
 use Rattle.bloom_index.specs.declared.change.Change.{Change}
 use Rattle.bloom_index.specs.declared.change.Rows.TheVariants.{Own}
 use Rattle.bloom_index.specs.Code.Growth.{grows_at}

@@ -1,13 +1,13 @@
 -- Each expression of the grammar is read as what it means.
 use Rattle.std.proofs.Common.{◌≡◌, ℕ, zero, suc, ◌-◌, ◌≤◌, List, ◌∷◌, ◌++◌, map, Result, Ok, refl, ap, ◌∙◌, arith}
 use Rattle.std.specs.Prelude.{ℤ, pos, ◌≤ℤ◌}
-use Rattle.bloom_ast.specs.Query.{Name, Query}
+use Rattle.bloom_forms.specs.Query.{Name, Query}
 use Rattle.bloom_parse.specs.declared.lexing.terminal.Terminal.{Terminal}
 use Rattle.bloom_parse.specs.declared.lexing.terminal.Terminal.TheVariants as terminals
 use Rattle.bloom_parse.specs.declared.lexing.terminal.Word.TheVariants as words
 use Rattle.bloom_parse.specs.declared.lexing.terminal.Mark.TheVariants as marks
-use Rattle.bloom_ast.specs.declared.expr.NamedAgg.{NamedAgg}
-use Rattle.bloom_ast.specs.Query.Query.{base, select, project, join, notin, group, at_least}
+use Rattle.bloom_forms.specs.declared.expr.NamedAgg.{NamedAgg}
+use Rattle.bloom_forms.specs.Query.Query.{base, select, project, join, notin, group, at_least}
 use Rattle.bloom_parse.specs.Trees.{OrsTree, word, mark, ors_text, ors_size, OrsFit, ors_formula, Item, ExprTree, item_text, item_pair, more_items_text, more_pairs_text, keys_text, agg_text, expr_text, expr_query, ExprFits}
 use Rattle.bloom_parse.specs.Code.ReadingSingle.{◌>>=◌, mark_at, name_at, as_at, bound_at}
 use Rattle.bloom_parse.specs.Code.ReadingPredicates.{Read, pred_by, unit_at}

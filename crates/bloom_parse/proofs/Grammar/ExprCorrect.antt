@@ -1,11 +1,11 @@
 -- What is read as an expression is one, and a fault is where the machine stops.
 use Rattle.std.proofs.Common.{◌≡◌, ℕ, zero, suc, List, [], ◌∷◌, ◌++◌, map, Result, Ok, Err, refl, sym, ap, ◌∙◌, arith}
-use Rattle.bloom_ast.specs.Query.{Name, Query}
+use Rattle.bloom_forms.specs.Query.{Name, Query}
 use Rattle.bloom_parse.specs.declared.lexing.terminal.Terminal.{Terminal}
 use Rattle.bloom_parse.specs.declared.lexing.terminal.Terminal.TheVariants as terminals
 use Rattle.bloom_parse.specs.declared.lexing.terminal.Word.TheVariants as words
 use Rattle.bloom_parse.specs.declared.lexing.terminal.Mark.TheVariants as marks
-use Rattle.bloom_ast.specs.Query.Query.{select, project, join, notin, group, at_least}
+use Rattle.bloom_forms.specs.Query.Query.{select, project, join, notin, group, at_least}
 use Rattle.bloom_parse.specs.Trees.{word, mark, ors_text, ors_formula, ExprTree, item_text, item_pair, more_items_text, more_pairs_text, keys_text, agg_text, expr_text, expr_query, ExprFits}
 use Rattle.bloom_parse.specs.Code.ReadingSingle.{◌>>=◌, mark_at, name_at, as_at, bound_at}
 use Rattle.bloom_parse.specs.Code.ReadingPredicates.{pred_by, unit_at}

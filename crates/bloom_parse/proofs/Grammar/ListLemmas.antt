@@ -1,13 +1,13 @@
 -- What is read as a list or an aggregate is one, a fault is where the machine stops, and each is read again.
 use Rattle.std.proofs.Common.{◌≡◌, ℕ, ◌<◌, Bool, true, false, cond, List, [], ◌∷◌, ◌++◌, map, length, drop, All, Result, Ok, Err, refl, sym, ap, subst, ◌∙◌, arith}
 use Rattle.blz_value.specs.declared.test.Op.TheVariants.{Eq}
-use Rattle.bloom_ast.specs.Query.{Name}
+use Rattle.bloom_forms.specs.Query.{Name}
 use Rattle.bloom_parse.specs.declared.lexing.terminal.Terminal.{Terminal}
 use Rattle.bloom_parse.specs.declared.lexing.terminal.Terminal.TheVariants as terminals
 use Rattle.bloom_parse.specs.declared.lexing.terminal.Word.TheVariants as words
 use Rattle.bloom_parse.specs.declared.lexing.terminal.Mark.TheVariants as marks
-use Rattle.bloom_ast.specs.declared.expr.NamedAgg.{NamedAgg}
-use Rattle.bloom_ast.specs.declared.expr.NamedAgg.TheVariants.{Count, Sum, Min, Max}
+use Rattle.bloom_forms.specs.declared.expr.NamedAgg.{NamedAgg}
+use Rattle.bloom_forms.specs.declared.expr.NamedAgg.TheVariants.{Count, Sum, Min, Max}
 use Rattle.bloom_parse.specs.Trees.{word, mark, Item, item_text, item_pair, more_items_text, more_pairs_text, more_names_text, keys_text, agg_text}
 use Rattle.bloom_parse.specs.Code.ReadingSingle.{◌>>=◌, mark_at, name_at, equals_at, has_comma, has_close_keys, has_as}
 use Rattle.bloom_parse.specs.Code.ReadingLists.{many_at, with_front, past, item_at, pair_at, items_at, pairs_at, names_at, key_names_at, keys_at, column_at, agg_at}

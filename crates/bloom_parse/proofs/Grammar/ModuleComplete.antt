@@ -1,14 +1,14 @@
 -- Each module of the grammar is read as what it means.
 use Rattle.std.proofs.Common.{◌≡◌, ℕ, true, false, List, [], ◌∷◌, ◌++◌, map, flat_map, Option, Some, Result, Ok, refl, sym, ap, subst, ◌∙◌}
-use Rattle.bloom_ast.specs.Query.{Name, Query}
+use Rattle.bloom_forms.specs.Query.{Name, Query}
 use Rattle.bloom_parse.specs.declared.lexing.terminal.Terminal.{Terminal}
 use Rattle.bloom_parse.specs.declared.lexing.terminal.Terminal.TheVariants as terminals
 use Rattle.bloom_parse.specs.declared.lexing.terminal.Mark.TheVariants as marks
-use Rattle.bloom_ast.specs.declared.module.Kind.{Kind}
-use Rattle.bloom_ast.specs.declared.module.Kind.TheVariants.{Input, Output, Table, Scratch}
-use Rattle.bloom_ast.specs.declared.module.Collection.{Collection}
-use Rattle.bloom_ast.specs.declared.module.Module.{Module}
-use Rattle.bloom_ast.specs.Form.{RuleForm, Form, form_of}
+use Rattle.bloom_forms.specs.declared.module.Kind.{Kind}
+use Rattle.bloom_forms.specs.declared.module.Kind.TheVariants.{Input, Output, Table, Scratch}
+use Rattle.bloom_forms.specs.declared.module.Collection.{Collection}
+use Rattle.bloom_forms.specs.declared.module.Module.{Module}
+use Rattle.bloom_forms.specs.Form.{RuleForm, Form, form_of}
 use Rattle.bloom_parse.specs.declared.reading.read_fault.ReadFault.{ReadFault}
 use Rattle.bloom_parse.specs.Trees.{word, mark, more_names_text, expr_query, ExprFits, kind_word, CollectionTree, collection_text, collection_form, RuleTree, rule_text, ModuleTree, ModuleFits, module_text, module_form}
 use Rattle.bloom_parse.specs.Places.{IsModuleText}

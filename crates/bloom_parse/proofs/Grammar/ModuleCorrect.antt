@@ -1,16 +1,16 @@
 -- What is read as a module is one, and a fault is where the machine stops.
 use Rattle.std.proofs.Common.{◌≡◌, ℕ, ◌<◌, ◌≤◌, true, false, List, [], ◌∷◌, ◌++◌, map, length, flat_map, Result, Ok, Err, refl, sym, ap, ◌∙◌, arith}
 use Rattle.blz_value.specs.declared.test.Op.TheVariants.{Le}
-use Rattle.bloom_ast.specs.Query.{Name, Query}
+use Rattle.bloom_forms.specs.Query.{Name, Query}
 use Rattle.bloom_parse.specs.declared.lexing.terminal.Terminal.{Terminal}
 use Rattle.bloom_parse.specs.declared.lexing.terminal.Terminal.TheVariants as terminals
 use Rattle.bloom_parse.specs.declared.lexing.terminal.Word.TheVariants as words
 use Rattle.bloom_parse.specs.declared.lexing.terminal.Mark.TheVariants as marks
-use Rattle.bloom_ast.specs.declared.module.Kind.{Kind}
-use Rattle.bloom_ast.specs.declared.module.Kind.TheVariants.{Input, Output, Table, Scratch}
-use Rattle.bloom_ast.specs.declared.module.Collection.{Collection}
-use Rattle.bloom_ast.specs.declared.module.Rule.{Rule}
-use Rattle.bloom_ast.specs.Form.{RuleForm, Form, rule_form, rule_forms}
+use Rattle.bloom_forms.specs.declared.module.Kind.{Kind}
+use Rattle.bloom_forms.specs.declared.module.Kind.TheVariants.{Input, Output, Table, Scratch}
+use Rattle.bloom_forms.specs.declared.module.Collection.{Collection}
+use Rattle.bloom_forms.specs.declared.module.Rule.{Rule}
+use Rattle.bloom_forms.specs.Form.{RuleForm, Form, rule_form, rule_forms}
 use Rattle.bloom_parse.specs.Trees.{word, mark, more_names_text, expr_text, ExprFits, kind_word, CollectionTree, collection_text, collection_form, RuleTree, rule_text, tree_rule, ModuleTree}
 use Rattle.bloom_parse.specs.Places.{IsModuleText}
 use Rattle.bloom_parse.specs.Code.ReadingSingle.{◌>>=◌, mark_at, name_at, arrow_at, module_word_at, has_name}

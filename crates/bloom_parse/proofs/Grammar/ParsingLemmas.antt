@@ -1,6 +1,6 @@
 -- What reading the terminals of a text says of the text.
 use Rattle.std.proofs.Common.{◌≡◌, refl, sym, subst, ℕ, List, Result, Ok, Err}
-use Rattle.bloom_ast.specs.Form.{Form}
+use Rattle.bloom_forms.specs.Form.{Form}
 use Rattle.bloom_parse.specs.declared.lexing.terminal.Terminal.{Terminal}
 use Rattle.bloom_parse.specs.declared.lexing.token.Token.{Token}
 use Rattle.bloom_parse.specs.Parsing.{IsTextOf}

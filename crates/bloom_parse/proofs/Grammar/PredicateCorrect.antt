@@ -4,11 +4,11 @@ use Rattle.std.proofs.Math.Dec.{eqb-suc-zero}
 use Rattle.std.proofs.lemmas.Bool.{ne_eqb}
 use Rattle.bloom_parse.specs.declared.reading.predicates.Link.{Link}
 use Rattle.bloom_parse.specs.declared.reading.predicates.Link.TheVariants as links
-use Rattle.bloom_ast.specs.declared.expr.Term.{Term}
-use Rattle.bloom_ast.specs.declared.expr.Term.TheVariants.{Column, Literal}
+use Rattle.bloom_forms.specs.declared.expr.Term.{Term}
+use Rattle.bloom_forms.specs.declared.expr.Term.TheVariants.{Column, Literal}
 use Rattle.blz_value.specs.declared.value.Value.TheVariants.{Int, Text}
-use Rattle.bloom_ast.specs.Query.{Formula}
-use Rattle.bloom_ast.specs.Query.Formula.{compare, both, not_so}
+use Rattle.bloom_forms.specs.Query.{Formula}
+use Rattle.bloom_forms.specs.Query.Formula.{compare, both, not_so}
 use Rattle.bloom_parse.specs.declared.lexing.terminal.Terminal.{Terminal}
 use Rattle.bloom_parse.specs.declared.lexing.terminal.Terminal.TheVariants as terminals
 use Rattle.bloom_parse.specs.declared.lexing.terminal.Word.TheVariants as words

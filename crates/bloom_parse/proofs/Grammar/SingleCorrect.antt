@@ -1,13 +1,13 @@
 -- What single tokens read, and where the machine stops.
 use Rattle.std.proofs.Common.{◌≡◌, ℕ, zero, suc, Bool, true, false, cond, List, [], ◌∷◌, length, Option, Some, None, Result, Ok, Err, refl, sym, ap, ◌∙◌, arith}
 use Rattle.std.proofs.lemmas.Bool.{eqb-true}
-use Rattle.bloom_ast.specs.declared.expr.Term.{Term}
+use Rattle.bloom_forms.specs.declared.expr.Term.{Term}
 use Rattle.std.specs.Prelude.{ℤ, pos, ◌≤ℤ◌, int_le}
 use Rattle.std.proofs.lemmas.Int.{ints}
 use Rattle.blz_value.specs.declared.test.Op.{Op}
 use Rattle.blz_value.specs.declared.test.Op.TheVariants.{Eq, Le}
 use Rattle.bloom_parse.specs.declared.lexing.terminal.Word.TheVariants as words
-use Rattle.bloom_ast.specs.Query.{Name}
+use Rattle.bloom_forms.specs.Query.{Name}
 use Rattle.bloom_parse.specs.declared.lexing.terminal.Terminal.{Terminal}
 use Rattle.bloom_parse.specs.declared.lexing.terminal.Terminal.TheVariants as terminals
 use Rattle.bloom_parse.specs.declared.lexing.terminal.Mark.{Mark}

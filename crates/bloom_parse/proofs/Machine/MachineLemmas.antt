@@ -1,7 +1,7 @@
 -- The machine takes each text of the grammar.
 use Rattle.std.proofs.Common.{◌≡◌, ℕ, zero, suc, ◌+◌, ◌<◌, List, [], ◌∷◌, ◌++◌, refl, sym, ap, ◌∙◌, append_assoc, arith}
-use Rattle.bloom_ast.specs.declared.expr.Term.{Term}
-use Rattle.bloom_ast.specs.declared.expr.Term.TheVariants.{Column, Literal}
+use Rattle.bloom_forms.specs.declared.expr.Term.{Term}
+use Rattle.bloom_forms.specs.declared.expr.Term.TheVariants.{Column, Literal}
 use Rattle.blz_value.specs.declared.test.Op.{Op}
 use Rattle.blz_value.specs.declared.value.Value.TheVariants.{Int, Text}
 use Rattle.bloom_parse.specs.declared.lexing.terminal.Terminal.{Terminal}

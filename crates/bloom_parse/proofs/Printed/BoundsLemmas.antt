@@ -3,14 +3,14 @@ use Rattle.std.proofs.Common.{◌≡◌, ◌≢◌, ◌≤◌, ◌+◌, ◌&&◌
 use Rattle.std.specs.List.{list_any}
 use Rattle.std.proofs.lemmas.Grind.{common_steps}
 use Rattle.std.proofs.lemmas.List.Folds.{list_any-append}
-use Rattle.bloom_ast.specs.Bounds as bounds
-use Rattle.bloom_ast.specs.Bounds.{is_long, formulas_of, query_levels}
-use Rattle.bloom_ast.specs.Columns.{columns_of}
-use Rattle.bloom_ast.specs.Fits.{is_width, are_columns, operator_fits, part_fits, query_fits, keys_fit}
-use Rattle.bloom_ast.specs.Query.{Name, Formula, Query}
-use Rattle.bloom_ast.specs.Query.Formula.{compare, both, either, not_so}
-use Rattle.bloom_ast.specs.Query.Query.{base, select, project, join, notin, group, at_least}
-use Rattle.bloom_ast.proofs.Faults.Levels.{neither}
+use Rattle.bloom_forms.specs.Bounds as bounds
+use Rattle.bloom_forms.specs.Bounds.{is_long, formulas_of, query_levels}
+use Rattle.bloom_forms.specs.Columns.{columns_of}
+use Rattle.bloom_forms.specs.Fits.{is_width, are_columns, operator_fits, part_fits, query_fits, keys_fit}
+use Rattle.bloom_forms.specs.Query.{Name, Formula, Query}
+use Rattle.bloom_forms.specs.Query.Formula.{compare, both, either, not_so}
+use Rattle.bloom_forms.specs.Query.Query.{base, select, project, join, notin, group, at_least}
+use Rattle.bloom_forms.proofs.Faults.Levels.{neither}
 use Rattle.bloom_parse.specs.Bounds.{HasPositiveBounds}
 use Rattle.bloom_parse.specs.Layout.{Levels, levels, tree_of}
 use Rattle.bloom_parse.specs.Printable.{HasItems}

@@ -3,11 +3,11 @@ use Rattle.std.proofs.Common.{◌≡◌, ◌≢◌, Bool, true, false, cond, Lis
 use Rattle.std.specs.List.{AllByRecursion}
 use Rattle.std.specs.Str.{bytes_eq}
 use Rattle.std.proofs.lemmas.Slice.Eq.{bytes_eq-Decides}
-use Rattle.bloom_ast.specs.declared.module.Collection.{Collection}
-use Rattle.bloom_ast.specs.Form.{RuleForm, Form}
-use Rattle.bloom_ast.specs.Query.{Name, Formula, Query}
-use Rattle.bloom_ast.specs.Query.Formula.{compare, both, either, not_so}
-use Rattle.bloom_ast.specs.Query.Query.{base, select, project, join, notin, group, at_least}
+use Rattle.bloom_forms.specs.declared.module.Collection.{Collection}
+use Rattle.bloom_forms.specs.Form.{RuleForm, Form}
+use Rattle.bloom_forms.specs.Query.{Name, Formula, Query}
+use Rattle.bloom_forms.specs.Query.Formula.{compare, both, either, not_so}
+use Rattle.bloom_forms.specs.Query.Query.{base, select, project, join, notin, group, at_least}
 use Rattle.bloom_parse.specs.declared.lexing.terminal.Terminal.TheVariants as terminals
 use Rattle.bloom_parse.specs.Trees.{ors_formula, ands_formula, unit_formula, Item, item_pair, expr_query, collection_form, tree_rule, module_text, module_form}
 use Rattle.bloom_parse.specs.Layout.{Levels, levels, item_of, tree_of, first_name, collection_tree, rule_tree, module_tree, printed}

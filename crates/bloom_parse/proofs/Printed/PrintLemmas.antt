@@ -4,11 +4,11 @@ use Rattle.std.proofs.lemmas.List.{append-nil, take_all}
 use Rattle.std.proofs.lemmas.Grind.{flat_map-append}
 use Rattle.std.specs.List.{flat_map}
 use Rattle.std.specs.Str.{bytes_eq}
-use Rattle.bloom_ast.specs.declared.module.Collection.{Collection}
-use Rattle.bloom_ast.specs.declared.module.Rule.{Rule}
-use Rattle.bloom_ast.specs.Form.{RuleForm, rule_form, rule_forms}
-use Rattle.bloom_ast.specs.Query.{Name, Formula}
-use Rattle.bloom_ast.specs.Query.Formula.{both, either, not_so}
+use Rattle.bloom_forms.specs.declared.module.Collection.{Collection}
+use Rattle.bloom_forms.specs.declared.module.Rule.{Rule}
+use Rattle.bloom_forms.specs.Form.{RuleForm, rule_form, rule_forms}
+use Rattle.bloom_forms.specs.Query.{Name, Formula}
+use Rattle.bloom_forms.specs.Query.Formula.{both, either, not_so}
 use Rattle.bloom_parse.specs.declared.lexing.terminal.Mark.TheVariants as marks
 use Rattle.bloom_parse.specs.declared.lexing.terminal.Terminal.{Terminal}
 use Rattle.bloom_parse.specs.declared.lexing.terminal.Word.TheVariants as words

@@ -2,12 +2,12 @@
 use Rattle.std.proofs.Common.{◌≡◌, List, [], ◌∷◌, ◌++◌, flat_map, ap, ◌∙◌, append_assoc}
 use Rattle.std.specs.Prelude.{ℤ}
 use Rattle.blz_value.specs.declared.test.Op.TheVariants.{Le}
-use Rattle.bloom_ast.specs.Query.{Name}
+use Rattle.bloom_forms.specs.Query.{Name}
 use Rattle.bloom_parse.specs.declared.lexing.terminal.Terminal.{Terminal}
 use Rattle.bloom_parse.specs.declared.lexing.terminal.Terminal.TheVariants as terminals
 use Rattle.bloom_parse.specs.declared.lexing.terminal.Word.TheVariants as words
 use Rattle.bloom_parse.specs.declared.lexing.terminal.Mark.TheVariants as marks
-use Rattle.bloom_ast.specs.declared.expr.NamedAgg.{NamedAgg}
+use Rattle.bloom_forms.specs.declared.expr.NamedAgg.{NamedAgg}
 use Rattle.bloom_parse.specs.Trees.{OrsTree, word, mark, ors_text, Item, ExprTree, item_text, more_items_text, more_pairs_text, more_names_text, keys_text, agg_text, expr_text, kind_word, CollectionTree, collection_text, RuleTree, rule_text, ModuleTree, module_text}
 
 pub flat_select : (e : ExprTree) (p : OrsTree) (rest : List Terminal) → expr_text (ExprTree.of_select e p) ++ rest ≡ word words.Select ∷ mark marks.Open ∷ (expr_text e ++ mark marks.Comma ∷ (ors_text p ++ mark marks.Close ∷ rest))

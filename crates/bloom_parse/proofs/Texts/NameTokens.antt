@@ -9,7 +9,7 @@ use Rattle.std.specs.Str.{is_utf8}
 use Rattle.std.specs.Str.Parse.{signed_digits_value}
 use Rattle.blz_value.specs.declared.test.Op.{Op}
 use Rattle.blz_value.specs.Name.{is_name_start, is_name_byte, starts_name}
-use Rattle.bloom_ast.specs.Query.{Name}
+use Rattle.bloom_forms.specs.Query.{Name}
 use Rattle.bloom_parse.specs.declared.lexing.terminal.Terminal.{Terminal}
 use Rattle.bloom_parse.specs.declared.lexing.terminal.Terminal.TheVariants as terminals
 use Rattle.bloom_parse.specs.declared.lexing.terminal.Word.{Word}

@@ -8,17 +8,17 @@ use Rattle.std.specs.List.{AllByRecursion, find, list_any, list_all}
 use Rattle.std.specs.Str.{bytes_eq}
 use Rattle.blz_value.specs.declared.value.Value.TheVariants.{Int, Text}
 use Rattle.blz_value.specs.Name.{is_name}
-use Rattle.bloom_ast.specs.declared.expr.NamedAgg.{NamedAgg}
-use Rattle.bloom_ast.specs.declared.expr.NamedAgg.TheVariants.{Count, Sum, Min, Max}
-use Rattle.bloom_ast.specs.declared.expr.Term.{Term}
-use Rattle.bloom_ast.specs.declared.expr.Term.TheVariants.{Column, Literal}
-use Rattle.bloom_ast.specs.Bounds.{is_long, is_long_term, has_long_literal, comparisons, formulas_of}
-use Rattle.bloom_ast.specs.Literals.{TermLiterals, FormulaLiterals, HasLiterals}
-use Rattle.bloom_ast.specs.Query.{Name, Formula, Query}
-use Rattle.bloom_ast.specs.Query.Formula.{compare, both, either, not_so}
-use Rattle.bloom_ast.specs.Query.Query.{base, select, project, join, notin, group, at_least}
-use Rattle.bloom_ast.specs.Reserved.{is_own_name, is_reserved, reserved_words, term_names, formula_names, pair_names, aggregate_names, query_names}
-use Rattle.bloom_ast.proofs.Faults.Levels.{neither}
+use Rattle.bloom_forms.specs.declared.expr.NamedAgg.{NamedAgg}
+use Rattle.bloom_forms.specs.declared.expr.NamedAgg.TheVariants.{Count, Sum, Min, Max}
+use Rattle.bloom_forms.specs.declared.expr.Term.{Term}
+use Rattle.bloom_forms.specs.declared.expr.Term.TheVariants.{Column, Literal}
+use Rattle.bloom_forms.specs.Bounds.{is_long, is_long_term, has_long_literal, comparisons, formulas_of}
+use Rattle.bloom_forms.specs.Literals.{TermLiterals, FormulaLiterals, HasLiterals}
+use Rattle.bloom_forms.specs.Query.{Name, Formula, Query}
+use Rattle.bloom_forms.specs.Query.Formula.{compare, both, either, not_so}
+use Rattle.bloom_forms.specs.Query.Query.{base, select, project, join, notin, group, at_least}
+use Rattle.bloom_forms.specs.Reserved.{is_own_name, is_reserved, reserved_words, term_names, formula_names, pair_names, aggregate_names, query_names}
+use Rattle.bloom_forms.proofs.Faults.Levels.{neither}
 use Rattle.bloom_parse.specs.declared.lexing.terminal.Terminal.{Terminal}
 use Rattle.bloom_parse.specs.declared.lexing.terminal.Terminal.TheVariants as terminals
 use Rattle.bloom_parse.specs.declared.lexing.terminal.Mark.TheVariants as marks

@@ -1,8 +1,8 @@
 -- Reading lists and aggregates.
 use Rattle.std.specs.Prelude.{ℕ, zero, suc, List, [], ◌∷◌, ◌++◌, length, drop, Result, Ok, Err, Bool, if◌then◌else◌}
-use Rattle.bloom_ast.specs.declared.expr.NamedAgg.{NamedAgg}
-use Rattle.bloom_ast.specs.declared.expr.NamedAgg.TheVariants.{Count, Sum, Min, Max}
-use Rattle.bloom_ast.specs.Query.{Name}
+use Rattle.bloom_forms.specs.declared.expr.NamedAgg.{NamedAgg}
+use Rattle.bloom_forms.specs.declared.expr.NamedAgg.TheVariants.{Count, Sum, Min, Max}
+use Rattle.bloom_forms.specs.Query.{Name}
 use Rattle.bloom_parse.specs.declared.lexing.terminal.Terminal.{Terminal}
 use Rattle.bloom_parse.specs.declared.lexing.terminal.Terminal.TheVariants as terminals
 use Rattle.bloom_parse.specs.declared.lexing.terminal.Word.TheVariants as words

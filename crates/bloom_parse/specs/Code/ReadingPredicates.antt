@@ -1,9 +1,9 @@
 -- Reading predicates.
 use Rattle.std.specs.Prelude.{ℕ, zero, suc, ◌-◌, ◌==◌, List, ◌∷◌, length, drop, Option, Some, None, Result, Ok, Err, if◌then◌else◌}
-use Rattle.bloom_ast.specs.declared.expr.Pred.{Pred}
-use Rattle.bloom_ast.specs.Form.{formula_of}
-use Rattle.bloom_ast.specs.Query.{Formula}
-use Rattle.bloom_ast.specs.Query.Formula.{compare, both, either, not_so}
+use Rattle.bloom_forms.specs.declared.expr.Pred.{Pred}
+use Rattle.bloom_forms.specs.Form.{formula_of}
+use Rattle.bloom_forms.specs.Query.{Formula}
+use Rattle.bloom_forms.specs.Query.Formula.{compare, both, either, not_so}
 use Rattle.bloom_parse.specs.declared.lexing.terminal.Terminal.{Terminal}
 use Rattle.bloom_parse.specs.declared.lexing.terminal.Terminal.TheVariants as terminals
 use Rattle.bloom_parse.specs.declared.lexing.terminal.Word.TheVariants as words

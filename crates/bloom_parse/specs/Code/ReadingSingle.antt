@@ -3,9 +3,9 @@ use Rattle.std.specs.Prelude.{◌≡◌, ℕ, ℤ, pos, int_le, List, [], ◌∷
 use Rattle.blz_value.specs.declared.test.Op.{Op}
 use Rattle.blz_value.specs.declared.test.Op.TheVariants.{Eq, Le}
 use Rattle.blz_value.specs.declared.value.Value.TheVariants.{Int, Text}
-use Rattle.bloom_ast.specs.declared.expr.Term.{Term}
-use Rattle.bloom_ast.specs.declared.expr.Term.TheVariants.{Column, Literal}
-use Rattle.bloom_ast.specs.Query.{Name}
+use Rattle.bloom_forms.specs.declared.expr.Term.{Term}
+use Rattle.bloom_forms.specs.declared.expr.Term.TheVariants.{Column, Literal}
+use Rattle.bloom_forms.specs.Query.{Name}
 use Rattle.bloom_parse.specs.declared.lexing.terminal.Terminal.{Terminal}
 use Rattle.bloom_parse.specs.declared.lexing.terminal.Terminal.TheVariants as terminals
 use Rattle.bloom_parse.specs.declared.lexing.terminal.Word.TheVariants as words

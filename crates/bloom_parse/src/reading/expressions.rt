@@ -1,6 +1,6 @@
 //! Expressions at the front of a list of terminals.
 ghost use Rattle.std.specs.Prelude.{◌≡◌, IfOk};
-ghost use Rattle.bloom_ast.specs.Form.{query_of};
+ghost use Rattle.bloom_forms.specs.Form.{query_of};
 ghost use Rattle.bloom_parse.specs.Code.ReadingSingle.{Gives};
 ghost use Rattle.bloom_parse.specs.Code.ReadingExprs.{operator_of, base_at, opened_by, select_by, project_by, parts_by, keyed_by, group_by, at_least_by, by_operator, expr_at};
 
@@ -9,7 +9,7 @@ use crate::reading::lists::{aggregate, item, items, keys, pairs};
 use crate::reading::predicates::{MORE_COMPARISONS, pred};
 use crate::reading::read_fault::ReadFault;
 use crate::reading::single::{as_word, behind_first, bound, mark, name};
-use bloom_ast::Expr;
+use bloom_forms::Expr;
 use blz_value::{Items, Str};
 use std::alloc::{AllocError, Global};
 

@@ -8,7 +8,7 @@ use crate::reading::read_fault::ReadFault;
 use crate::reading::single::{
     behind_first, equals, is_as_first, is_close_keys_first, is_comma_first, mark, name,
 };
-use bloom_ast::NamedAgg;
+use bloom_forms::NamedAgg;
 use blz_value::Str;
 use std::alloc::Global;
 

@@ -1,15 +1,15 @@
 //! Predicates at the front of a list of terminals.
 ghost use Rattle.std.specs.Prelude.{◌≡◌, None, Ok, IfOk};
 ghost use Rattle.std.specs.Option.{option_map};
-ghost use Rattle.bloom_ast.specs.Form.{formula_of};
-ghost use Rattle.bloom_ast.specs.Query.Formula.{both};
+ghost use Rattle.bloom_forms.specs.Form.{formula_of};
+ghost use Rattle.bloom_forms.specs.Query.Formula.{both};
 ghost use Rattle.bloom_parse.specs.Code.ReadingSingle.{Gives};
 ghost use Rattle.bloom_parse.specs.Code.ReadingPredicates.{opening_of, link_of, unit_by, summed_of, formulas, comparison_at, chain_at, pred_by, unit_at};
 
 use crate::lexing::terminal::{Mark, Terminal, Word};
 use crate::reading::read_fault::ReadFault;
 use crate::reading::single::{behind_first, mark, operand, sign};
-use bloom_ast::{MOST_COMPARISONS, Pred};
+use bloom_forms::{MOST_COMPARISONS, Pred};
 use std::alloc::{AllocError, Global};
 
 /// Most comparisons of a select behind its first.

@@ -1,6 +1,6 @@
 //! Reads a module, over terminals.
 ghost use Rattle.std.specs.Prelude.{◌≡◌, Ok, IfOk, IfErr};
-ghost use Rattle.bloom_ast.specs.Form.{Form, rule_form, rule_forms, form_of};
+ghost use Rattle.bloom_forms.specs.Form.{Form, rule_form, rule_forms, form_of};
 ghost use Rattle.bloom_parse.specs.Places.{IsModuleText};
 ghost use Rattle.bloom_parse.specs.Code.ReadPlaces.{IsPlace};
 ghost use Rattle.bloom_parse.specs.Code.ReadingSingle.{Gives};
@@ -11,7 +11,7 @@ use crate::reading::expressions::expr;
 use crate::reading::lists::names;
 use crate::reading::read_fault::ReadFault;
 use crate::reading::single::{arrow, behind_first, is_name_first, mark, module_word, name};
-use bloom_ast::{Collection, Kind, MOST_LEVELS, Module, Rule};
+use bloom_forms::{Collection, Kind, MOST_LEVELS, Module, Rule};
 use blz_value::Items;
 use std::alloc::Global;
 

@@ -4,7 +4,7 @@ ghost use Rattle.bloom_parse.specs.Code.ReadingSingle.{Gives, mark_at, name_at, 
 
 use crate::lexing::terminal::{Mark, Terminal, Word};
 use crate::reading::read_fault::ReadFault;
-use bloom_ast::Term;
+use bloom_forms::Term;
 use blz_value::{Op, Str, Value};
 use std::alloc::Global;
 

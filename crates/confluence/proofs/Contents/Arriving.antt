@@ -6,15 +6,15 @@ use Rattle.std.proofs.lemmas.List.FromFn.{length-map-range_with_len}
 use Rattle.blz_value.specs.Members.{Has}
 use Rattle.blz_value.specs.Record.{Row}
 use Rattle.blz_value.proofs.SetLaws.{Has-from_set_of}
-use Rattle.bloom_ast.specs.declared.program.Program.{Program}
-use Rattle.bloom_ast.specs.Program.{port_columns, output_columns}
-use Rattle.bloom_ast.specs.Step.{Sets, set_at}
-use Rattle.path_annotate.specs.Annotation.{note_of}
-use Rattle.path_annotate.specs.declared.note.Note.{Note}
-use Rattle.topo_types.specs.Data.{Data}
-use Rattle.topo_types.specs.Messages.{rows_in}
-use Rattle.topo_types.specs.Valid.{Runs, IsCovered}
-use Rattle.topo_types.specs.View.{View, origin_of, program_of, is_order, replicas_of, component_at, note_at, has_stream}
+use Rattle.bloom_forms.specs.declared.program.Program.{Program}
+use Rattle.bloom_forms.specs.Program.{port_columns, output_columns}
+use Rattle.bloom_forms.specs.Step.{Sets, set_at}
+use Rattle.bloom_forms.specs.Annotation.{note_of}
+use Rattle.bloom_forms.specs.declared.note.Note.{Note}
+use Rattle.topo_forms.specs.Data.{Data}
+use Rattle.topo_forms.specs.Messages.{rows_in}
+use Rattle.topo_forms.specs.Valid.{Runs, IsCovered}
+use Rattle.topo_forms.specs.View.{View, origin_of, program_of, is_order, replicas_of, component_at, note_at, has_stream}
 use Rattle.inbox.specs.Instances.{Instance}
 use Rattle.inbox.specs.Timesteps.{timesteps}
 use Rattle.inbox.specs.Lives.{Life, all_lives}
@@ -23,10 +23,10 @@ use Rattle.inbox.specs.Executions.{Execution, emitted_list}
 use Rattle.inbox.proofs.TimestepLemmas.Widths.{timesteps-many}
 use Rattle.inbox.proofs.TimestepLemmas.OfLives.{batches_heard}
 use Rattle.inbox.proofs.TimestepLemmas.Entries.{Has-from_rows_in}
-use Rattle.stream_deps.specs.Sent.{IsHistory, IsSentTo, AreSent}
-use Rattle.stream_deps.proofs.Records.ArrivingLaw.{feeds_law}
-use Rattle.stream_deps.proofs.Dependencies.JointLaw.{sent_has_stream}
-use Rattle.stream_deps.proofs.Columns.Viewed.{port_count}
+use Rattle.inbox.specs.Sent.{IsHistory, IsSentTo, AreSent}
+use Rattle.inbox.proofs.Records.ArrivingLaw.{feeds_law}
+use Rattle.inbox.proofs.Dependencies.JointLaw.{sent_has_stream}
+use Rattle.inbox.proofs.Columns.Viewed.{port_count}
 use Rattle.confluence.specs.Complete.{contents_at, contents_into}
 use Rattle.confluence.proofs.Determined.Parts.{IsPart, covered_on}
 use Rattle.confluence.proofs.Contents.Heard.{from_into, heard_into}

@@ -9,12 +9,12 @@ use Rattle.blz_value.specs.Members.{Has}
 use Rattle.blz_value.specs.Record.{Row}
 use Rattle.blz_value.proofs.Membership.{Has-get_or, Has-flat_map, Has-from_flat_map, Has-filter, Has-from_filter}
 use Rattle.blz_value.proofs.SetLaws.{Has-set_of, Has-from_set_of}
-use Rattle.bloom_ast.specs.Step.{set_at}
-use Rattle.topo_types.specs.Data.{Data}
-use Rattle.topo_types.specs.Feeds.{Feed, no_feed}
-use Rattle.topo_types.specs.Messages.{Message, row, rows_in}
-use Rattle.topo_types.specs.View.{is_order_mode}
-use Rattle.inbox.specs.Messages.{Batch, Entry, all_pairs}
+use Rattle.bloom_forms.specs.Step.{set_at}
+use Rattle.topo_forms.specs.Data.{Data}
+use Rattle.topo_forms.specs.Feeds.{Feed, no_feed}
+use Rattle.topo_forms.specs.Messages.{Message, row, rows_in}
+use Rattle.topo_forms.specs.View.{is_order_mode}
+use Rattle.messages.specs.Messages.{Batch, Entry, all_pairs}
 use Rattle.inbox.specs.Instances.{Instance, port_of_feed, entries_of}
 use Rattle.inbox.specs.Timesteps.{Stands, timesteps}
 use Rattle.inbox.specs.Lives.{Life, all_lives}

@@ -5,15 +5,15 @@ use Rattle.blz_value.specs.Members.{Has, IsWithin}
 use Rattle.blz_value.specs.Record.{Row}
 use Rattle.blz_value.proofs.Membership.{Has-append_right}
 use Rattle.blz_value.proofs.SetLaws.{sorted_set_of, Has-set_of, Has-from_set_of, same_row_sets}
-use Rattle.bloom_ast.specs.declared.program.Program.{Program}
-use Rattle.bloom_ast.specs.ProgramStep.{empty_tables, answer_of}
-use Rattle.bloom_ast.specs.Step.{Sets, set_at}
-use Rattle.row_laws.specs.Runs.{output_rows, over_steps, output_over}
-use Rattle.row_laws.proofs.Confluent.ConfluentLaw.{one_step_answers}
-use Rattle.topo_types.specs.Data.{Data}
-use Rattle.topo_types.specs.Messages.{rows_in}
-use Rattle.topo_types.specs.Valid.{IsValid}
-use Rattle.topo_types.specs.View.{View, origin_of, program_of, is_order, is_order_mode, replicas_of, component_at}
+use Rattle.bloom_forms.specs.declared.program.Program.{Program}
+use Rattle.bloom_forms.specs.ProgramStep.{empty_tables, answer_of}
+use Rattle.bloom_forms.specs.Step.{Sets, set_at}
+use Rattle.bloom_forms.specs.Runs.{output_rows, over_steps, output_over}
+use Rattle.bloom_forms.proofs.Confluent.ConfluentLaw.{one_step_answers}
+use Rattle.topo_forms.specs.Data.{Data}
+use Rattle.topo_forms.specs.Messages.{rows_in}
+use Rattle.topo_forms.specs.Valid.{IsValid}
+use Rattle.topo_forms.specs.View.{View, origin_of, program_of, is_order, is_order_mode, replicas_of, component_at}
 use Rattle.inbox.specs.Instances.{Instance}
 use Rattle.inbox.specs.Timesteps.{timesteps}
 use Rattle.inbox.specs.Lives.{Life, all_lives, life_timesteps}
@@ -26,8 +26,8 @@ use Rattle.inbox.proofs.TimestepLemmas.Entries.{Has-rows_in, Has-from_rows_in}
 use Rattle.confluence.specs.Complete.{contents_into}
 use Rattle.confluence.proofs.Contents.Heard.{last_heard}
 use Rattle.confluence.proofs.Determined.Rows.{AreAllIn, IsDetermined}
-use Rattle.bloom_ast.specs.Proper.{IsProper}
-use Rattle.stream_deps.proofs.Records.RowsLaw.{rows_law}
+use Rattle.bloom_forms.specs.Proper.{IsProper}
+use Rattle.inbox.proofs.Records.RowsLaw.{rows_law}
 
 -- ---- one stream
 

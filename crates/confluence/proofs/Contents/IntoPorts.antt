@@ -2,16 +2,16 @@
 use Rattle.std.proofs.Common.{◌≡◌, ◌<◌, ℕ, true, false, length, ap, ◌∙◌, sym, subst}
 use Rattle.blz_value.specs.Members.{Has}
 use Rattle.blz_value.specs.Record.{Row}
-use Rattle.bloom_ast.specs.Step.{set_at}
-use Rattle.topo_types.specs.Data.{Data}
-use Rattle.topo_types.specs.Feeds.{Feed}
-use Rattle.topo_types.specs.Valid.{IsValid}
-use Rattle.topo_types.specs.View.{View, is_order, replicas_of, stream_replicas, component_at, goes_to}
+use Rattle.bloom_forms.specs.Step.{set_at}
+use Rattle.topo_forms.specs.Data.{Data}
+use Rattle.topo_forms.specs.Feeds.{Feed}
+use Rattle.topo_forms.specs.Valid.{IsValid}
+use Rattle.topo_forms.specs.View.{View, is_order, replicas_of, stream_replicas, component_at, goes_to}
 use Rattle.inbox.specs.Instances.{Instance}
 use Rattle.inbox.specs.Wiring.{wiring_of, instance_at}
 use Rattle.inbox.specs.Executions.{Execution, contents}
 use Rattle.inbox.proofs.WiringLemmas.{instance-wired, instance-ports}
-use Rattle.stream_deps.proofs.Streams.IntoPorts.{goes_is}
+use Rattle.inbox.proofs.Streams.IntoPorts.{goes_is}
 use Rattle.confluence.specs.Complete.{contents_into}
 use Rattle.confluence.proofs.Contents.Heard.{in_into}
 use Rattle.confluence.proofs.Contents.Pairing.{port_feed}

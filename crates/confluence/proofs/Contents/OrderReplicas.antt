@@ -3,12 +3,12 @@ use Rattle.std.proofs.Common.{◌≡◌, ◌<◌, ◌≤◌, ℕ, true, Option, 
 use Rattle.std.proofs.lemmas.List.{take_all, length-map}
 use Rattle.blz_value.proofs.Membership.{Has-append_right, Has-map}
 use Rattle.blz_value.proofs.SetLaws.{Has-from_set_of}
-use Rattle.bloom_ast.specs.declared.program.Program.{Program}
-use Rattle.bloom_ast.specs.Program.{port_columns}
-use Rattle.topo_types.specs.Data.{Data}
-use Rattle.topo_types.specs.Messages.{rows_in}
-use Rattle.topo_types.specs.Valid.{IsValid}
-use Rattle.topo_types.specs.View.{View, origin_of, program_of, is_order, is_order_mode, replicas_of, component_at, stream_at}
+use Rattle.bloom_forms.specs.declared.program.Program.{Program}
+use Rattle.bloom_forms.specs.Program.{port_columns}
+use Rattle.topo_forms.specs.Data.{Data}
+use Rattle.topo_forms.specs.Messages.{rows_in}
+use Rattle.topo_forms.specs.Valid.{IsValid}
+use Rattle.topo_forms.specs.View.{View, origin_of, program_of, is_order, is_order_mode, replicas_of, component_at, stream_at}
 use Rattle.inbox.specs.Instances.{Instance}
 use Rattle.inbox.specs.Folds.{fold_rows}
 use Rattle.inbox.specs.Lives.{Life, Lives, all_lives}

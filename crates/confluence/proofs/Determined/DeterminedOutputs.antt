@@ -6,33 +6,33 @@ use Rattle.std.proofs.lemmas.Bool.{cases_Bool, true≢false}
 use Rattle.blz_value.specs.Members.{Has, IsWithin, HaveEqualMembers}
 use Rattle.blz_value.specs.Record.{Row}
 use Rattle.blz_value.proofs.Membership.{Has-from_any, any_from_Has, Has-from_map, Has-get_or, Has-filter}
-use Rattle.fd_closure.specs.declared.attrs.Attrs.{Attrs}
-use Rattle.fd_closure.specs.declared.attrs.Fd.{Fd}
-use Rattle.fd_closure.specs.Closure.{within, closure}
-use Rattle.fd_closure.proofs.Least.{closure-least}
-use Rattle.fd_closure.proofs.Reached.{least-monotone}
-use Rattle.fd_closure.proofs.Within.{within-trans}
-use Rattle.fd_closure.proofs.MembersInOrder.{members_within}
-use Rattle.bloom_ast.specs.declared.program.Program.{Program}
-use Rattle.bloom_ast.specs.Program.{port_columns}
-use Rattle.bloom_ast.specs.ProgramStep.{answer_of}
-use Rattle.bloom_ast.specs.Step.{Sets, set_at}
-use Rattle.path_annotate.specs.declared.note.Note.{Note}
-use Rattle.path_annotate.specs.declared.note.Note.TheVariants.{CR, CW, OR, OW}
+use Rattle.blz_value.specs.declared.attrs.Attrs.{Attrs}
+use Rattle.blz_value.specs.declared.attrs.Fd.{Fd}
+use Rattle.blz_value.specs.Closure.{within, closure}
+use Rattle.blz_value.proofs.Least.{closure-least}
+use Rattle.blz_value.proofs.Reached.{least-monotone}
+use Rattle.blz_value.proofs.Within.{within-trans}
+use Rattle.blz_value.proofs.MembersInOrder.{members_within}
+use Rattle.bloom_forms.specs.declared.program.Program.{Program}
+use Rattle.bloom_forms.specs.Program.{port_columns}
+use Rattle.bloom_forms.specs.ProgramStep.{answer_of}
+use Rattle.bloom_forms.specs.Step.{Sets, set_at}
+use Rattle.bloom_forms.specs.declared.note.Note.{Note}
+use Rattle.bloom_forms.specs.declared.note.Note.TheVariants.{CR, CW, OR, OW}
 use Rattle.blz_value.proofs.SetLaws.{Has-set_of, Has-from_set_of}
-use Rattle.row_laws.specs.Classes.{IsInClosure, of_class}
-use Rattle.row_laws.specs.Ports.{AreSilentAt}
-use Rattle.row_laws.specs.Runs.{rows_over, at_once}
-use Rattle.row_laws.proofs.Split.ClassesLemmas.{from_class}
-use Rattle.topo_types.specs.Carried.{is_confluent, port_carries}
-use Rattle.topo_types.specs.Data.{Data, Holds}
-use Rattle.topo_types.specs.Dependencies.{usable_fds}
-use Rattle.topo_types.specs.Sets.{below}
-use Rattle.topo_types.specs.Feeds.{Feed, no_feed}
-use Rattle.topo_types.specs.Messages.{row, rows_in}
-use Rattle.topo_types.specs.Valid.{IsCovered}
-use Rattle.topo_types.specs.View.{View, origin_of, program_of, is_order, mode_key, replicas_of, component_at, note_at, has_stream, goes_to, port_at, port_attrs, stream_numbers}
-use Rattle.topo_types.proofs.Regions.Spreading.{from_below, in_below, both_true, and_true}
+use Rattle.bloom_forms.specs.Classes.{IsInClosure, of_class}
+use Rattle.bloom_forms.specs.Ports.{AreSilentAt}
+use Rattle.bloom_forms.specs.Runs.{rows_over, at_once}
+use Rattle.bloom_forms.proofs.Split.ClassesLemmas.{from_class}
+use Rattle.topo_forms.specs.Carried.{is_confluent, port_carries}
+use Rattle.topo_forms.specs.Data.{Data, Holds}
+use Rattle.topo_forms.specs.Dependencies.{usable_fds}
+use Rattle.blz_value.specs.NumberSets.{below}
+use Rattle.topo_forms.specs.Feeds.{Feed, no_feed}
+use Rattle.topo_forms.specs.Messages.{row, rows_in}
+use Rattle.topo_forms.specs.Valid.{IsCovered}
+use Rattle.topo_forms.specs.View.{View, origin_of, program_of, is_order, mode_key, replicas_of, component_at, note_at, has_stream, goes_to, port_at, port_attrs, stream_numbers}
+use Rattle.topo_forms.proofs.Regions.Spreading.{from_below, in_below, both_true, and_true}
 use Rattle.inbox.specs.Instances.{Instance}
 use Rattle.inbox.specs.Timesteps.{timesteps}
 use Rattle.inbox.specs.Lives.{Life, all_lives}
@@ -43,12 +43,12 @@ use Rattle.inbox.proofs.WiringLemmas.{instance-ports, port_of-feed}
 use Rattle.inbox.proofs.TimestepLemmas.Entries.{Has-rows_in, Has-from_rows_in}
 use Rattle.inbox.specs.Executions.{Execution, emitted_list, contents}
 use Rattle.inbox.specs.Completeness.{IsComplete}
-use Rattle.stream_deps.specs.Sent.{IsHistory}
-use Rattle.stream_deps.specs.Agreement.{HaveKey}
-use Rattle.stream_deps.proofs.Streams.IntoPorts.{end_there}
-use Rattle.stream_deps.proofs.Columns.Attributes.{within-small, numbers_are_roots}
-use Rattle.stream_deps.proofs.Records.ArrivingLaw.{arrivals_law}
-use Rattle.stream_deps.proofs.Dependencies.JointLaw.{keyed_law}
+use Rattle.inbox.specs.Sent.{IsHistory}
+use Rattle.inbox.specs.Agreement.{HaveKey}
+use Rattle.inbox.proofs.Streams.IntoPorts.{end_there}
+use Rattle.inbox.proofs.Columns.Attributes.{within-small, numbers_are_roots}
+use Rattle.inbox.proofs.Records.ArrivingLaw.{arrivals_law}
+use Rattle.inbox.proofs.Dependencies.JointLaw.{keyed_law}
 use Rattle.confluence.specs.Complete.{contents_into}
 use Rattle.confluence.specs.LabelMeaning.{HasConfluentPaths, IsPath, IsGuarded}
 use Rattle.confluence.specs.Partitions.{IsFed, IsSealing, AreCarrying, IsAtOnce}
@@ -60,9 +60,9 @@ use Rattle.confluence.proofs.Determined.Rows.{AreInside, IsDetermined, from_once
 use Rattle.confluence.proofs.Contents.Instances.{inside, instance_is, determined_contents}
 use Rattle.confluence.proofs.Determined.Notes.{covers_o, covers_some, covers_read, w_some, not_o}
 use Rattle.confluence.proofs.Contents.Arriving.{runs, ports_same, output_column, note_covers, arrives_over, life_inside, inside_sent, long_all, long_life, all_inside}
-use Rattle.path_annotate.specs.Given.{AreAllC, is_o, is_w}
-use Rattle.path_annotate.specs.Note.{own_gate}
-use Rattle.fd_closure.specs.Bits.{members}
+use Rattle.bloom_forms.specs.Given.{AreAllC, is_o, is_w}
+use Rattle.bloom_forms.specs.Note.{own_gate}
+use Rattle.blz_value.specs.Bits.{members}
 
 -- The plan: the contents are the rows over the lives of an instance. Of each life the rows of a part have
 -- to be among those of all at once, and of the last life, which heard all, they have to be these. Where

@@ -2,14 +2,14 @@
 use Rattle.std.proofs.Common.{◌≡◌, Bool, true, false, Option, None, Some, refl}
 use Rattle.std.proofs.lemmas.Bool.{and_parts}
 use Rattle.std.specs.Prelude.{is_some}
-use Rattle.fd_closure.specs.declared.attrs.Attrs.{Attrs}
-use Rattle.fd_closure.specs.Closure.{within}
-use Rattle.path_annotate.specs.declared.note.Note.{Note}
-use Rattle.path_annotate.specs.declared.note.Note.TheVariants.{CR, CW, OR, OW}
-use Rattle.path_annotate.specs.Note.{is_write, covers_write, covers_gate, own_gate}
-use Rattle.topo_types.specs.Valid.{IsCovered}
+use Rattle.blz_value.specs.declared.attrs.Attrs.{Attrs}
+use Rattle.blz_value.specs.Closure.{within}
+use Rattle.bloom_forms.specs.declared.note.Note.{Note}
+use Rattle.bloom_forms.specs.declared.note.Note.TheVariants.{CR, CW, OR, OW}
+use Rattle.bloom_forms.specs.Note.{is_write, covers_write, covers_gate, own_gate}
+use Rattle.topo_forms.specs.Valid.{IsCovered}
 use Rattle.confluence.specs.LabelMeaning.{is_ordered_read}
-use Rattle.path_annotate.specs.Given.{is_o, is_w}
+use Rattle.bloom_forms.specs.Given.{is_o, is_w}
 
 -- a gate within another
 record Gates (a b : Option Attrs) : Type 0 where

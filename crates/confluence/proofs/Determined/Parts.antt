@@ -4,44 +4,44 @@ use Rattle.std.specs.Prelude.{is_some, if◌then◌else◌}
 use Rattle.blz_value.specs.Members.{Has, IsWithin}
 use Rattle.blz_value.specs.Record.{Row}
 use Rattle.blz_value.proofs.Membership.{Has-map}
-use Rattle.bloom_ast.specs.declared.program.Program.{Program}
-use Rattle.bloom_ast.specs.declared.program.Program.TheVariants.{Module, Split, Latest, Number}
-use Rattle.bloom_ast.specs.declared.module.Kind.TheVariants.{Input}
-use Rattle.bloom_ast.specs.Form.{RuleForm, Accepted}
-use Rattle.bloom_ast.specs.Program.{output_columns}
-use Rattle.bloom_ast.specs.Step.{Sets, rules_at}
-use Rattle.bloom_ast.specs.Checks.{IsChecked}
-use Rattle.path_annotate.specs.declared.note.Note.{Note}
-use Rattle.path_annotate.specs.declared.note.Note.TheVariants.{OR, OW}
-use Rattle.path_annotate.specs.Annotation.{note_of, gate_of_output, key_set, latest_note}
-use Rattle.path_annotate.specs.Good.{good_tables}
-use Rattle.bloom_ast.specs.KindNumbers.{number_in_kind}
-use Rattle.path_annotate.specs.Uses.{both_uses, all_uses}
-use Rattle.path_annotate.proofs.Combining.Using.{uses_have_gate}
-use Rattle.path_annotate.proofs.Combining.CoversLaw.{covers_law, combine_law}
-use Rattle.fd_closure.specs.declared.attrs.Attrs.{Attrs}
-use Rattle.topo_types.specs.Data.{Data}
-use Rattle.topo_types.specs.Valid.{IsCovered}
-use Rattle.topo_types.specs.View.{View, program_of}
-use Rattle.inbox.specs.Messages.{Batch}
+use Rattle.bloom_forms.specs.declared.program.Program.{Program}
+use Rattle.bloom_forms.specs.declared.program.Program.TheVariants.{Module, Split, Latest, Number}
+use Rattle.bloom_forms.specs.declared.module.Kind.TheVariants.{Input}
+use Rattle.bloom_forms.specs.Form.{RuleForm, Accepted}
+use Rattle.bloom_forms.specs.Program.{output_columns}
+use Rattle.bloom_forms.specs.Step.{Sets, rules_at}
+use Rattle.bloom_forms.specs.Checks.{IsChecked}
+use Rattle.bloom_forms.specs.declared.note.Note.{Note}
+use Rattle.bloom_forms.specs.declared.note.Note.TheVariants.{OR, OW}
+use Rattle.bloom_forms.specs.Annotation.{note_of, gate_of_output, key_set, latest_note}
+use Rattle.bloom_forms.specs.Good.{good_tables}
+use Rattle.bloom_forms.specs.KindNumbers.{number_in_kind}
+use Rattle.bloom_forms.specs.Uses.{both_uses, all_uses}
+use Rattle.bloom_forms.proofs.Combining.Using.{uses_have_gate}
+use Rattle.bloom_forms.proofs.Combining.CoversLaw.{covers_law, combine_law}
+use Rattle.blz_value.specs.declared.attrs.Attrs.{Attrs}
+use Rattle.topo_forms.specs.Data.{Data}
+use Rattle.topo_forms.specs.Valid.{IsCovered}
+use Rattle.topo_forms.specs.View.{View, program_of}
+use Rattle.messages.specs.Messages.{Batch}
 use Rattle.inbox.specs.Executions.{Execution}
 use Rattle.confluence.specs.Partitions.{IsSealing, AreCarrying, IsWaiting, IsAtOnce}
 use Rattle.confluence.proofs.Honest.PartitionLaw.{partitions_of_rules, partitions_of_outputs}
-use Rattle.row_laws.specs.Confluence.{IsConfluent}
-use Rattle.row_laws.specs.Ports.{SeesItsPorts, IsSilent}
-use Rattle.row_laws.specs.Runs.{query_rows, output_rows, output_over, rows_over}
-use Rattle.row_laws.specs.Splitting.{SplitsByClass}
-use Rattle.row_laws.proofs.Confluent.ConfluentLaw.{rules_confluent, all_confluent}
-use Rattle.row_laws.proofs.Ports.Outputs.{outputs_by_rules}
-use Rattle.row_laws.proofs.Ports.Rules.{rules_see}
-use Rattle.row_laws.proofs.Ports.PortsLaw.{outputs_see, stock_silent}
-use Rattle.row_laws.proofs.Split.SplitLaw.{all_rules_split, all_split}
-use Rattle.row_laws.proofs.Rows.Outputs.{number}
-use Rattle.bloom_ast.proofs.Reach.ReadsLemmas.{rule_stands}
-use Rattle.bloom_ast.specs.Proper.{IsProper}
-use Rattle.path_annotate.specs.Given.{AreAllC}
-use Rattle.path_annotate.specs.Annotation.{rule_gate, rule_use}
-use Rattle.path_annotate.specs.Note.{own_gate}
+use Rattle.bloom_forms.specs.Confluence.{IsConfluent}
+use Rattle.bloom_forms.specs.Ports.{SeesItsPorts, IsSilent}
+use Rattle.bloom_forms.specs.Runs.{query_rows, output_rows, output_over, rows_over}
+use Rattle.bloom_forms.specs.Splitting.{SplitsByClass}
+use Rattle.bloom_forms.proofs.Confluent.ConfluentLaw.{rules_confluent, all_confluent}
+use Rattle.bloom_forms.proofs.Ports.Outputs.{outputs_by_rules}
+use Rattle.bloom_forms.proofs.Ports.Rules.{rules_see}
+use Rattle.bloom_forms.proofs.Ports.PortsLaw.{outputs_see, stock_silent}
+use Rattle.bloom_forms.proofs.Split.SplitLaw.{all_rules_split, all_split}
+use Rattle.bloom_forms.proofs.Rows.Outputs.{number}
+use Rattle.bloom_forms.proofs.Reach.ReadsLemmas.{rule_stands}
+use Rattle.bloom_forms.specs.Proper.{IsProper}
+use Rattle.bloom_forms.specs.Given.{AreAllC}
+use Rattle.bloom_forms.specs.Annotation.{rule_gate, rule_use}
+use Rattle.bloom_forms.specs.Note.{own_gate}
 
 -- ---- covers
 

@@ -7,20 +7,20 @@ use Rattle.std.proofs.lemmas.List.FromFn.{length-map-range_with_len}
 use Rattle.blz_value.specs.Members.{Has, IsWithin, HaveEqualMembers}
 use Rattle.blz_value.specs.Record.{Row}
 use Rattle.blz_value.proofs.Membership.{Has-map, Has-from_map}
-use Rattle.fd_closure.specs.declared.attrs.Fd.{Fd}
-use Rattle.bloom_ast.specs.declared.program.Program.{Program}
-use Rattle.bloom_ast.specs.Program.{port_columns}
-use Rattle.bloom_ast.specs.Step.{Sets, set_at}
-use Rattle.path_annotate.specs.declared.note.Note.{Note}
-use Rattle.row_laws.specs.Classes.{AreKeyed, IsInClosure, of_class}
-use Rattle.row_laws.specs.Ports.{AreSilentAt}
-use Rattle.row_laws.specs.Runs.{rows_over, at_once, arriving_at}
-use Rattle.row_laws.proofs.Split.ClassesLemmas.{from_class, in_class}
-use Rattle.row_laws.proofs.Ports.Rules.{at_once_union}
-use Rattle.topo_types.specs.View.{View}
+use Rattle.blz_value.specs.declared.attrs.Fd.{Fd}
+use Rattle.bloom_forms.specs.declared.program.Program.{Program}
+use Rattle.bloom_forms.specs.Program.{port_columns}
+use Rattle.bloom_forms.specs.Step.{Sets, set_at}
+use Rattle.bloom_forms.specs.declared.note.Note.{Note}
+use Rattle.bloom_forms.specs.Classes.{AreKeyed, IsInClosure, of_class}
+use Rattle.bloom_forms.specs.Ports.{AreSilentAt}
+use Rattle.bloom_forms.specs.Runs.{rows_over, at_once, arriving_at}
+use Rattle.bloom_forms.proofs.Split.ClassesLemmas.{from_class, in_class}
+use Rattle.bloom_forms.proofs.Ports.Rules.{at_once_union}
+use Rattle.topo_forms.specs.View.{View}
 use Rattle.confluence.proofs.Determined.Parts.{IsPart}
-use Rattle.bloom_ast.specs.Steps.{AreArrivals}
-use Rattle.path_annotate.specs.Given.{AreAllC, is_o, is_w}
+use Rattle.bloom_forms.specs.Steps.{AreArrivals}
+use Rattle.bloom_forms.specs.Given.{AreAllC, is_o, is_w}
 
 -- each record of the timesteps is among all
 abbrev pub AreInside : List Sets → Sets → Type 0

@@ -5,11 +5,11 @@ use Rattle.blz_value.specs.Members.{Has}
 use Rattle.blz_value.specs.Record.{Row}
 use Rattle.blz_value.specs.Operators.{cells}
 use Rattle.blz_value.proofs.Membership.{Has-filter}
-use Rattle.topo_types.specs.Data.{Data}
-use Rattle.topo_types.specs.Messages.{row, is_same_row}
-use Rattle.topo_types.specs.Sets.{below}
-use Rattle.topo_types.proofs.Regions.Spreading.{in_below}
-use Rattle.inbox.specs.Messages.{Pair, Entry}
+use Rattle.topo_forms.specs.Data.{Data}
+use Rattle.topo_forms.specs.Messages.{row, is_same_row}
+use Rattle.blz_value.specs.NumberSets.{below}
+use Rattle.topo_forms.proofs.Regions.Spreading.{in_below}
+use Rattle.messages.specs.Messages.{Pair, Entry}
 use Rattle.inbox.specs.Instances.{Instance, port_of_feed, key_places_at, is_carrying, entries_of, key_of_entry}
 use Rattle.inbox.specs.Timesteps.{is_whole}
 use Rattle.inbox.specs.Wiring.{Wiring}

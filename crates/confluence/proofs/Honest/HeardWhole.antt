@@ -11,9 +11,9 @@ use Rattle.blz_value.specs.Sets.{set_of}
 use Rattle.blz_value.proofs.Membership.{Has-from_map, Has-filter, Has-from_filter}
 use Rattle.blz_value.proofs.SetLaws.{sorted_set_of, Has-set_of, Has-from_set_of}
 use Rattle.blz_value.proofs.RowSets.{length-set_of-le}
-use Rattle.topo_types.specs.Data.{Data}
-use Rattle.topo_types.specs.Messages.{Message, row, seal, is_same_row, row_in, rows_in}
-use Rattle.inbox.specs.Messages.{Pair, Entry}
+use Rattle.topo_forms.specs.Data.{Data}
+use Rattle.topo_forms.specs.Messages.{Message, row, seal, is_same_row, row_in, rows_in}
+use Rattle.messages.specs.Messages.{Pair, Entry}
 use Rattle.inbox.specs.Instances.{Instance, port_of_feed, key_places_at, carrying_feeds, entries_of, key_of_entry, is_of_key}
 use Rattle.inbox.specs.Timesteps.{is_whole, from_feed}
 use Rattle.inbox.specs.Wiring.{Wiring}

@@ -4,20 +4,20 @@ use Rattle.std.proofs.lemmas.Bool.{false_from_ne_true}
 use Rattle.std.specs.Prelude.{is_some}
 use Rattle.std.specs.List.{list_all}
 use Rattle.std.specs.Option.{option_map, option_map_or, option_and_then}
-use Rattle.fd_closure.specs.declared.attrs.Attrs.{Attrs}
+use Rattle.blz_value.specs.declared.attrs.Attrs.{Attrs}
 use Rattle.blz_value.specs.Members.{Has}
 use Rattle.blz_value.specs.Operators.{cells}
 use Rattle.blz_value.proofs.Membership.{Has-append_right, Has-from_flat_map, Has-get_or, all_member}
-use Rattle.bloom_ast.specs.declared.program.Program.{Program}
-use Rattle.bloom_ast.specs.ProgramStep.{empty_tables}
-use Rattle.topo_types.specs.Carried.{carries_key, key_before, carries}
-use Rattle.topo_types.specs.Data.{Data, Holds, source_data, key_places}
-use Rattle.topo_types.specs.Feeds.{Feed, no_feed}
-use Rattle.topo_types.specs.Messages.{Message, row, seal, rows_in, is_same_row, source_messages}
-use Rattle.topo_types.specs.Regions.{region_of}
-use Rattle.topo_types.specs.Valid.{IsValid}
-use Rattle.topo_types.specs.View.{View, End, origin_of, stream_at, stream_replicas, component_at, output_at, mode_of, mode_key, program_of, replicas_of, has_stream, goes_to, senders_of, stream_of, streams_to, is_order_mode}
-use Rattle.topo_types.proofs.Regions.Spreading.{both_true}
+use Rattle.bloom_forms.specs.declared.program.Program.{Program}
+use Rattle.bloom_forms.specs.ProgramStep.{empty_tables}
+use Rattle.topo_forms.specs.Carried.{carries_key, key_before, carries}
+use Rattle.topo_forms.specs.Data.{Data, Holds, source_data, key_places}
+use Rattle.topo_forms.specs.Feeds.{Feed, no_feed}
+use Rattle.topo_forms.specs.Messages.{Message, row, seal, rows_in, is_same_row, source_messages}
+use Rattle.topo_forms.specs.Regions.{region_of}
+use Rattle.topo_forms.specs.Valid.{IsValid}
+use Rattle.topo_forms.specs.View.{View, End, origin_of, stream_at, stream_replicas, component_at, output_at, mode_of, mode_key, program_of, replicas_of, has_stream, goes_to, senders_of, stream_of, streams_to, is_order_mode}
+use Rattle.topo_forms.proofs.Regions.Spreading.{both_true}
 use Rattle.inbox.specs.Instances.{Instance, is_carrying}
 use Rattle.inbox.specs.Timesteps.{timesteps}
 use Rattle.inbox.specs.Wiring.{Wiring, wiring_of, instance_for, carried_places}
@@ -28,10 +28,10 @@ use Rattle.inbox.proofs.Lists.Repeats.{no_repeats-emitted_by}
 use Rattle.inbox.proofs.Lists.Rows.{life_rows, rows_of_list}
 use Rattle.messages.proofs.MessagesLemmas.{is_same_row-is}
 use Rattle.inbox.proofs.WiringLemmas.{instance-wired, stream-wired, instance-feeds, length-below, port_of-feed}
-use Rattle.stream_deps.specs.Sent.{IsHistory}
-use Rattle.stream_deps.proofs.Streams.CarriedKeys.{carries-from, key_of_source, may_carry-is, carried_output, carried_at, not_ordered, comes_lower, output_places, port_places}
-use Rattle.stream_deps.proofs.Streams.IntoPorts.{into_port}
-use Rattle.stream_deps.proofs.Streams.InstancePorts.{carrying_is, places_only}
+use Rattle.inbox.specs.Sent.{IsHistory}
+use Rattle.inbox.proofs.Streams.CarriedKeys.{carries-from, key_of_source, may_carry-is, carried_output, carried_at, not_ordered, comes_lower, output_places, port_places}
+use Rattle.inbox.proofs.Streams.IntoPorts.{into_port}
+use Rattle.inbox.proofs.Streams.InstancePorts.{carrying_is, places_only}
 use Rattle.confluence.specs.Honest.{IsHonest}
 use Rattle.confluence.specs.Laws.{HonestLaw}
 use Rattle.confluence.proofs.Honest.FromFeeds.{IsFedHonestly}

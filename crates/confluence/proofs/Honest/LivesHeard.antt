@@ -1,15 +1,15 @@
 -- What an instance in mode Pass or Seal hears in a life, streams have sent to its ports.
 use Rattle.std.proofs.Common.{◌≡◌, ap, sym, subst, ◌∙◌, ℕ, ◌<◌, ◌⊎◌, List, ◌++◌, length, inl, inr, Some, refl}
 use Rattle.std.proofs.lemmas.Grind.{flat_map-append}
-use Rattle.fd_closure.specs.declared.attrs.Attrs.{Attrs}
+use Rattle.blz_value.specs.declared.attrs.Attrs.{Attrs}
 use Rattle.blz_value.specs.Members.{Has}
 use Rattle.blz_value.proofs.Membership.{Has-append_left, Has-from_flat_map}
-use Rattle.bloom_ast.specs.declared.program.Program.{Program}
-use Rattle.topo_types.specs.declared.mode.Mode.{Mode}
-use Rattle.topo_types.specs.declared.mode.Mode.TheVariants.{Free, Pass, Seal, Order}
-use Rattle.topo_types.specs.Data.{Data}
-use Rattle.topo_types.specs.View.{View, program_of, mode_of, mode_key, replicas_of}
-use Rattle.inbox.specs.Messages.{Batch, Entry, all_pairs}
+use Rattle.bloom_forms.specs.declared.program.Program.{Program}
+use Rattle.bloom_forms.specs.declared.mode.Mode.{Mode}
+use Rattle.bloom_forms.specs.declared.mode.Mode.TheVariants.{Free, Pass, Seal, Order}
+use Rattle.topo_forms.specs.Data.{Data}
+use Rattle.topo_forms.specs.View.{View, program_of, mode_of, mode_key, replicas_of}
+use Rattle.messages.specs.Messages.{Batch, Entry, all_pairs}
 use Rattle.inbox.specs.Instances.{Instance, entries_of}
 use Rattle.inbox.specs.Timesteps.{timesteps, Stands}
 use Rattle.inbox.specs.Wiring.{Wiring, wiring_of, instance_at, instance_for}
@@ -21,13 +21,13 @@ use Rattle.inbox.proofs.TimestepLemmas.Whole.{entries_of-append}
 use Rattle.inbox.proofs.WiringLemmas.{instance-wired}
 use Rattle.inbox.proofs.TimestepLemmas.Widths.{timesteps-many}
 use Rattle.inbox.proofs.TimestepLemmas.OfLives.{batches_heard}
-use Rattle.stream_deps.specs.Sent.{IsHistory, AreSent}
-use Rattle.stream_deps.proofs.Records.ArrivingLaw.{heard_law, arrivals_law}
-use Rattle.stream_deps.proofs.Streams.InstancePorts.{ports_same}
-use Rattle.stream_deps.proofs.Streams.CarriedKeys.{not_ordered}
+use Rattle.inbox.specs.Sent.{IsHistory, AreSent}
+use Rattle.inbox.proofs.Records.ArrivingLaw.{heard_law, arrivals_law}
+use Rattle.inbox.proofs.Streams.InstancePorts.{ports_same}
+use Rattle.inbox.proofs.Streams.CarriedKeys.{not_ordered}
 use Rattle.confluence.specs.Partitions.{IsLived}
 use Rattle.confluence.proofs.Honest.FromFeeds.{AllCome}
-use Rattle.bloom_ast.specs.Steps.{AreArrivals}
+use Rattle.bloom_forms.specs.Steps.{AreArrivals}
 
 -- a mode with a key is Pass or Seal
 pub by_mode : (mode : Mode) (key : Attrs) → mode_key mode ≡ Some key → (mode ≡ Pass key) ⊎ (mode ≡ Seal key)

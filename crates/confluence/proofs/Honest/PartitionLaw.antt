@@ -1,29 +1,29 @@
 -- Of each partition the rows of a rule, and of an output, are none or those of one timestep with all of it.
 use Rattle.std.proofs.Common.{◌≡◌, refl, ap, sym, subst, ◌∙◌, ℕ, ◌<◌, ◌⊎◌, true, false, List, [], length, inl, inr, Option, Some}
 use Rattle.std.proofs.lemmas.Bool.{true≢false}
-use Rattle.fd_closure.specs.declared.attrs.Attrs.{Attrs}
+use Rattle.blz_value.specs.declared.attrs.Attrs.{Attrs}
 use Rattle.blz_value.specs.Members.{Has}
 use Rattle.blz_value.specs.Record.{Row}
 use Rattle.blz_value.proofs.Membership.{Has-get_or}
-use Rattle.bloom_ast.specs.declared.program.Program.{Program}
-use Rattle.bloom_ast.specs.declared.program.Program.TheVariants.{Module}
-use Rattle.bloom_ast.specs.Program.{port_columns}
-use Rattle.bloom_ast.specs.Step.{Sets, set_at}
-use Rattle.path_annotate.specs.declared.note.Note.{Note}
-use Rattle.path_annotate.specs.Annotation.{note_of}
-use Rattle.path_annotate.proofs.Copies.AllOrigins.{outputs_origins}
-use Rattle.path_annotate.proofs.Copies.ModuleOrigins.{module_rules}
-use Rattle.row_laws.specs.Classes.{of_class}
-use Rattle.row_laws.specs.Ports.{SeesItsPorts}
-use Rattle.row_laws.specs.Runs.{query_rows, output_rows, rows_over}
-use Rattle.row_laws.proofs.Split.ClassesLemmas.{arrivals_of_class}
-use Rattle.row_laws.proofs.Ports.Rules.{rules_see}
-use Rattle.row_laws.proofs.Ports.PortsLaw.{outputs_see}
-use Rattle.topo_types.specs.Data.{Data}
-use Rattle.topo_types.specs.Feeds.{no_feed}
-use Rattle.topo_types.specs.Valid.{Runs}
-use Rattle.topo_types.specs.View.{View, component_at, program_of, mode_of, mode_key, has_stream, goes_to}
-use Rattle.inbox.specs.Messages.{Batch, all_pairs}
+use Rattle.bloom_forms.specs.declared.program.Program.{Program}
+use Rattle.bloom_forms.specs.declared.program.Program.TheVariants.{Module}
+use Rattle.bloom_forms.specs.Program.{port_columns}
+use Rattle.bloom_forms.specs.Step.{Sets, set_at}
+use Rattle.bloom_forms.specs.declared.note.Note.{Note}
+use Rattle.bloom_forms.specs.Annotation.{note_of}
+use Rattle.bloom_forms.proofs.Copies.AllOrigins.{outputs_origins}
+use Rattle.bloom_forms.proofs.Copies.ModuleOrigins.{module_rules}
+use Rattle.bloom_forms.specs.Classes.{of_class}
+use Rattle.bloom_forms.specs.Ports.{SeesItsPorts}
+use Rattle.bloom_forms.specs.Runs.{query_rows, output_rows, rows_over}
+use Rattle.bloom_forms.proofs.Split.ClassesLemmas.{arrivals_of_class}
+use Rattle.bloom_forms.proofs.Ports.Rules.{rules_see}
+use Rattle.bloom_forms.proofs.Ports.PortsLaw.{outputs_see}
+use Rattle.topo_forms.specs.Data.{Data}
+use Rattle.topo_forms.specs.Feeds.{no_feed}
+use Rattle.topo_forms.specs.Valid.{Runs}
+use Rattle.topo_forms.specs.View.{View, component_at, program_of, mode_of, mode_key, has_stream, goes_to}
+use Rattle.messages.specs.Messages.{Batch, all_pairs}
 use Rattle.inbox.specs.Instances.{Instance, is_carrying}
 use Rattle.inbox.specs.Timesteps.{is_whole, timesteps}
 use Rattle.inbox.specs.Wiring.{wiring_of, instance_for}
@@ -37,12 +37,12 @@ use Rattle.confluence.proofs.Honest.PartitionRecords.{restricts}
 use Rattle.confluence.proofs.Honest.LivesHeard.{all_come, all_arrive}
 use Rattle.confluence.proofs.Honest.Partitions.{IsRestriction, none_there, nothing_of, one_timestep, carried}
 use Rattle.confluence.proofs.Honest.Runs.{no_rows_of_nothing}
-use Rattle.bloom_ast.specs.Steps.{AreArrivals}
-use Rattle.path_annotate.specs.Annotation.{rule_use}
-use Rattle.path_annotate.specs.Given.{is_w}
-use Rattle.fd_closure.specs.Bits.{members}
-use Rattle.stream_deps.proofs.Streams.InstancePorts.{carrying_is, ports_same}
-use Rattle.stream_deps.proofs.Streams.IntoPorts.{has_some}
+use Rattle.bloom_forms.specs.Steps.{AreArrivals}
+use Rattle.bloom_forms.specs.Annotation.{rule_use}
+use Rattle.bloom_forms.specs.Given.{is_w}
+use Rattle.blz_value.specs.Bits.{members}
+use Rattle.inbox.proofs.Streams.InstancePorts.{carrying_is, ports_same}
+use Rattle.inbox.proofs.Streams.IntoPorts.{has_some}
 
 module _ (v : View) (d : Data) (x : Execution) (c j : ℕ) (key : Attrs) (batches : List Batch) (program : Program) (body : program_of v c ≡ Some program) (value : Row) (s : IsSealing v d x c j key batches) where
   abbrev i : Instance

@@ -2,23 +2,23 @@
 use Rattle.std.proofs.Common.{◌≡◌, ap, sym, subst, ◌∙◌, ℕ, ◌<◌, ◌^◌, true, List, length, Some}
 use Rattle.blz_value.specs.Record.{Row}
 use Rattle.blz_value.proofs.Membership.{all_member, all_from}
-use Rattle.fd_closure.specs.declared.attrs.Attrs.{Attrs}
-use Rattle.fd_closure.specs.Bits.{members}
-use Rattle.fd_closure.specs.Closure.{within}
-use Rattle.fd_closure.proofs.MembersInOrder.{within_by_members, members_within}
-use Rattle.bloom_ast.specs.declared.program.Program.{Program}
-use Rattle.bloom_ast.specs.Query.{Name}
-use Rattle.path_annotate.specs.Attributes.{has_attribute}
-use Rattle.row_laws.specs.Classes.{columns_at, has_key, of_class}
-use Rattle.row_laws.proofs.Split.ClassesLemmas.{from_class, in_class}
-use Rattle.topo_types.specs.Valid.{IsValid, Runs}
-use Rattle.topo_types.specs.View.{View, component_at, port_attrs, program_of, mode_of, mode_key}
+use Rattle.blz_value.specs.declared.attrs.Attrs.{Attrs}
+use Rattle.blz_value.specs.Bits.{members}
+use Rattle.blz_value.specs.Closure.{within}
+use Rattle.blz_value.proofs.MembersInOrder.{within_by_members, members_within}
+use Rattle.bloom_forms.specs.declared.program.Program.{Program}
+use Rattle.bloom_forms.specs.Query.{Name}
+use Rattle.bloom_forms.specs.Attributes.{has_attribute}
+use Rattle.bloom_forms.specs.Classes.{columns_at, has_key, of_class}
+use Rattle.bloom_forms.proofs.Split.ClassesLemmas.{from_class, in_class}
+use Rattle.topo_forms.specs.Valid.{IsValid, Runs}
+use Rattle.topo_forms.specs.View.{View, component_at, port_attrs, program_of, mode_of, mode_key}
 use Rattle.inbox.specs.Instances.{Instance}
 use Rattle.inbox.specs.Wiring.{instance_for}
 use Rattle.inbox.proofs.WiringLemmas.{instance-ports}
-use Rattle.stream_deps.proofs.Dependencies.KeyLaw.{key_law}
-use Rattle.stream_deps.proofs.Streams.InstancePorts.{as_many, key_here, key_given, has_columns}
-use Rattle.stream_deps.proofs.Dependencies.JointLaw.{has_attribute_is, is_has_attribute}
+use Rattle.inbox.proofs.Dependencies.KeyLaw.{key_law}
+use Rattle.inbox.proofs.Streams.InstancePorts.{as_many, key_here, key_given, has_columns}
+use Rattle.inbox.proofs.Dependencies.JointLaw.{has_attribute_is, is_has_attribute}
 use Rattle.confluence.proofs.Honest.Partitions.{IsRestriction}
 
 module _ (v : View) (c j : ℕ) (key : Attrs) (mode : mode_key (mode_of v c) ≡ Some key) (valid : IsValid v) (there : c < length v.components)

@@ -6,20 +6,20 @@ use Rattle.std.proofs.lemmas.Bool.{cases_lt}
 use Rattle.std.proofs.lemmas.List.{get_or_past, map-append}
 use Rattle.std.proofs.lemmas.List.FromFn.{length-map-range_with_len}
 use Rattle.std.proofs.lemmas.Grind.{flat_map-append}
-use Rattle.fd_closure.specs.declared.attrs.Attrs.{Attrs}
+use Rattle.blz_value.specs.declared.attrs.Attrs.{Attrs}
 use Rattle.blz_value.specs.Members.{Has}
 use Rattle.blz_value.specs.Record.{Row}
 use Rattle.blz_value.proofs.Membership.{Has-append_left, Has-append_right, Has-map, Has-from_map}
-use Rattle.bloom_ast.specs.declared.program.Program.{Program}
-use Rattle.bloom_ast.specs.Program.{port_columns}
-use Rattle.bloom_ast.specs.Step.{Sets, set_at}
-use Rattle.path_annotate.specs.declared.note.Note.{Note}
-use Rattle.row_laws.specs.Ports.{SeesItsPorts}
-use Rattle.row_laws.specs.Runs.{arriving_at, at_once}
-use Rattle.row_laws.proofs.Ports.Rules.{at_once_union}
-use Rattle.topo_types.specs.declared.mode.Mode.TheVariants.{Seal}
-use Rattle.topo_types.specs.Data.{Data}
-use Rattle.inbox.specs.Messages.{Batch, all_pairs}
+use Rattle.bloom_forms.specs.declared.program.Program.{Program}
+use Rattle.bloom_forms.specs.Program.{port_columns}
+use Rattle.bloom_forms.specs.Step.{Sets, set_at}
+use Rattle.bloom_forms.specs.declared.note.Note.{Note}
+use Rattle.bloom_forms.specs.Ports.{SeesItsPorts}
+use Rattle.bloom_forms.specs.Runs.{arriving_at, at_once}
+use Rattle.bloom_forms.proofs.Ports.Rules.{at_once_union}
+use Rattle.bloom_forms.specs.declared.mode.Mode.TheVariants.{Seal}
+use Rattle.topo_forms.specs.Data.{Data}
+use Rattle.messages.specs.Messages.{Batch, all_pairs}
 use Rattle.inbox.specs.Instances.{Instance, is_carrying, key_of_entry}
 use Rattle.inbox.specs.Timesteps.{is_whole, timesteps, Stands}
 use Rattle.inbox.specs.Wiring.{Wiring}
@@ -28,7 +28,7 @@ use Rattle.inbox.proofs.TimestepLemmas.UnderSeal.{seal_timesteps-go, seal_timest
 use Rattle.inbox.proofs.TimestepLemmas.Partitions.{became_whole, split_timesteps, partition_opens, opening_at, later_at}
 use Rattle.confluence.specs.Partitions.{IsFed}
 use Rattle.confluence.proofs.Honest.FromFeeds.{AllCome, IsFedHonestly, heard_fed, whole_heard}
-use Rattle.path_annotate.specs.Given.{is_w}
+use Rattle.bloom_forms.specs.Given.{is_w}
 
 pub none_there : {X : Type 0} (xs : List X) → ((q : X) → ¬ Has q xs) → xs ≡ []
 none_there [] none = refl

@@ -3,53 +3,53 @@ use Rattle.std.proofs.Common.{◌≡◌, refl, ap, sym, subst, ◌∙◌, ℕ, �
 use Rattle.std.specs.Prelude.{is_some, IfSome}
 use Rattle.std.specs.List.{list_all, zip}
 use Rattle.std.specs.Option.{option_map_or}
-use Rattle.fd_closure.specs.declared.attrs.Attrs.{Attrs}
-use Rattle.fd_closure.specs.Bits.{bit_of}
-use Rattle.fd_closure.proofs.Members.{meets_more}
+use Rattle.blz_value.specs.declared.attrs.Attrs.{Attrs}
+use Rattle.blz_value.specs.Bits.{bit_of}
+use Rattle.blz_value.proofs.Members.{meets_more}
 use Rattle.blz_value.specs.Members.{Has}
 use Rattle.blz_value.specs.Record.{Row}
 use Rattle.blz_value.specs.Operators.{cells}
 use Rattle.blz_value.proofs.Membership.{Has-append_left, Has-append_right, Has-append_cases, Has-from_map, Has-filter, all_member}
-use Rattle.bloom_ast.specs.declared.program.Program.{Program}
-use Rattle.bloom_ast.specs.Program.{port_columns}
-use Rattle.bloom_ast.specs.ProgramStep.{empty_tables}
-use Rattle.bloom_ast.specs.Query.{Name}
-use Rattle.bloom_ast.specs.Step.{Sets, set_at}
-use Rattle.path_annotate.specs.declared.note.Note.{Note}
-use Rattle.path_annotate.specs.Annotation.{note_of, gate_of_output}
-use Rattle.path_annotate.specs.Note.{covers_write, covers_gate, is_write, own_gate}
-use Rattle.row_laws.specs.Classes.{AreKeyed, IsInClosure, of_class}
-use Rattle.row_laws.specs.Confluence.{AreAmong}
-use Rattle.row_laws.specs.Ports.{AreSameAt}
-use Rattle.row_laws.specs.Runs.{output_rows, output_over, at_once}
-use Rattle.row_laws.proofs.Confluent.ConfluentLaw.{all_confluent}
-use Rattle.row_laws.proofs.Split.ClassesLemmas.{from_class, arrivals_of_class}
-use Rattle.row_laws.proofs.Ports.PortsLaw.{outputs_see}
-use Rattle.row_laws.proofs.Split.SplitLaw.{all_split}
-use Rattle.topo_types.specs.declared.mode.Mode.TheVariants.{Pass, Seal}
-use Rattle.topo_types.specs.Carried.{carries_key, port_carries, streams_towards, is_confluent, allows_notes, may_carry}
-use Rattle.topo_types.specs.Data.{Data, Holds, key_places, key_value}
-use Rattle.topo_types.specs.Dependencies.{usable_fds}
-use Rattle.topo_types.specs.Valid.{IsValid, Runs, IsCovered}
-use Rattle.topo_types.specs.ViewOf.{derived_note}
-use Rattle.topo_types.specs.View.{View, component_at, output_at, own_attrs, own_root, note_at, program_of, mode_of, mode_key, replicas_of, ports_towards, port_numbers}
-use Rattle.topo_types.proofs.Regions.Spreading.{in_below, both_true}
-use Rattle.inbox.specs.Messages.{Batch, Entry, all_pairs}
+use Rattle.bloom_forms.specs.declared.program.Program.{Program}
+use Rattle.bloom_forms.specs.Program.{port_columns}
+use Rattle.bloom_forms.specs.ProgramStep.{empty_tables}
+use Rattle.bloom_forms.specs.Query.{Name}
+use Rattle.bloom_forms.specs.Step.{Sets, set_at}
+use Rattle.bloom_forms.specs.declared.note.Note.{Note}
+use Rattle.bloom_forms.specs.Annotation.{note_of, gate_of_output}
+use Rattle.bloom_forms.specs.Note.{covers_write, covers_gate, is_write, own_gate}
+use Rattle.bloom_forms.specs.Classes.{AreKeyed, IsInClosure, of_class}
+use Rattle.bloom_forms.specs.Confluence.{AreAmong}
+use Rattle.bloom_forms.specs.Ports.{AreSameAt}
+use Rattle.bloom_forms.specs.Runs.{output_rows, output_over, at_once}
+use Rattle.bloom_forms.proofs.Confluent.ConfluentLaw.{all_confluent}
+use Rattle.bloom_forms.proofs.Split.ClassesLemmas.{from_class, arrivals_of_class}
+use Rattle.bloom_forms.proofs.Ports.PortsLaw.{outputs_see}
+use Rattle.bloom_forms.proofs.Split.SplitLaw.{all_split}
+use Rattle.bloom_forms.specs.declared.mode.Mode.TheVariants.{Pass, Seal}
+use Rattle.topo_forms.specs.Carried.{carries_key, port_carries, streams_towards, is_confluent, allows_notes, may_carry}
+use Rattle.topo_forms.specs.Data.{Data, Holds, key_places, key_value}
+use Rattle.topo_forms.specs.Dependencies.{usable_fds}
+use Rattle.topo_forms.specs.Valid.{IsValid, Runs, IsCovered}
+use Rattle.topo_forms.specs.ViewOf.{derived_note}
+use Rattle.topo_forms.specs.View.{View, component_at, output_at, own_attrs, own_root, note_at, program_of, mode_of, mode_key, replicas_of, ports_towards, port_numbers}
+use Rattle.topo_forms.proofs.Regions.Spreading.{in_below, both_true}
+use Rattle.messages.specs.Messages.{Batch, Entry, all_pairs}
 use Rattle.inbox.specs.Instances.{Instance, is_carrying, key_of_entry, entries_of}
 use Rattle.inbox.specs.Timesteps.{is_whole, timesteps, Stands}
 use Rattle.inbox.specs.Wiring.{Wiring, wiring_of, instance_for}
 use Rattle.inbox.specs.Executions.{Execution}
 use Rattle.inbox.proofs.TimestepLemmas.AtOnce.{GoesAtOnce, at_once_timesteps-stand}
 use Rattle.inbox.proofs.WiringLemmas.{instance-ports}
-use Rattle.stream_deps.specs.Sent.{IsHistory}
-use Rattle.stream_deps.specs.Agreement.{port_roots}
-use Rattle.stream_deps.proofs.Dependencies.JointLaw.{same_keys}
-use Rattle.stream_deps.proofs.Records.PutOut.{put_out_over, arrived_up, arrivals_up}
-use Rattle.stream_deps.proofs.Streams.CarriedKeys.{MayCarry, may_carry-is, towards_carries}
-use Rattle.stream_deps.proofs.Streams.InstancePorts.{carrying_is, ports_same, key_given}
-use Rattle.stream_deps.proofs.Columns.Attributes.{within-small}
-use Rattle.stream_deps.proofs.Dependencies.KeyedOutputs.{output_keyed_law}
-use Rattle.stream_deps.proofs.Records.CopiedLaw.{copied_law}
+use Rattle.inbox.specs.Sent.{IsHistory}
+use Rattle.inbox.specs.Agreement.{port_roots}
+use Rattle.inbox.proofs.Dependencies.JointLaw.{same_keys}
+use Rattle.inbox.proofs.Records.PutOut.{put_out_over, arrived_up, arrivals_up}
+use Rattle.inbox.proofs.Streams.CarriedKeys.{MayCarry, may_carry-is, towards_carries}
+use Rattle.inbox.proofs.Streams.InstancePorts.{carrying_is, ports_same, key_given}
+use Rattle.inbox.proofs.Columns.Attributes.{within-small}
+use Rattle.inbox.proofs.Dependencies.KeyedOutputs.{output_keyed_law}
+use Rattle.inbox.proofs.Records.CopiedLaw.{copied_law}
 use Rattle.confluence.proofs.Honest.LivesHeard.{by_mode, all_come, heard_standing, all_sent, all_arrive}
 use Rattle.confluence.specs.Partitions.{IsLived, IsFed}
 use Rattle.confluence.proofs.Honest.FromFeeds.{AllCome, IsFedHonestly, heard_fed, whole_heard}
@@ -57,9 +57,9 @@ use Rattle.confluence.proofs.Honest.Partitions.{IsRestriction, at_once_port, at_
 use Rattle.confluence.proofs.Honest.PartitionRecords.{restricts}
 use Rattle.confluence.proofs.Honest.Runs.{to_over, from_over}
 use Rattle.inbox.specs.Folds.{rows_from}
-use Rattle.bloom_ast.specs.Steps.{AreArrivals}
-use Rattle.path_annotate.specs.Given.{AreAllC, is_w}
-use Rattle.fd_closure.specs.Bits.{members}
+use Rattle.bloom_forms.specs.Steps.{AreArrivals}
+use Rattle.bloom_forms.specs.Given.{AreAllC, is_w}
+use Rattle.blz_value.specs.Bits.{members}
 
 -- The plan: take two lives of one instance. By the split law a row is one over the records of its own key,
 -- since its columns are copies. In mode Pass all notes are C: what the second life has of the partition

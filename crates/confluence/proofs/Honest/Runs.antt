@@ -3,13 +3,13 @@ use Rattle.std.proofs.Common.{◌≡◌, subst, ℕ, List, [], ◌∷◌, ◌++�
 use Rattle.blz_value.specs.Members.{Has}
 use Rattle.blz_value.specs.Record.{Row}
 use Rattle.blz_value.proofs.SetLaws.{Has-set_of, Has-from_set_of}
-use Rattle.bloom_ast.specs.declared.program.Program.{Program}
-use Rattle.bloom_ast.specs.ProgramStep.{empty_tables}
-use Rattle.bloom_ast.specs.Step.{Sets, set_at}
-use Rattle.row_laws.specs.Runs.{output_over, rows_over}
+use Rattle.bloom_forms.specs.declared.program.Program.{Program}
+use Rattle.bloom_forms.specs.ProgramStep.{empty_tables}
+use Rattle.bloom_forms.specs.Step.{Sets, set_at}
+use Rattle.bloom_forms.specs.Runs.{output_over, rows_over}
 use Rattle.inbox.specs.Folds.{rows_from}
-use Rattle.bloom_ast.specs.Steps.{AreArrivals, tables_after_steps}
-use Rattle.stream_deps.proofs.Records.PutOut.{put_out_over, arrived_up, arrivals_up}
+use Rattle.bloom_forms.specs.Steps.{AreArrivals, tables_after_steps}
+use Rattle.inbox.proofs.Records.PutOut.{put_out_over, arrived_up, arrivals_up}
 
 module _ (program : Program) (rows : (kept now : Sets) → List Row) where
   -- a record that has arrived

@@ -9,7 +9,7 @@ use Rattle.blz_value.specs.Sets.{set_of, IsRowSet}
 use Rattle.blz_value.proofs.SetLaws.{sorted_set_of, Has-from_set_of}
 use Rattle.blz_value.proofs.RowSets.{set_of-sorted, length-insert_key-new}
 use Rattle.blz_value.proofs.OperatorsLemmas.{length-within}
-use Rattle.topo_types.specs.Messages.{is_same_row}
+use Rattle.topo_forms.specs.Messages.{is_same_row}
 use Rattle.messages.proofs.MessagesLemmas.{is_same_row-is, is_same_row-itself, same-from_any, any-from_same}
 
 -- a set that has no more members than one within it lies in that one

@@ -5,11 +5,11 @@ use Rattle.blz_value.specs.Members.{Has}
 use Rattle.blz_value.specs.Record.{Row}
 use Rattle.blz_value.specs.Operators.{cells}
 use Rattle.blz_value.proofs.Membership.{Has-append_left, Has-append_right, Has-from_map}
-use Rattle.fd_closure.specs.declared.attrs.Attrs.{Attrs}
-use Rattle.path_annotate.specs.Roots.{Roots}
-use Rattle.topo_types.specs.Data.{SourceData, key_places}
-use Rattle.topo_types.specs.Messages.{Message, row, seal, row_in, rows_in, is_same_row, distinct_rows, partitions, source_seals, source_messages}
-use Rattle.topo_types.specs.View.{Stream}
+use Rattle.blz_value.specs.declared.attrs.Attrs.{Attrs}
+use Rattle.bloom_forms.specs.Roots.{Roots}
+use Rattle.topo_forms.specs.Data.{SourceData, key_places}
+use Rattle.topo_forms.specs.Messages.{Message, row, seal, row_in, rows_in, is_same_row, distinct_rows, partitions, source_seals, source_messages}
+use Rattle.topo_forms.specs.View.{Stream}
 use Rattle.inbox.specs.Growth.{NoRepeats, is_repeat_of}
 use Rattle.inbox.proofs.Lists.Repeats.{no_repeats-after, no_repeats-source}
 use Rattle.inbox.proofs.Lists.Rows.{rows_in-append}

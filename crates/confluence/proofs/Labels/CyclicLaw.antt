@@ -5,14 +5,14 @@ use Rattle.std.specs.List.{flat_map}
 use Rattle.std.proofs.lemmas.Bool.{true≢false}
 use Rattle.blz_value.specs.Members.{Has}
 use Rattle.blz_value.proofs.Membership.{Has-map, Has-flat_map}
-use Rattle.path_annotate.specs.declared.note.Note.{Note}
-use Rattle.path_annotate.specs.declared.note.Note.TheVariants.{CR, CW, OR, OW}
-use Rattle.path_annotate.specs.Note.{combine}
-use Rattle.topo_types.specs.declared.mode.Mode.TheVariants as mode
-use Rattle.topo_types.specs.Carried.{is_confluent}
-use Rattle.topo_types.specs.Regions.{region_set, is_in_cycle}
-use Rattle.topo_types.specs.Valid.{IsValid}
-use Rattle.topo_types.specs.View.{View, End, no_attrs, is_order}
+use Rattle.bloom_forms.specs.declared.note.Note.{Note}
+use Rattle.bloom_forms.specs.declared.note.Note.TheVariants.{CR, CW, OR, OW}
+use Rattle.bloom_forms.specs.Note.{combine}
+use Rattle.bloom_forms.specs.declared.mode.Mode.TheVariants as mode
+use Rattle.topo_forms.specs.Carried.{is_confluent}
+use Rattle.topo_forms.specs.Regions.{region_set, is_in_cycle}
+use Rattle.topo_forms.specs.Valid.{IsValid}
+use Rattle.topo_forms.specs.View.{View, End, no_attrs, is_order}
 use Rattle.label_rules.specs.declared.label.Label.{Label}
 use Rattle.label_rules.specs.declared.label.Label.TheVariants.{Async, Run}
 use Rattle.label_rules.specs.declared.label.PathLabel.{PathLabel}
@@ -24,9 +24,9 @@ use Rattle.label_walk.specs.Paths.{label_at, notes_in, without_gate, region_note
 use Rattle.confluence.specs.LabelMeaning.{IsInCycle, HasGoodInputs}
 use Rattle.confluence.specs.Laws.{GoodInputsOfAsync, GoodInputsOfRun}
 use Rattle.confluence.proofs.Labels.Cells.{Tells, unprotected, two_less, three_less, path_tells}
-use Rattle.topo_types.proofs.Regions.OrderAlone.{order_acyclic}
+use Rattle.topo_forms.proofs.Regions.OrderAlone.{order_acyclic}
 use Rattle.confluence.proofs.Labels.Settling.{settled_below, comes_of_path}
-use Rattle.fd_closure.specs.Bits.{members}
+use Rattle.blz_value.specs.Bits.{members}
 
 -- ---- the one note of a region
 

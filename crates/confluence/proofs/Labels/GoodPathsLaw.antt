@@ -1,10 +1,10 @@
 -- An output that is Seal or Async, or Run at several replicas, has good paths.
 use Rattle.std.proofs.Common.{◌≡◌, ◌≤◌, ◌<◌, inl, inr, ℕ, Bool, List, arith, sym, subst, ◌∙◌}
 use Rattle.std.proofs.lemmas.Bool.{cases_Bool, true≢false}
-use Rattle.path_annotate.specs.declared.note.Note.{Note}
-use Rattle.topo_types.specs.Dependencies.{usable_fds}
-use Rattle.topo_types.specs.Valid.{IsValid}
-use Rattle.topo_types.specs.View.{View, End, mode_of, is_replicated, port_attrs}
+use Rattle.bloom_forms.specs.declared.note.Note.{Note}
+use Rattle.topo_forms.specs.Dependencies.{usable_fds}
+use Rattle.topo_forms.specs.Valid.{IsValid}
+use Rattle.topo_forms.specs.View.{View, End, mode_of, is_replicated, port_attrs}
 use Rattle.label_rules.specs.declared.label.Label.{Label}
 use Rattle.label_rules.specs.declared.label.Label.TheVariants.{Seal, Async, Run, Inst, Diverge}
 use Rattle.label_rules.specs.Label.{severity}

@@ -3,16 +3,16 @@ use Rattle.std.proofs.Common.{◌≡◌, ℕ, Bool, Option, Some, List, length, 
 use Rattle.std.specs.Bool.{MatchBool}
 use Rattle.blz_value.specs.Members.{Has}
 use Rattle.blz_value.proofs.Membership.{Has-map, Has-flat_map}
-use Rattle.path_annotate.specs.declared.note.Note.{Note}
-use Rattle.topo_types.specs.Regions.{region_set, is_in_cycle}
-use Rattle.topo_types.specs.Valid.{IsValid}
-use Rattle.topo_types.specs.View.{View, End, note_at, component_at, port_numbers, streams_to}
-use Rattle.topo_types.proofs.Regions.Spreading.{in_below}
+use Rattle.bloom_forms.specs.declared.note.Note.{Note}
+use Rattle.topo_forms.specs.Regions.{region_set, is_in_cycle}
+use Rattle.topo_forms.specs.Valid.{IsValid}
+use Rattle.topo_forms.specs.View.{View, End, note_at, component_at, port_numbers, streams_to}
+use Rattle.topo_forms.proofs.Regions.Spreading.{in_below}
 use Rattle.label_rules.specs.declared.label.Label.{Label}
 use Rattle.label_rules.specs.declared.label.Label.TheVariants.{Run}
 use Rattle.label_walk.specs.Labels.{AreLabels, IsLabel, IsRegionLabel, IsOutsideLabel}
 use Rattle.label_walk.specs.Paths.{label_at, path_label, port_paths, output_paths}
-use Rattle.stream_deps.proofs.Streams.IntoPorts.{leads, has_some, end_there}
+use Rattle.inbox.proofs.Streams.IntoPorts.{leads, has_some, end_there}
 use Rattle.confluence.specs.LabelMeaning.{IsOutside, IsPath}
 
 -- the path label of a path is in the list

@@ -3,19 +3,19 @@ use Rattle.std.proofs.Common.{◌≡◌, ◌<◌, inl, inr, ℕ, Bool, true, fal
 use Rattle.std.specs.List.{list_all}
 use Rattle.std.proofs.lemmas.Bool.{cases_Bool, true≢false}
 use Rattle.blz_value.specs.Members.{Has}
-use Rattle.fd_closure.specs.declared.attrs.Attrs.{Attrs}
-use Rattle.fd_closure.specs.declared.attrs.Fd.{Fd}
-use Rattle.fd_closure.specs.Closure.{within, closure, compatible}
-use Rattle.fd_closure.proofs.Within.{within-trans, within-empty}
-use Rattle.path_annotate.specs.declared.note.Note.{Note}
-use Rattle.path_annotate.specs.declared.note.Note.TheVariants.{CR, CW, OR, OW}
-use Rattle.topo_types.specs.declared.mode.Mode.{Mode}
-use Rattle.topo_types.specs.declared.mode.Mode.TheVariants as mode
-use Rattle.topo_types.specs.Carried.{carries_key}
-use Rattle.topo_types.specs.Dependencies.{usable_fds}
-use Rattle.topo_types.specs.Valid.{IsValid}
-use Rattle.topo_types.specs.View.{View, End, no_attrs, mode_of, note_at, has_stream, port_attrs, streams_to}
-use Rattle.topo_types.proofs.Regions.Spreading.{both_true, and_true}
+use Rattle.blz_value.specs.declared.attrs.Attrs.{Attrs}
+use Rattle.blz_value.specs.declared.attrs.Fd.{Fd}
+use Rattle.blz_value.specs.Closure.{within, closure, compatible}
+use Rattle.blz_value.proofs.Within.{within-trans, within-empty}
+use Rattle.bloom_forms.specs.declared.note.Note.{Note}
+use Rattle.bloom_forms.specs.declared.note.Note.TheVariants.{CR, CW, OR, OW}
+use Rattle.bloom_forms.specs.declared.mode.Mode.{Mode}
+use Rattle.bloom_forms.specs.declared.mode.Mode.TheVariants as mode
+use Rattle.topo_forms.specs.Carried.{carries_key}
+use Rattle.topo_forms.specs.Dependencies.{usable_fds}
+use Rattle.topo_forms.specs.Valid.{IsValid}
+use Rattle.topo_forms.specs.View.{View, End, no_attrs, mode_of, note_at, has_stream, port_attrs, streams_to}
+use Rattle.topo_forms.proofs.Regions.Spreading.{both_true, and_true}
 use Rattle.label_rules.specs.declared.label.Label.{Label}
 use Rattle.label_rules.specs.declared.label.Label.TheVariants.{Seal}
 use Rattle.label_rules.specs.declared.label.PathLabel.{PathLabel}
@@ -29,9 +29,9 @@ use Rattle.confluence.proofs.Labels.Cells.{IsCovered, covered_tells}
 use Rattle.confluence.proofs.Labels.Paths.{has_path}
 use Rattle.confluence.proofs.Labels.SealLaw.{seal_carries}
 use Rattle.blz_value.proofs.Membership.{all_member, all_from}
-use Rattle.stream_deps.proofs.Streams.IntoPorts.{Leads, leads, some_stream, has_some, into_port, attrs_into}
-use Rattle.stream_deps.proofs.Streams.CarriedKeys.{stream_key_law, carries-from}
-use Rattle.stream_deps.proofs.Dependencies.JointLaw.{closure_law}
+use Rattle.inbox.proofs.Streams.IntoPorts.{Leads, leads, some_stream, has_some, into_port, attrs_into}
+use Rattle.inbox.proofs.Streams.CarriedKeys.{stream_key_law, carries-from}
+use Rattle.inbox.proofs.Dependencies.JointLaw.{closure_law}
 
 -- a compatible key lies in the closure
 compatible_within : (gate key : ℕ) (fds : List Fd) → compatible gate key fds ≡ true → within key (closure gate fds) ≡ true

@@ -4,21 +4,22 @@ use Rattle.std.specs.Bool.{MatchBool}
 use Rattle.std.specs.Option.{option_map_or}
 use Rattle.std.proofs.lemmas.Bool.{true≢false, eqb-true, eq-eqb}
 use Rattle.blz_value.proofs.Membership.{Has-from_map}
-use Rattle.fd_closure.specs.declared.attrs.Attrs.{Attrs}
-use Rattle.topo_types.specs.declared.mode.Mode.TheVariants as mode
-use Rattle.topo_types.specs.Carried.{is_key, carries_key, carries}
-use Rattle.topo_types.specs.Laws.{carries_next}
-use Rattle.topo_types.specs.Regions.{region_set, is_in_cycle}
-use Rattle.topo_types.specs.Valid.{IsValid}
-use Rattle.topo_types.specs.View.{View, End, stream_at, origin_of, is_order, no_attrs}
-use Rattle.topo_types.proofs.Found.OneLevel.{carries_law}
+use Rattle.blz_value.specs.declared.attrs.Attrs.{Attrs}
+use Rattle.bloom_forms.specs.declared.mode.Mode.TheVariants as mode
+use Rattle.topo_forms.specs.Carried.{carries_key, carries}
+use Rattle.blz_value.specs.Arrows.{is_key}
+use Rattle.topo_forms.specs.Laws.{carries_next}
+use Rattle.topo_forms.specs.Regions.{region_set, is_in_cycle}
+use Rattle.topo_forms.specs.Valid.{IsValid}
+use Rattle.topo_forms.specs.View.{View, End, stream_at, origin_of, is_order, no_attrs}
+use Rattle.topo_forms.proofs.Found.OneLevel.{carries_law}
 use Rattle.label_rules.specs.declared.label.Label.{Label}
 use Rattle.label_rules.specs.declared.label.Label.TheVariants.{Seal, Async, Run, Inst, Diverge}
 use Rattle.label_rules.specs.PathTable.{pass_path}
 use Rattle.label_rules.specs.Reconciliation.{settled}
 use Rattle.label_walk.specs.Labels.{AreLabels, IsLabel, IsRegionLabel, IsOutsideLabel, source_label, as_carried}
 use Rattle.label_walk.specs.Paths.{label_at, region_note, region_inputs, region_paths, is_replicated_set}
-use Rattle.stream_deps.proofs.Streams.CarriedKeys.{stream_key_law, carries-from}
+use Rattle.inbox.proofs.Streams.CarriedKeys.{stream_key_law, carries-from}
 use Rattle.confluence.proofs.Labels.Cells.{free_never_seal}
 use Rattle.confluence.proofs.Labels.Settling.{comes_of_path}
 use Rattle.confluence.specs.Laws.{SealMeansCarries}

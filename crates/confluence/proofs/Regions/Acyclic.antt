@@ -5,22 +5,22 @@ use Rattle.blz_value.specs.Members.{Has, IsWithin, HaveEqualMembers}
 use Rattle.blz_value.specs.Record.{Row}
 use Rattle.blz_value.proofs.Membership.{Has-filter}
 use Rattle.blz_value.proofs.SetLaws.{Has-set_of}
-use Rattle.bloom_ast.specs.declared.program.Program.{Program}
-use Rattle.bloom_ast.specs.Program.{port_columns}
-use Rattle.bloom_ast.specs.ProgramStep.{answer_of}
-use Rattle.bloom_ast.specs.Step.{Sets, set_at}
-use Rattle.path_annotate.specs.Annotation.{note_of}
-use Rattle.path_annotate.specs.declared.note.Note.{Note}
-use Rattle.row_laws.proofs.Confluent.ConfluentLaw.{one_step_answers}
-use Rattle.row_laws.proofs.Ports.PortsLaw.{outputs_see}
-use Rattle.topo_types.specs.Data.{Data}
-use Rattle.topo_types.specs.Messages.{rows_in}
-use Rattle.topo_types.specs.View.{View, origin_of, program_of, is_order, replicas_of, component_at, note_at, goes_to, streams_to, stream_numbers}
-use Rattle.topo_types.proofs.Regions.Spreading.{in_below}
+use Rattle.bloom_forms.specs.declared.program.Program.{Program}
+use Rattle.bloom_forms.specs.Program.{port_columns}
+use Rattle.bloom_forms.specs.ProgramStep.{answer_of}
+use Rattle.bloom_forms.specs.Step.{Sets, set_at}
+use Rattle.bloom_forms.specs.Annotation.{note_of}
+use Rattle.bloom_forms.specs.declared.note.Note.{Note}
+use Rattle.bloom_forms.proofs.Confluent.ConfluentLaw.{one_step_answers}
+use Rattle.bloom_forms.proofs.Ports.PortsLaw.{outputs_see}
+use Rattle.topo_forms.specs.Data.{Data}
+use Rattle.topo_forms.specs.Messages.{rows_in}
+use Rattle.topo_forms.specs.View.{View, origin_of, program_of, is_order, replicas_of, component_at, note_at, goes_to, streams_to, stream_numbers}
+use Rattle.topo_forms.proofs.Regions.Spreading.{in_below}
 use Rattle.inbox.specs.Wiring.{wiring_of}
 use Rattle.inbox.specs.Executions.{Execution, emitted_list, contents}
 use Rattle.inbox.proofs.TimestepLemmas.Entries.{Has-rows_in}
-use Rattle.stream_deps.specs.Sent.{IsHistory}
+use Rattle.inbox.specs.Sent.{IsHistory}
 use Rattle.confluence.specs.Complete.{contents_into}
 use Rattle.confluence.specs.Sound.{HaveEqualContents}
 use Rattle.confluence.proofs.Contents.Instances.{inside}

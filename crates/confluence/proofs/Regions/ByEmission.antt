@@ -6,14 +6,14 @@ use Rattle.std.proofs.lemmas.Bool.{cases_Bool}
 use Rattle.blz_value.specs.Members.{Has}
 use Rattle.blz_value.specs.Record.{Row}
 use Rattle.blz_value.proofs.Membership.{Has-append_left, Has-append_right, Has-append_cases, Has-get_or}
-use Rattle.topo_types.specs.Data.{Data}
-use Rattle.topo_types.specs.Feeds.{Feed, no_feed}
-use Rattle.topo_types.specs.Graph.{is_in}
-use Rattle.topo_types.specs.Messages.{row}
-use Rattle.topo_types.specs.Valid.{IsValid}
-use Rattle.topo_types.specs.View.{View, End, origin_of, replicas_of, senders_of, stream_replicas, goes_to}
+use Rattle.topo_forms.specs.Data.{Data}
+use Rattle.topo_forms.specs.Feeds.{Feed, no_feed}
+use Rattle.blz_value.specs.Graph.{is_in}
+use Rattle.topo_forms.specs.Messages.{row}
+use Rattle.topo_forms.specs.Valid.{IsValid}
+use Rattle.topo_forms.specs.View.{View, End, origin_of, replicas_of, senders_of, stream_replicas, goes_to}
 use Rattle.label_walk.specs.Paths.{is_from_outside}
-use Rattle.inbox.specs.Messages.{Pair, Batch}
+use Rattle.messages.specs.Messages.{Pair, Batch}
 use Rattle.inbox.specs.Instances.{Instance}
 use Rattle.inbox.specs.Lives.{Life, Lives, one_life, all_lives, empty_life, hear_batch, take_entry, forget_all}
 use Rattle.inbox.specs.Wiring.{Wiring, wiring_of, instance_at}

@@ -9,24 +9,24 @@ use Rattle.blz_value.specs.Members.{Has, IsWithin}
 use Rattle.blz_value.specs.Record.{Row}
 use Rattle.blz_value.proofs.Membership.{Has-get_or, Has-filter, Has-map, Has-flat_map, Has-from_flat_map}
 use Rattle.blz_value.proofs.SetLaws.{Has-set_of, Has-from_set_of}
-use Rattle.bloom_ast.specs.declared.program.Program.{Program}
-use Rattle.bloom_ast.specs.ProgramStep.{answer_of}
-use Rattle.bloom_ast.specs.Step.{Sets, set_at}
-use Rattle.path_annotate.specs.declared.note.Note.{Note}
-use Rattle.row_laws.specs.Runs.{output_over}
-use Rattle.row_laws.proofs.Confluent.ConfluentLaw.{one_step_answers}
-use Rattle.topo_types.specs.Carried.{is_confluent}
-use Rattle.topo_types.specs.Data.{Data}
-use Rattle.topo_types.specs.Feeds.{no_feed}
-use Rattle.topo_types.specs.Graph.{is_in}
-use Rattle.topo_types.specs.Messages.{row, rows_in}
-use Rattle.topo_types.specs.Regions.{region_set, is_in_cycle}
-use Rattle.topo_types.specs.Sets.{below}
-use Rattle.topo_types.specs.Valid.{IsValid}
-use Rattle.topo_types.specs.View.{View, End, origin_of, ends_of, program_of, is_order, replicas_of, component_at, note_at, senders_of, stream_replicas, goes_to, stream_numbers}
-use Rattle.topo_types.proofs.Regions.Spreading.{in_below}
+use Rattle.bloom_forms.specs.declared.program.Program.{Program}
+use Rattle.bloom_forms.specs.ProgramStep.{answer_of}
+use Rattle.bloom_forms.specs.Step.{Sets, set_at}
+use Rattle.bloom_forms.specs.declared.note.Note.{Note}
+use Rattle.bloom_forms.specs.Runs.{output_over}
+use Rattle.bloom_forms.proofs.Confluent.ConfluentLaw.{one_step_answers}
+use Rattle.topo_forms.specs.Carried.{is_confluent}
+use Rattle.topo_forms.specs.Data.{Data}
+use Rattle.topo_forms.specs.Feeds.{no_feed}
+use Rattle.blz_value.specs.Graph.{is_in}
+use Rattle.topo_forms.specs.Messages.{row, rows_in}
+use Rattle.topo_forms.specs.Regions.{region_set, is_in_cycle}
+use Rattle.blz_value.specs.NumberSets.{below}
+use Rattle.topo_forms.specs.Valid.{IsValid}
+use Rattle.topo_forms.specs.View.{View, End, origin_of, ends_of, program_of, is_order, replicas_of, component_at, note_at, senders_of, stream_replicas, goes_to, stream_numbers}
+use Rattle.topo_forms.proofs.Regions.Spreading.{in_below}
 use Rattle.label_walk.specs.Paths.{notes_in, is_from_outside, ends_in, region_inputs}
-use Rattle.inbox.specs.Messages.{all_pairs}
+use Rattle.messages.specs.Messages.{all_pairs}
 use Rattle.inbox.specs.Instances.{Instance, port_of_feed}
 use Rattle.inbox.specs.Timesteps.{timesteps}
 use Rattle.inbox.specs.Lives.{Life, all_lives}
@@ -39,10 +39,10 @@ use Rattle.inbox.proofs.WiringLemmas.{port_of-feed, instance-wired, instance-fee
 use Rattle.inbox.proofs.TimestepLemmas.Widths.{timesteps-many}
 use Rattle.inbox.proofs.TimestepLemmas.Entries.{heard_entry, Has-rows_in, Has-from_rows_in}
 use Rattle.inbox.proofs.TimestepLemmas.OfLives.{batches_heard}
-use Rattle.stream_deps.specs.Sent.{IsHistory}
-use Rattle.stream_deps.proofs.Streams.IntoPorts.{goes_is}
+use Rattle.inbox.specs.Sent.{IsHistory}
+use Rattle.inbox.proofs.Streams.IntoPorts.{goes_is}
 use Rattle.confluence.specs.Complete.{contents_into}
-use Rattle.topo_types.specs.Laws.{OrderIsAcyclic}
+use Rattle.topo_forms.specs.Laws.{OrderIsAcyclic}
 use Rattle.confluence.proofs.Determined.Parts.{by_parts}
 use Rattle.confluence.proofs.Determined.Rows.{AreInside, confluent_part}
 use Rattle.confluence.proofs.Contents.Instances.{inside, not_order, from_contents}
@@ -52,7 +52,7 @@ use Rattle.confluence.proofs.Regions.Members.{same_cycle}
 use Rattle.confluence.proofs.Contents.IntoPorts.{in_port}
 use Rattle.confluence.proofs.Contents.NoBody.{no_body_no_rows}
 use Rattle.confluence.proofs.Regions.ByEmission.{Hears, HeardFine, OutsideFine, EmittedFine, outside_cases, all_fine}
-use Rattle.fd_closure.specs.Bits.{members}
+use Rattle.blz_value.specs.Bits.{members}
 
 -- a note stands among those of its component
 pub noted_in : (v : View) (m p o : ℕ) (note : Note) → note_at v m p o ≡ Some note → Has note (notes_in v m)

@@ -7,19 +7,19 @@ use Rattle.blz_value.specs.Members.{Has}
 use Rattle.blz_value.specs.Record.{Row}
 use Rattle.blz_value.proofs.Membership.{Has-filter, Has-from_filter, any_from_Has}
 use Rattle.blz_value.proofs.SetLaws.{sorted_set_of, same_row_sets, Has-set_of}
-use Rattle.bloom_ast.specs.declared.program.Program.{Program}
-use Rattle.bloom_ast.specs.ProgramStep.{answer_of}
-use Rattle.bloom_ast.specs.Step.{set_at}
+use Rattle.bloom_forms.specs.declared.program.Program.{Program}
+use Rattle.bloom_forms.specs.ProgramStep.{answer_of}
+use Rattle.bloom_forms.specs.Step.{set_at}
 use Rattle.blz_value.specs.Sets.{set_of}
-use Rattle.topo_types.specs.Data.{Data, IsData, Holds}
-use Rattle.topo_types.specs.Graph.{is_in}
-use Rattle.topo_types.specs.Messages.{rows_in, row}
-use Rattle.topo_types.specs.Regions.{region_of, region_set, is_in_cycle}
-use Rattle.topo_types.specs.Sets.{below}
-use Rattle.topo_types.specs.Valid.{IsValid}
-use Rattle.topo_types.specs.View.{View, End, origin_of, program_of, is_order, is_replicated, replicas_of, senders_of, goes_to, stream_numbers}
-use Rattle.topo_types.proofs.Regions.Spreading.{from_below, in_below}
-use Rattle.topo_types.proofs.Regions.OrderAlone.{order_acyclic}
+use Rattle.topo_forms.specs.Data.{Data, IsData, Holds}
+use Rattle.blz_value.specs.Graph.{is_in}
+use Rattle.topo_forms.specs.Messages.{rows_in, row}
+use Rattle.topo_forms.specs.Regions.{region_of, region_set, is_in_cycle}
+use Rattle.blz_value.specs.NumberSets.{below}
+use Rattle.topo_forms.specs.Valid.{IsValid}
+use Rattle.topo_forms.specs.View.{View, End, origin_of, program_of, is_order, is_replicated, replicas_of, senders_of, goes_to, stream_numbers}
+use Rattle.topo_forms.proofs.Regions.Spreading.{from_below, in_below}
+use Rattle.topo_forms.proofs.Regions.OrderAlone.{order_acyclic}
 use Rattle.label_rules.specs.declared.label.Label.{Label}
 use Rattle.label_rules.specs.declared.label.Label.TheVariants.{Seal, Async, Run, Inst, Diverge}
 use Rattle.label_rules.specs.Label.{severity}
@@ -29,8 +29,8 @@ use Rattle.inbox.specs.Wiring.{Wiring, wiring_of}
 use Rattle.inbox.specs.Executions.{Execution, emitted_list, contents}
 use Rattle.inbox.proofs.Lists.Origins.{source_list}
 use Rattle.inbox.proofs.TimestepLemmas.Entries.{Has-rows_in}
-use Rattle.stream_deps.specs.Sent.{IsHistory}
-use Rattle.stream_deps.proofs.Streams.IntoPorts.{goes_is}
+use Rattle.inbox.specs.Sent.{IsHistory}
+use Rattle.inbox.proofs.Streams.IntoPorts.{goes_is}
 use Rattle.confluence.specs.Complete.{IsCompleted, contents_into}
 use Rattle.confluence.specs.LabelMeaning.{IsOutside, IsProtected, IsGuarded, IsInCycle, HasGoodPaths, HasGoodInputs, HasConfluentPaths}
 use Rattle.confluence.specs.Laws.{StrongRestartLaw, OpenRegionLaw, DeterminedOutputs}
@@ -43,7 +43,7 @@ use Rattle.confluence.proofs.Regions.Cyclic.{in_inputs, member_unordered, conflu
 use Rattle.confluence.proofs.Labels.CyclicLaw.{inputs_of_async, inputs_of_run}
 use Rattle.confluence.proofs.Labels.GoodPathsLaw.{good_of_async, good_of_run}
 use Rattle.confluence.proofs.Labels.ProtectedLaw.{protected_guarded}
-use Rattle.fd_closure.specs.Bits.{members}
+use Rattle.blz_value.specs.Bits.{members}
 
 -- The plan: one claim for each stream, over any two complete histories: equal contents where it is Seal or
 -- Async, and for one history alone where it is Run. A source has its contents whatever happens. A stream

@@ -1,8 +1,8 @@
 -- The labels of valid topologies are sound, over complete executions with forgets or without.
 use Rattle.std.proofs.Common.{List, map}
 use Rattle.label_rules.specs.declared.label.Label.{Label}
-use Rattle.topo_types.specs.View.{View}
-use Rattle.topo_types.specs.Data.{Data}
+use Rattle.topo_forms.specs.View.{View}
+use Rattle.topo_forms.specs.Data.{Data}
 use Rattle.inbox.specs.Wiring.{Wiring, wiring_of}
 use Rattle.inbox.specs.Executions.{Execution}
 use Rattle.inbox.specs.Events.{event}

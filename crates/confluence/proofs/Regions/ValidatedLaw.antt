@@ -1,8 +1,8 @@
 -- What validation has accepted is valid, and so its labels are sound.
 use Rattle.std.proofs.Common.{List, subst, sym}
-use Rattle.bloom_ast.specs.Form.{Accepted}
-use Rattle.topo_types.specs.Valid.{IsValid, Validated, IsValidated}
-use Rattle.topo_types.proofs.Views.ValidViews.{valid_law}
+use Rattle.bloom_forms.specs.Form.{Accepted}
+use Rattle.topo_forms.specs.Valid.{IsValid, Validated, IsValidated}
+use Rattle.topo_forms.proofs.Views.ValidViews.{valid_law}
 use Rattle.confluence.specs.Laws.{ValidatedLabelsAreSound, ValidatedLabelsSurviveRestarts}
 use Rattle.confluence.proofs.Regions.RegionLaw.{region_law}
 use Rattle.confluence.proofs.Regions.Induction.{strong_law}

@@ -1,19 +1,19 @@
 -- The two modules of word count are such as a check accepts.
 use Rattle.std.proofs.Common.{◌≡◌, refl, subst, [], ◌∷◌, inl, inr, None}
 use Rattle.blz_value.specs.Members.{Has}
-use Rattle.fd_closure.specs.Bits.{bit_of, meets}
-use Rattle.fd_closure.specs.Closure.{within, closure, step}
-use Rattle.bloom_ast.specs.declared.fault.ModuleKind.TheVariants as kind
-use Rattle.bloom_ast.specs.Checks.{IsRule, IsChecked}
-use Rattle.bloom_ast.specs.Faults.{kind_fault}
-use Rattle.bloom_ast.specs.FirstFault.{first_fault}
-use Rattle.bloom_ast.specs.Form.{RuleForm, Form}
-use Rattle.bloom_ast.specs.HeadOrder.{heads_of}
-use Rattle.bloom_ast.specs.Reads.{facts_of}
-use Rattle.bloom_ast.specs.Reserved.{HasOwnNames}
-use Rattle.bloom_ast.proofs.Faults.Firsts.{are_few, each_collection, distinct_names}
-use Rattle.bloom_ast.proofs.Faults.Ordering.{ordered}
-use Rattle.topo_types.proofs.Worked.WordCount.{count_module, commit_module}
+use Rattle.blz_value.specs.Bits.{bit_of, meets}
+use Rattle.blz_value.specs.Closure.{within, closure, step}
+use Rattle.bloom_forms.specs.declared.fault.ModuleKind.TheVariants as kind
+use Rattle.bloom_forms.specs.Checks.{IsRule, IsChecked}
+use Rattle.bloom_forms.specs.Faults.{kind_fault}
+use Rattle.bloom_forms.specs.FirstFault.{first_fault}
+use Rattle.bloom_forms.specs.Form.{RuleForm, Form}
+use Rattle.bloom_forms.specs.HeadOrder.{heads_of}
+use Rattle.bloom_forms.specs.Reads.{facts_of}
+use Rattle.bloom_forms.specs.Reserved.{HasOwnNames}
+use Rattle.bloom_forms.proofs.Faults.Firsts.{are_few, each_collection, distinct_names}
+use Rattle.bloom_forms.proofs.Faults.Ordering.{ordered}
+use Rattle.topo_forms.proofs.Worked.WordCount.{count_module, commit_module}
 
 -- a module without a fault of size and with no name twice, whose rules are as they should be, is checked
 module _ (m : Form) (names : HasOwnNames m) (clean : first_fault m ≡ None)

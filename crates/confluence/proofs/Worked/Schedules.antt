@@ -5,21 +5,21 @@ use Rattle.std.specs.Option.{option_map_or}
 use Rattle.std.proofs.lemmas.Bool.{eqb-true, ltb-true}
 use Rattle.blz_value.specs.Record.{Row}
 use Rattle.blz_value.proofs.Membership.{Has-from_filter}
-use Rattle.fd_closure.specs.Bits.{bit_of, meets}
-use Rattle.fd_closure.specs.Closure.{within, closure, step}
-use Rattle.bloom_ast.specs.declared.program.Program.{Program}
-use Rattle.bloom_ast.specs.declared.program.Program.TheVariants.{Module, Split}
-use Rattle.bloom_ast.specs.ProgramStep.{answer_of}
-use Rattle.bloom_ast.specs.Step.{set_at}
-use Rattle.topo_types.specs.declared.mode.Mode.{Mode}
-use Rattle.topo_types.specs.declared.mode.Mode.TheVariants as mode
-use Rattle.topo_types.specs.Carried.{carries, carriers}
-use Rattle.topo_types.specs.Dependencies.{usable_fds}
-use Rattle.topo_types.specs.Feeds.{Feed}
-use Rattle.topo_types.specs.Messages.{row, seal}
-use Rattle.topo_types.specs.View.{comes_from, has_body, End, origin_of, stream_numbers, stream_replicas}
-use Rattle.topo_types.proofs.Worked.WordCount.{batch, count_module, commit_module}
-use Rattle.topo_types.proofs.Regions.Spreading.{from_below}
+use Rattle.blz_value.specs.Bits.{bit_of, meets}
+use Rattle.blz_value.specs.Closure.{within, closure, step}
+use Rattle.bloom_forms.specs.declared.program.Program.{Program}
+use Rattle.bloom_forms.specs.declared.program.Program.TheVariants.{Module, Split}
+use Rattle.bloom_forms.specs.ProgramStep.{answer_of}
+use Rattle.bloom_forms.specs.Step.{set_at}
+use Rattle.bloom_forms.specs.declared.mode.Mode.{Mode}
+use Rattle.bloom_forms.specs.declared.mode.Mode.TheVariants as mode
+use Rattle.topo_forms.specs.Carried.{carries, carriers}
+use Rattle.topo_forms.specs.Dependencies.{usable_fds}
+use Rattle.topo_forms.specs.Feeds.{Feed}
+use Rattle.topo_forms.specs.Messages.{row, seal}
+use Rattle.topo_forms.specs.View.{comes_from, has_body, End, origin_of, stream_numbers, stream_replicas}
+use Rattle.topo_forms.proofs.Worked.WordCount.{batch, count_module, commit_module}
+use Rattle.topo_forms.proofs.Regions.Spreading.{from_below}
 use Rattle.label_walk.specs.Paths.{label_at}
 use Rattle.inbox.specs.Instances.{Instance}
 use Rattle.inbox.specs.Wiring.{Wiring, wiring_of, is_there, carried_places}

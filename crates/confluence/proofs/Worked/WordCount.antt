@@ -4,24 +4,24 @@ use Rattle.std.proofs.lemmas.List.Elements.{All-nil, All-from_recursion}
 use Rattle.blz_value.specs.declared.value.Value.{Value}
 use Rattle.blz_value.specs.declared.value.Value.TheVariants as value
 use Rattle.blz_value.specs.Members.{Has}
-use Rattle.fd_closure.specs.Bits.{bit_of, meets}
-use Rattle.fd_closure.specs.Closure.{within, closure, step, compatible}
-use Rattle.bloom_ast.specs.Checks.{IsChecked}
-use Rattle.bloom_ast.specs.Form.{Accepted}
-use Rattle.topo_types.specs.declared.topology.Body.TheVariants as body
-use Rattle.topo_types.specs.declared.topology.ColumnType.TheVariants as column
-use Rattle.topo_types.specs.declared.topology.ModeName.TheVariants as written
-use Rattle.topo_types.specs.declared.topology.Topology.{Topology}
-use Rattle.topo_types.specs.Carried.{carries, carriers}
-use Rattle.topo_types.specs.Data.{Data, IsData, Holds, FitsSource, source_data, key_width}
-use Rattle.topo_types.specs.Dependencies.{usable_fds, upholders}
-use Rattle.topo_types.specs.Regions.{region_set, regions, is_in_cycle}
-use Rattle.topo_types.specs.Valid.{IsValid, AreModules}
-use Rattle.topo_types.specs.Validity.{fault_of}
-use Rattle.topo_types.specs.View.{View, stream_at}
-use Rattle.topo_types.specs.ViewOf.{view_of}
-use Rattle.topo_types.proofs.Views.ValidViews.{valid_law}
-use Rattle.topo_types.proofs.Worked.WordCount.{word_count, word_count_with, sealed_at, batch, count_module, commit_module, splitting, bodied, spot}
+use Rattle.blz_value.specs.Bits.{bit_of, meets}
+use Rattle.blz_value.specs.Closure.{within, closure, step, compatible}
+use Rattle.bloom_forms.specs.Checks.{IsChecked}
+use Rattle.bloom_forms.specs.Form.{Accepted}
+use Rattle.topo_forms.specs.declared.topology.Body.TheVariants as body
+use Rattle.topo_forms.specs.declared.topology.ColumnType.TheVariants as column
+use Rattle.topo_forms.specs.declared.topology.ModeName.TheVariants as written
+use Rattle.topo_forms.specs.declared.topology.Topology.{Topology}
+use Rattle.topo_forms.specs.Carried.{carries, carriers}
+use Rattle.topo_forms.specs.Data.{Data, IsData, Holds, FitsSource, source_data, key_width}
+use Rattle.topo_forms.specs.Dependencies.{usable_fds, upholders}
+use Rattle.topo_forms.specs.Regions.{region_set, regions, is_in_cycle}
+use Rattle.topo_forms.specs.Valid.{IsValid, AreModules}
+use Rattle.topo_forms.specs.Validity.{fault_of}
+use Rattle.topo_forms.specs.View.{View, stream_at}
+use Rattle.topo_forms.specs.ViewOf.{view_of}
+use Rattle.topo_forms.proofs.Views.ValidViews.{valid_law}
+use Rattle.topo_forms.proofs.Worked.WordCount.{word_count, word_count_with, sealed_at, batch, count_module, commit_module, splitting, bodied, spot}
 use Rattle.label_rules.specs.declared.label.Label.{Label}
 use Rattle.label_rules.specs.declared.label.Label.TheVariants.{Seal}
 use Rattle.label_walk.specs.Labels.{AreLabels, labels_of}

@@ -1,12 +1,12 @@
 -- The modes that are chosen for a component, and a topology with one of them.
 use Rattle.std.specs.Prelude.{ℕ, ◌&&◌, not, if◌then◌else◌, Option, None, Some}
-use Rattle.topo_types.specs.declared.mode.Mode.{Mode}
-use Rattle.topo_types.specs.declared.mode.Mode.TheVariants.{Order}
-use Rattle.topo_types.specs.Laws.{validated_with_mode}
-use Rattle.topo_types.specs.Valid.{Validated}
-use Rattle.topo_types.specs.View.{View, is_order}
-use Rattle.coord_steps.specs.declared.steps.Steps.{Steps}
-use Rattle.coord_steps.specs.Plan.{has_order_note}
+use Rattle.bloom_forms.specs.declared.mode.Mode.{Mode}
+use Rattle.bloom_forms.specs.declared.mode.Mode.TheVariants.{Order}
+use Rattle.topo_forms.specs.Laws.{validated_with_mode}
+use Rattle.topo_forms.specs.Valid.{Validated}
+use Rattle.topo_forms.specs.View.{View, is_order}
+use Rattle.coord_modes.specs.declared.steps.Steps.{Steps}
+use Rattle.coord_modes.specs.Plan.{has_order_note}
 use Rattle.coord_modes.specs.Choice.{chosen_mode}
 
 -- the topology with the mode that was chosen, if any was

@@ -1,11 +1,11 @@
 -- The steps of a plan at the region of a component, as they are found in the topology so far.
 use Rattle.std.specs.Prelude.{ℕ, ◌≡◌, ◌<◌, true, if◌then◌else◌, List, length, slice_index_or}
-use Rattle.topo_types.specs.Graph.{is_in}
-use Rattle.topo_types.specs.Regions.{is_in_cycle, region_set, regions}
-use Rattle.topo_types.specs.View.{View}
+use Rattle.blz_value.specs.Graph.{is_in}
+use Rattle.topo_forms.specs.Regions.{is_in_cycle, region_set, regions}
+use Rattle.topo_forms.specs.View.{View}
 use Rattle.label_walk.specs.Paths.{region_at}
-use Rattle.coord_steps.specs.declared.steps.Steps.{Steps}
-use Rattle.coord_steps.specs.Plan.{plan_component, plan_cycle}
+use Rattle.coord_modes.specs.declared.steps.Steps.{Steps}
+use Rattle.coord_modes.specs.Plan.{plan_component, plan_cycle}
 
 -- a member of each region
 pub record AreFirsts (v : View) (firsts : List ℕ) : Type 0 where

@@ -1,8 +1,8 @@
 -- A topology as it is written, beside its view.
 use Rattle.std.specs.Prelude.{◌≡◌}
-use Rattle.topo_types.specs.declared.topology.Topology.{Topology}
-use Rattle.topo_types.specs.Valid.{Validated}
-use Rattle.coord_steps.specs.Plan.{topology_with_modes}
+use Rattle.topo_forms.specs.declared.topology.Topology.{Topology}
+use Rattle.topo_forms.specs.Valid.{Validated}
+use Rattle.coord_modes.specs.Plan.{topology_with_modes}
 
 -- what is written is this topology with the modes of the view
 abbrev pub IsWritten : Topology → Validated → Type 0

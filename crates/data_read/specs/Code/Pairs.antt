@@ -2,7 +2,7 @@
 use Rattle.std.specs.Prelude.{Vec}
 use Rattle.std.specs.declared.alloc.Global.{Global}
 use Rattle.blz_value.specs.Record.{Row}
-use Rattle.topo_types.specs.Data.{SourceData}
+use Rattle.topo_forms.specs.Data.{SourceData}
 
 abbrev pub Rows : Type 0
 Rows = Vec Row Global

@@ -7,12 +7,12 @@ use Rattle.std.proofs.lemmas.List.Sums.{fold-append}
 use Rattle.std.proofs.lemmas.Grind.{flat_map-append}
 use Rattle.std.proofs.Math.Seq.{take-suc}
 use Rattle.messages.specs.Messages.{Pair, Batch, Entry, all_pairs}
-use Rattle.topo_types.specs.View.{is_order_mode}
+use Rattle.topo_forms.specs.View.{is_order_mode}
 use Rattle.inbox.specs.Instances.{Instance}
 use Rattle.inbox.specs.Timesteps.{SetOff, set_off, each_after, each_set_off, timesteps}
 use Rattle.inbox.specs.Emission.{Kept, emit, begin_life, nothing_emitted}
 use Rattle.inbox.specs.Lives.{Life, Lives, hear_batch, take_entry, forget_all, of_entry, life_sets_off, after_life, kept_after}
-use Rattle.topo_types.specs.Data.{Data}
+use Rattle.topo_forms.specs.Data.{Data}
 use Rattle.inbox.specs.Wiring.{Wiring}
 use Rattle.inbox.specs.Executions.{first_execution, result_and_then, after_step, execution_of, Execution}
 use Rattle.inbox.specs.Events.{Step}

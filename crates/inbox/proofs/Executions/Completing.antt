@@ -9,11 +9,11 @@ use Rattle.std.proofs.lemmas.List.FromFn.{get_or-enumerate_from, length-enumerat
 use Rattle.blz_value.specs.Members.{Has}
 use Rattle.blz_value.specs.Record.{Row}
 use Rattle.blz_value.proofs.Membership.{Has-get_or, Has-filter}
-use Rattle.fd_closure.proofs.MembersInOrder.{in_range}
-use Rattle.topo_types.specs.Data.{Data}
-use Rattle.topo_types.specs.Feeds.{Feed, no_feed}
-use Rattle.topo_types.specs.View.{is_order_mode}
-use Rattle.topo_types.specs.Messages.{Message, rows_in}
+use Rattle.blz_value.proofs.MembersInOrder.{in_range}
+use Rattle.topo_forms.specs.Data.{Data}
+use Rattle.topo_forms.specs.Feeds.{Feed, no_feed}
+use Rattle.topo_forms.specs.View.{is_order_mode}
+use Rattle.topo_forms.specs.Messages.{Message, rows_in}
 use Rattle.messages.specs.Messages.{Pair, is_same_pair, is_same_entry, all_pairs}
 use Rattle.inbox.specs.Wiring.{Wiring, instances_at, instance_at, is_there, is_sequencer}
 use Rattle.inbox.specs.Executions.{Execution, emitted_list}

@@ -2,9 +2,9 @@
 use Rattle.std.proofs.Common.{◌≡◌, refl, subst, ℕ, ◌&&◌, nat_lt, true, List, [], ◌∷◌, length}
 use Rattle.std.specs.Prelude.{Result, Ok, Err}
 use Rattle.std.specs.List.{fold}
-use Rattle.topo_types.specs.Data.{Data}
+use Rattle.topo_forms.specs.Data.{Data}
 use Rattle.messages.specs.Messages.{Pair}
-use Rattle.topo_types.specs.View.{is_order_mode}
+use Rattle.topo_forms.specs.View.{is_order_mode}
 use Rattle.inbox.specs.Lives.{hear_batch, take_entry, forget_all}
 use Rattle.inbox.specs.Wiring.{Wiring, instance_at, is_there, is_sequencer}
 use Rattle.inbox.specs.Executions.{Execution, first_execution, with_lives, result_and_then, pairs_of, pair_of, is_hearing, after_hearing, with_logged, after_taking, after_event, after_step, execution_of}

@@ -7,10 +7,10 @@ use Rattle.std.proofs.lemmas.Bool.{eqb-true, eq-eqb, ltb-true}
 use Rattle.std.proofs.lemmas.List.{take-append-le, get_or_default}
 use Rattle.blz_value.specs.Members.{Has}
 use Rattle.blz_value.proofs.Membership.{Has-append_left, Has-append_right, Has-append_cases}
-use Rattle.topo_types.specs.Data.{Data}
-use Rattle.topo_types.specs.Messages.{Message, row, seal}
+use Rattle.topo_forms.specs.Data.{Data}
+use Rattle.topo_forms.specs.Messages.{Message, row, seal}
 use Rattle.messages.specs.Messages.{Batch, Entry, is_same_entry, with_new, all_pairs}
-use Rattle.topo_types.specs.View.{is_order_mode, Stream}
+use Rattle.topo_forms.specs.View.{is_order_mode, Stream}
 use Rattle.inbox.specs.Instances.{Instance}
 use Rattle.inbox.specs.Timesteps.{each_set_off, set_off}
 use Rattle.inbox.specs.Emission.{Kept, list_of, emit, begin_life, nothing_emitted}

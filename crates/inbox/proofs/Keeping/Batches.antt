@@ -11,14 +11,14 @@ use Rattle.blz_value.specs.Record.{Row, record_cmp}
 use Rattle.blz_value.specs.Sets.{set_of}
 use Rattle.blz_value.proofs.Membership.{Has-append_cases, any_from_Has}
 use Rattle.blz_value.proofs.SetLaws.{Has-set_of, Has-from_set_of}
-use Rattle.topo_types.specs.Messages.{Message, row, seal, is_same_row, row_in}
-use Rattle.topo_types.proofs.Regions.Spreading.{same_truth}
+use Rattle.topo_forms.specs.Messages.{Message, row, seal, is_same_row, row_in}
+use Rattle.topo_forms.proofs.Regions.Spreading.{same_truth}
 use Rattle.messages.specs.Messages.{Pair, Batch, Entry}
 use Rattle.inbox.specs.Instances.{Instance, port_of_feed, entries_of, key_of_entry}
 use Rattle.inbox.specs.Timesteps.{is_whole, is_due}
 use Rattle.messages.specs.Log.{EntryId, is_same_entry_id, row_with_id}
-use Rattle.partitions.specs.Whole.{feeds_view}
-use Rattle.partitions.specs.Feeds.{FeedView, FeedsView, feed_count, port_in, key_in, HearsSeal, IsOneChanged}
+use Rattle.messages.specs.Whole.{feeds_view}
+use Rattle.messages.specs.Feeds.{FeedView, FeedsView, feed_count, port_in, key_in, HearsSeal, IsOneChanged}
 use Rattle.inbox.specs.Code.Batches.{open_key, is_open, HearsIf, HearsRecord, WaitsWith, AllWaitWith}
 use Rattle.inbox.specs.Code.Heard.{FeedsHeard, WaitingHeard, IsIdle}
 use Rattle.inbox.specs.Code.Waiting.{KeepsEntry}

@@ -17,14 +17,14 @@ use Rattle.blz_value.specs.Sets.{set_of}
 use Rattle.blz_value.proofs.Membership.{Has-append_cases, Has-filter, Has-from_filter, Has-get_or, Has-map, Has-from_map}
 use Rattle.blz_value.proofs.RowSets.{set_of-push, set_of-push_present, length-insert_key-new}
 use Rattle.blz_value.proofs.SetLaws.{Has-from_set_of}
-use Rattle.topo_types.specs.Messages.{Message, row, seal, is_same_row}
-use Rattle.topo_types.proofs.Regions.Spreading.{same_truth}
+use Rattle.topo_forms.specs.Messages.{Message, row, seal, is_same_row}
+use Rattle.topo_forms.proofs.Regions.Spreading.{same_truth}
 use Rattle.messages.specs.Messages.{Pair, Entry}
 use Rattle.inbox.specs.Instances.{PortKey, Instance, port_of_feed, is_carrying, entries_of, key_of_entry, is_of_key}
 use Rattle.inbox.specs.Timesteps.{is_seal_within, from_feed}
 use Rattle.messages.specs.Log.{row_with_id}
-use Rattle.partitions.specs.Counts.{is_met}
-use Rattle.partitions.specs.Feeds.{FeedView, FeedsView, feed_count, port_in, key_in, carries_in, FeedHearsRow, FeedHearsSeal, HearsRow, HearsSeal, IsOneChanged}
+use Rattle.messages.specs.PartitionCounts.{is_met}
+use Rattle.messages.specs.Feeds.{FeedView, FeedsView, feed_count, port_in, key_in, carries_in, FeedHearsRow, FeedHearsSeal, HearsRow, HearsSeal, IsOneChanged}
 use Rattle.inbox.specs.Code.Heard.{keyed_rows, count_sent, FeedHeard, FeedsHeard}
 use Rattle.messages.proofs.LogLemmas.{IsOneId, same_row-same_id}
 use Rattle.messages.proofs.MessagesLemmas.{is_same_row-is, is_same_row-itself, any-from_same, same-from_any}

@@ -5,16 +5,16 @@ use Rattle.std.specs.Option.{option_map_or}
 use Rattle.blz_value.specs.Members.{Has}
 use Rattle.blz_value.specs.Record.{Row}
 use Rattle.blz_value.proofs.Membership.{Has-get_or}
-use Rattle.topo_types.specs.Feeds.{Feed as TopoFeed, feeds, log_feeds, no_feed}
-use Rattle.topo_types.specs.View.{View, is_order, is_order_mode, mode_of, mode_key, port_numbers}
+use Rattle.topo_forms.specs.Feeds.{Feed as TopoFeed, feeds, log_feeds, no_feed}
+use Rattle.topo_forms.specs.View.{View, is_order, is_order_mode, mode_of, mode_key, port_numbers}
 use Rattle.messages.specs.Messages.{Pair, Batch, Entry, all_pairs}
 use Rattle.inbox.specs.Instances.{Instance, PortKey, port_of_feed, is_carrying}
 use Rattle.inbox.specs.Timesteps.{is_some_feed, is_due}
 use Rattle.inbox.specs.Wiring.{instance_for, port_for}
 use Rattle.messages.specs.Log.{EntryId, entries_with_ids}
 use Rattle.inbox.specs.Code.Places.{places_of}
-use Rattle.partitions.specs.Whole.{feeds_view}
-use Rattle.partitions.specs.Feeds.{FeedView, FeedsView, feed_count, IsFreshFeed, carries_at, IsFresh, IsCleared}
+use Rattle.messages.specs.Whole.{feeds_view}
+use Rattle.messages.specs.Feeds.{FeedView, FeedsView, feed_count, IsFreshFeed, carries_at, IsFresh, IsCleared}
 use Rattle.inbox.specs.Code.Heard.{FeedHeard, FeedsHeard, WaitingHeard, is_sealing}
 use Rattle.inbox.specs.Inbox.{Keeps, HasHeard}
 use Rattle.inbox.specs.declared.waiting.Waiting.{Waiting}

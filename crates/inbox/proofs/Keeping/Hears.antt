@@ -9,24 +9,24 @@ use Rattle.blz_value.specs.Members.{Has}
 use Rattle.blz_value.specs.Record.{Row as Record}
 use Rattle.blz_value.specs.Sets.{set_of}
 use Rattle.blz_value.proofs.Membership.{Has-from_map, Has-from_filter, Has-get_or}
-use Rattle.bloom_ast.specs.Step.{Sets}
-use Rattle.fd_closure.specs.declared.attrs.Attrs.{Attrs}
-use Rattle.topo_types.specs.declared.mode.Mode.{Mode}
-use Rattle.topo_types.specs.declared.mode.Mode.TheVariants.{Free, Pass, Order}
-use Rattle.topo_types.specs.declared.mode.Mode.TheVariants as mode
-use Rattle.topo_types.specs.Messages.{row_in}
-use Rattle.topo_types.specs.View.{is_order_mode}
-use Rattle.topo_types.proofs.Regions.Spreading.{same_truth}
+use Rattle.bloom_forms.specs.Step.{Sets}
+use Rattle.blz_value.specs.declared.attrs.Attrs.{Attrs}
+use Rattle.bloom_forms.specs.declared.mode.Mode.{Mode}
+use Rattle.bloom_forms.specs.declared.mode.Mode.TheVariants.{Free, Pass, Order}
+use Rattle.bloom_forms.specs.declared.mode.Mode.TheVariants as mode
+use Rattle.topo_forms.specs.Messages.{row_in}
+use Rattle.topo_forms.specs.View.{is_order_mode}
+use Rattle.topo_forms.proofs.Regions.Spreading.{same_truth}
 use Rattle.messages.specs.Messages.{Pair, Batch, Entry, is_same_entry, all_pairs, firsts}
 use Rattle.inbox.specs.Instances.{Instance, port_of_feed, is_carrying, entry_of, entries_of}
 use Rattle.inbox.specs.Timesteps.{is_due, is_of_some, timestep_of, one_timestep, one_by_one, first_part, second_part, newly_whole, steps_in, held_count}
 use Rattle.messages.specs.Ids.{message_with_id, pair_with_id, batch_with_ids, IsGiven}
 use Rattle.messages.specs.Log.{EntryId, AreGiven, is_same_entry_id, row_with_id, entry_with_id, entries_with_ids}
-use Rattle.partitions.specs.Whole.{feeds_view}
-use Rattle.partitions.specs.Feeds.{FeedsView, feed_count, port_count, port_in, key_in, carries_in, is_whole_in, is_due_in}
+use Rattle.messages.specs.Whole.{feeds_view}
+use Rattle.messages.specs.Feeds.{FeedsView, feed_count, port_count, port_in, key_in, carries_in, is_whole_in, is_due_in}
 use Rattle.inbox.specs.Code.Batches.{AllWaitWith, id_in, entry_ids_of, goes_in, open_key, steps_released, Releases}
 use Rattle.inbox.specs.Code.Heard.{FeedsHeard, WaitingHeard, IsIdle, is_sealing, is_place_of}
-use Rattle.partitions.specs.Ports.{PortKey}
+use Rattle.messages.specs.Ports.{PortKey}
 use Rattle.inbox.specs.Code.Places.{places_of}
 use Rattle.inbox.specs.Code.Waiting.{released_of}
 use Rattle.inbox.specs.Inbox.{Keeps, HasHeard}

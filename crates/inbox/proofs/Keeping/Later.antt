@@ -8,11 +8,11 @@ use Rattle.blz_pool.specs.Pool.{number_of}
 use Rattle.blz_value.specs.Members.{Has}
 use Rattle.blz_value.specs.Record.{Row}
 use Rattle.blz_value.proofs.Membership.{Has-get_or}
-use Rattle.topo_types.specs.Messages.{is_same_row}
-use Rattle.topo_types.proofs.Regions.Spreading.{same_truth}
+use Rattle.topo_forms.specs.Messages.{is_same_row}
+use Rattle.topo_forms.proofs.Regions.Spreading.{same_truth}
 use Rattle.messages.specs.Messages.{Pair, Entry, all_pairs}
-use Rattle.partitions.specs.Whole.{feeds_view}
-use Rattle.partitions.specs.Feeds.{FeedView, FeedsView}
+use Rattle.messages.specs.Whole.{feeds_view}
+use Rattle.messages.specs.Feeds.{FeedView, FeedsView}
 use Rattle.inbox.specs.Instances.{Instance, is_of_key}
 use Rattle.inbox.specs.Timesteps.{from_feed}
 use Rattle.messages.specs.Log.{EntryId, AreGiven, row_with_id, entry_with_id, entries_with_ids}

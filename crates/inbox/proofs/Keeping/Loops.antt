@@ -10,15 +10,15 @@ use Rattle.blz_value.specs.Record.{Row}
 use Rattle.blz_value.specs.Members.{Has}
 use Rattle.blz_value.specs.Sets.{set_of, set_by}
 use Rattle.blz_value.proofs.Membership.{Has-map, Has-get_or, Has-from_filter, All-of_member}
-use Rattle.bloom_ast.specs.Step.{Sets}
+use Rattle.bloom_forms.specs.Step.{Sets}
 use Rattle.blz_value.proofs.RowSets.{set_of-push}
-use Rattle.path_annotate.specs.Roots.{are_same}
-use Rattle.topo_types.specs.Data.{place_of_attribute}
+use Rattle.bloom_forms.specs.Roots.{are_same}
+use Rattle.topo_forms.specs.Data.{place_of_attribute}
 use Rattle.messages.specs.Ids.{pair_with_id, batch_with_ids}
 use Rattle.messages.specs.Messages.{Pair}
 use Rattle.messages.specs.Log.{EntryId, AreGiven}
-use Rattle.partitions.specs.Whole.{feeds_view}
-use Rattle.partitions.specs.Feeds.{FeedsView}
+use Rattle.messages.specs.Whole.{feeds_view}
+use Rattle.messages.specs.Feeds.{FeedsView}
 use Rattle.inbox.specs.Code.Places.{places_of}
 use Rattle.inbox.specs.Code.Waiting.{released_of}
 use Rattle.inbox.specs.Code.Batches.{open_key, with_key, entry_id_of, entry_ids_of, steps_released, Releases}

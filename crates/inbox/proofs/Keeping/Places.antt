@@ -22,7 +22,7 @@ use Rattle.blz_value.specs.Sets.{set_of, set_by}
 use Rattle.blz_value.proofs.Membership.{Has-append_cases, Has-append_right, Has-from_map, Has-from_filter, Has-get_or, Has-from_Contains, Contains-from_Has, All-of_member}
 use Rattle.blz_value.proofs.RowSets.{same_set_of, length-set_of-append_left, length-set_of-le}
 use Rattle.blz_value.proofs.SetLemmas.{same_sorted, sorted_set_by, Has-set_by, Has-from_set_by}
-use Rattle.topo_types.specs.Messages.{is_same_row}
+use Rattle.topo_forms.specs.Messages.{is_same_row}
 use Rattle.messages.specs.Messages.{Entry}
 use Rattle.messages.specs.Log.{EntryId, row_with_id, entry_with_id, entries_with_ids}
 use Rattle.inbox.specs.Code.Places.{places_of}

@@ -9,7 +9,7 @@ use Rattle.std.proofs.Math.Seq.{get_or-append_seam}
 use Rattle.blz_value.specs.Members.{Has}
 use Rattle.blz_value.specs.Record.{Row}
 use Rattle.blz_value.proofs.Membership.{Has-append_left, Has-append_right, Has-append_cases}
-use Rattle.topo_types.specs.Messages.{row, seal, is_same_row}
+use Rattle.topo_forms.specs.Messages.{row, seal, is_same_row}
 use Rattle.messages.specs.Messages.{Pair, Entry, is_same_entry, with_new, firsts}
 use Rattle.inbox.specs.Instances.{Instance, port_of_feed, entries_of, key_of_entry, is_of_key}
 use Rattle.messages.specs.Log.{EntryId, AreGiven, is_same_entry_id, row_with_id, entry_with_id, entries_with_ids}

@@ -17,7 +17,7 @@ use Rattle.blz_value.specs.Sets.{set_of, set_by}
 use Rattle.blz_value.proofs.Membership.{Has-filter, Has-from_filter, Has-flat_map, Has-from_flat_map, any_from_Has, Has-from_any, filter_members, map_members}
 use Rattle.blz_value.proofs.RowSets.{same_set_of}
 use Rattle.blz_value.proofs.SetLemmas.{sorted_set_by, Has-from_set_by, Has-set_by, same_sorted}
-use Rattle.topo_types.specs.Messages.{is_same_row}
+use Rattle.topo_forms.specs.Messages.{is_same_row}
 use Rattle.messages.specs.Messages.{Pair, Batch, Entry, is_same_entry, with_new, firsts}
 use Rattle.inbox.specs.Instances.{Instance, is_carrying, key_of_entry, is_of_key}
 use Rattle.inbox.specs.Timesteps.{is_whole, is_due, is_of_some, timestep_of, one_by_one, released_steps, newly_whole}

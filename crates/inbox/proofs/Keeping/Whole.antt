@@ -9,11 +9,11 @@ use Rattle.blz_value.specs.Sets.{set_of}
 use Rattle.blz_value.proofs.Membership.{Has-filter, Has-from_filter, Has-from_any}
 use Rattle.blz_value.proofs.OperatorsLemmas.{sorted_filter}
 use Rattle.blz_value.proofs.SetLaws.{sorted_set_of, Has-set_of, Has-from_set_of, same_row_sets}
-use Rattle.topo_types.specs.Messages.{Message, row, seal}
+use Rattle.topo_forms.specs.Messages.{Message, row, seal}
 use Rattle.messages.specs.Messages.{Pair, Batch, Entry, sealed_in}
 use Rattle.inbox.specs.Instances.{Instance, port_of_feed, is_carrying, carrying_feeds, key_of_entry}
 use Rattle.inbox.specs.Timesteps.{is_seal_within, from_feed, is_whole_from, is_some_feed, is_whole, is_due, sealed_keys, newly_whole}
-use Rattle.partitions.specs.Feeds.{FeedView, FeedsView, feed_count, key_in, is_enough, is_whole_in, is_due_in}
+use Rattle.messages.specs.Feeds.{FeedView, FeedsView, feed_count, key_in, is_enough, is_whole_in, is_due_in}
 use Rattle.inbox.specs.Code.Batches.{key_by, if_open, open_key}
 use Rattle.inbox.specs.Code.Heard.{FeedsHeard}
 use Rattle.messages.proofs.MessagesLemmas.{is_same_row-is}

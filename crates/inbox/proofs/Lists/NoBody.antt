@@ -1,8 +1,8 @@
 -- An instance without a body emits nothing.
 use Rattle.std.proofs.Common.{◌≡◌, refl, ap, ◌∙◌, ℕ, zero, suc, List, [], ◌∷◌, map, get_or, Option, None}
 use Rattle.std.specs.List.{fold}
-use Rattle.bloom_ast.specs.declared.program.Program.{Program}
-use Rattle.topo_types.specs.Messages.{Message}
+use Rattle.bloom_forms.specs.declared.program.Program.{Program}
+use Rattle.topo_forms.specs.Messages.{Message}
 use Rattle.messages.specs.Messages.{Entry}
 use Rattle.inbox.specs.Instances.{Instance}
 use Rattle.inbox.specs.Timesteps.{SetOff}

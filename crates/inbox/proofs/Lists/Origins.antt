@@ -1,9 +1,9 @@
 -- A source emits its messages, and the stream of an output what its instance emits there.
 use Rattle.std.proofs.Common.{◌≡◌, ◌<◌, ℕ, ap, ◌∙◌, Option, None, Some, [], length, slice_get}
 use Rattle.std.specs.Option.{option_map_or}
-use Rattle.topo_types.specs.Data.{Data, source_data}
-use Rattle.topo_types.specs.Messages.{source_messages}
-use Rattle.topo_types.specs.View.{View, End, Stream, origin_of, stream_at}
+use Rattle.topo_forms.specs.Data.{Data, source_data}
+use Rattle.topo_forms.specs.Messages.{source_messages}
+use Rattle.topo_forms.specs.View.{View, End, Stream, origin_of, stream_at}
 use Rattle.inbox.specs.Lives.{emitted_by}
 use Rattle.inbox.specs.Wiring.{Wiring, wiring_of, instance_at}
 use Rattle.inbox.specs.Executions.{Execution, list_from, emitted_list}

@@ -11,16 +11,16 @@ use Rattle.blz_value.specs.Record.{Row, record_cmp}
 use Rattle.blz_value.specs.RecordOrder.{record_cmp_total}
 use Rattle.blz_value.specs.Sets.{IsRowSet}
 use Rattle.blz_value.proofs.Membership.{Has-append_cases, Has-map, Has-from_map, Has-from_filter}
-use Rattle.fd_closure.specs.declared.attrs.Attrs.{Attrs}
+use Rattle.blz_value.specs.declared.attrs.Attrs.{Attrs}
 use Rattle.blz_value.proofs.SetLemmas.{below_not_in}
 use Rattle.blz_value.proofs.SetLaws.{sorted_set_of}
-use Rattle.bloom_ast.specs.declared.program.Program.{Program}
-use Rattle.bloom_ast.specs.ProgramStep.{outputs_of_step}
-use Rattle.bloom_ast.specs.Step.{Sets, set_at}
-use Rattle.path_annotate.specs.Roots.{Roots}
-use Rattle.topo_types.specs.Data.{Data, SourceData, source_data, key_value, rows_with_key}
-use Rattle.topo_types.specs.Messages.{Message, row, seal, is_same_row, distinct_rows, partitions, source_seals, source_messages}
-use Rattle.topo_types.specs.View.{Stream, End}
+use Rattle.bloom_forms.specs.declared.program.Program.{Program}
+use Rattle.bloom_forms.specs.ProgramStep.{outputs_of_step}
+use Rattle.bloom_forms.specs.Step.{Sets, set_at}
+use Rattle.bloom_forms.specs.Roots.{Roots}
+use Rattle.topo_forms.specs.Data.{Data, SourceData, source_data, key_value, rows_with_key}
+use Rattle.topo_forms.specs.Messages.{Message, row, seal, is_same_row, distinct_rows, partitions, source_seals, source_messages}
+use Rattle.topo_forms.specs.View.{Stream, End}
 use Rattle.messages.specs.Messages.{Entry, is_same_message, sealed_in, key_sealed}
 use Rattle.inbox.specs.Instances.{Instance}
 use Rattle.inbox.specs.Timesteps.{SetOff}

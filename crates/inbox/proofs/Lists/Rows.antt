@@ -4,10 +4,10 @@ use Rattle.std.specs.List.{fold, flat_map}
 use Rattle.std.proofs.lemmas.List.{length-map}
 use Rattle.blz_value.specs.Members.{HaveEqualMembers}
 use Rattle.blz_value.specs.Record.{Row}
-use Rattle.bloom_ast.specs.declared.program.Program.{Program}
-use Rattle.bloom_ast.specs.ProgramStep.{tables_after_step, outputs_of_step, empty_tables}
-use Rattle.bloom_ast.specs.Step.{Sets, set_at}
-use Rattle.topo_types.specs.Messages.{Message, rows_in}
+use Rattle.bloom_forms.specs.declared.program.Program.{Program}
+use Rattle.bloom_forms.specs.ProgramStep.{tables_after_step, outputs_of_step, empty_tables}
+use Rattle.bloom_forms.specs.Step.{Sets, set_at}
+use Rattle.topo_forms.specs.Messages.{Message, rows_in}
 use Rattle.messages.specs.Messages.{Entry}
 use Rattle.inbox.specs.Instances.{Instance}
 use Rattle.inbox.specs.Timesteps.{SetOff}

@@ -7,11 +7,11 @@ use Rattle.std.proofs.lemmas.List.Sums.{fold-append}
 use Rattle.blz_value.specs.Members.{Has, IsWithin}
 use Rattle.blz_value.specs.Record.{Row}
 use Rattle.blz_value.proofs.Membership.{Has-append_left, Has-append_right, Has-append_cases}
-use Rattle.bloom_ast.specs.declared.program.Program.{Program}
-use Rattle.bloom_ast.specs.ProgramStep.{tables_after_step, outputs_of_step, empty_tables}
-use Rattle.bloom_ast.specs.Step.{Sets, set_at}
-use Rattle.topo_types.specs.Messages.{Message, row, seal, rows_in}
-use Rattle.topo_types.specs.View.{is_order_mode}
+use Rattle.bloom_forms.specs.declared.program.Program.{Program}
+use Rattle.bloom_forms.specs.ProgramStep.{tables_after_step, outputs_of_step, empty_tables}
+use Rattle.bloom_forms.specs.Step.{Sets, set_at}
+use Rattle.topo_forms.specs.Messages.{Message, row, seal, rows_in}
+use Rattle.topo_forms.specs.View.{is_order_mode}
 use Rattle.messages.specs.Messages.{Batch, Entry, is_same_message, all_pairs}
 use Rattle.inbox.specs.Instances.{Instance}
 use Rattle.inbox.specs.Timesteps.{SetOff, is_whole, set_off, each_set_off, timesteps}

@@ -7,12 +7,12 @@ use Rattle.blz_value.specs.Record.{Row}
 use Rattle.blz_value.specs.Sets.{set_of}
 use Rattle.blz_value.proofs.Membership.{Has-append_left, Has-map, Has-from_map, Has-flat_map, Has-from_flat_map}
 use Rattle.blz_value.proofs.RowSets.{same_set_of}
-use Rattle.bloom_ast.specs.declared.program.Program.{Program}
-use Rattle.bloom_ast.specs.Program.{port_columns}
-use Rattle.bloom_ast.specs.ProgramStep.{tables_after_step, empty_tables}
-use Rattle.bloom_ast.specs.Step.{Sets}
-use Rattle.topo_types.specs.View.{is_order_mode}
-use Rattle.topo_types.specs.Messages.{rows_in}
+use Rattle.bloom_forms.specs.declared.program.Program.{Program}
+use Rattle.bloom_forms.specs.Program.{port_columns}
+use Rattle.bloom_forms.specs.ProgramStep.{tables_after_step, empty_tables}
+use Rattle.bloom_forms.specs.Step.{Sets}
+use Rattle.topo_forms.specs.View.{is_order_mode}
+use Rattle.topo_forms.specs.Messages.{rows_in}
 use Rattle.messages.specs.Messages.{Entry}
 use Rattle.inbox.specs.Instances.{Instance}
 use Rattle.inbox.specs.Timesteps.{timestep_of, one_by_one}

@@ -8,7 +8,7 @@ use Rattle.blz_value.specs.Record.{Row}
 use Rattle.blz_value.specs.Sets.{set_of}
 use Rattle.blz_value.proofs.Membership.{Has-map, Has-from_map, Has-filter, Has-from_filter}
 use Rattle.blz_value.proofs.SetLaws.{Has-set_of, Has-from_set_of}
-use Rattle.bloom_ast.specs.Step.{set_at}
+use Rattle.bloom_forms.specs.Step.{set_at}
 use Rattle.messages.specs.Messages.{Entry}
 use Rattle.inbox.specs.Timesteps.{timestep_of, one_timestep, one_by_one, Stands}
 

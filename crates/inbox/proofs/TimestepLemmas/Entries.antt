@@ -3,7 +3,7 @@ use Rattle.std.proofs.Common.{◌≡◌, refl, ap, subst, ℕ, List, Some}
 use Rattle.std.specs.Option.{option_map, unwrap_or}
 use Rattle.blz_value.specs.Members.{Has}
 use Rattle.blz_value.specs.Record.{Row}
-use Rattle.topo_types.specs.Messages.{Message, row, seal, row_in, rows_in}
+use Rattle.topo_forms.specs.Messages.{Message, row, seal, row_in, rows_in}
 use Rattle.messages.specs.Messages.{Pair, Entry}
 use Rattle.inbox.specs.Instances.{Instance, port_of_feed, entry_of, entries_of}
 use Rattle.inbox.proofs.TimestepLemmas.Whole.{Has-filter_map, Has-from_filter_map}

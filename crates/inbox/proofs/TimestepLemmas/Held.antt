@@ -4,11 +4,11 @@ use Rattle.std.specs.List.{list_any}
 use Rattle.std.proofs.lemmas.Bool.{not_from_false}
 use Rattle.blz_value.specs.Members.{Has}
 use Rattle.blz_value.proofs.Membership.{any_from_Has, Has-from_any, Has-filter}
-use Rattle.bloom_ast.specs.Step.{Sets, set_at}
-use Rattle.fd_closure.specs.declared.attrs.Attrs.{Attrs}
-use Rattle.topo_types.specs.declared.mode.Mode.TheVariants.{Seal}
-use Rattle.topo_types.specs.Messages.{is_same_row}
-use Rattle.topo_types.proofs.Regions.Spreading.{same_truth}
+use Rattle.bloom_forms.specs.Step.{Sets, set_at}
+use Rattle.blz_value.specs.declared.attrs.Attrs.{Attrs}
+use Rattle.bloom_forms.specs.declared.mode.Mode.TheVariants.{Seal}
+use Rattle.topo_forms.specs.Messages.{is_same_row}
+use Rattle.topo_forms.proofs.Regions.Spreading.{same_truth}
 use Rattle.messages.specs.Messages.{Batch, Entry, is_same_entry, all_pairs, firsts}
 use Rattle.inbox.specs.Instances.{Instance, entries_of}
 use Rattle.inbox.specs.Timesteps.{is_due, timesteps, is_in_some, held_entries, held_count}

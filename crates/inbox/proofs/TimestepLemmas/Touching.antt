@@ -9,7 +9,7 @@ use Rattle.blz_value.specs.Members.{Has}
 use Rattle.blz_value.specs.Record.{Row}
 use Rattle.blz_value.specs.Sets.{set_of}
 use Rattle.blz_value.proofs.Membership.{any_from_Has, Has-from_any, Has-from_filter}
-use Rattle.topo_types.specs.Messages.{Message, row, seal, is_same_row, row_in}
+use Rattle.topo_forms.specs.Messages.{Message, row, seal, is_same_row, row_in}
 use Rattle.messages.specs.Messages.{Pair, Batch, Entry}
 use Rattle.inbox.specs.Instances.{Instance, port_of_feed, carrying_feeds, entry_of, entries_of, is_of_key}
 use Rattle.inbox.specs.Timesteps.{is_seal_within, from_feed, count_heard_from, is_whole_from, is_some_feed, is_whole}

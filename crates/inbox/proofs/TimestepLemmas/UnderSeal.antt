@@ -7,10 +7,10 @@ use Rattle.std.proofs.lemmas.Grind.{flat_map-append}
 use Rattle.blz_value.specs.Members.{Has}
 use Rattle.blz_value.specs.Record.{Row}
 use Rattle.blz_value.proofs.Membership.{Has-append_left, Has-append_right, Has-append_cases, Has-filter, Has-from_filter, any_from_Has, Has-from_any}
-use Rattle.bloom_ast.specs.Step.{Sets, set_at}
-use Rattle.topo_types.specs.declared.mode.Mode.TheVariants.{Seal}
-use Rattle.fd_closure.specs.declared.attrs.Attrs.{Attrs}
-use Rattle.topo_types.specs.Messages.{is_same_row}
+use Rattle.bloom_forms.specs.Step.{Sets, set_at}
+use Rattle.bloom_forms.specs.declared.mode.Mode.TheVariants.{Seal}
+use Rattle.blz_value.specs.declared.attrs.Attrs.{Attrs}
+use Rattle.topo_forms.specs.Messages.{is_same_row}
 use Rattle.messages.specs.Messages.{Pair, Batch, Entry, is_same_entry, all_pairs, firsts}
 use Rattle.inbox.specs.Instances.{Instance, is_carrying, entries_of, key_of_entry, is_of_key}
 use Rattle.inbox.specs.Timesteps.{is_whole, is_due, is_of_some, newly_whole, released_steps, first_part, second_part, steps_in, set_off, timestep_of, timesteps}

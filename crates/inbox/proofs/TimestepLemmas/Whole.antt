@@ -11,7 +11,7 @@ use Rattle.blz_value.specs.Sets.{set_of}
 use Rattle.blz_value.proofs.Membership.{Has-append_left, Has-map, Has-filter, Has-from_filter, any_from_Has, Has-from_any, all_member, all_from}
 use Rattle.blz_value.proofs.SetLaws.{Has-set_of}
 use Rattle.blz_value.proofs.RowSets.{length-set_of-append_left}
-use Rattle.topo_types.specs.Messages.{Message, row, seal, is_same_row}
+use Rattle.topo_forms.specs.Messages.{Message, row, seal, is_same_row}
 use Rattle.messages.specs.Messages.{Pair, Batch, Entry, key_sealed, sealed_in}
 use Rattle.inbox.specs.Instances.{Instance, carrying_feeds, entries_of, key_of_entry, is_of_key}
 use Rattle.inbox.specs.Timesteps.{is_seal_within, from_feed, count_heard_from, is_whole_from, is_some_feed, is_whole, is_due, sealed_keys, newly_whole}

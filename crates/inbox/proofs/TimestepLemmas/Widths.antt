@@ -4,9 +4,9 @@ use Rattle.std.proofs.lemmas.List.FromFn.{length-map-range_with_len}
 use Rattle.blz_value.specs.Members.{Has}
 use Rattle.blz_value.specs.Record.{Row}
 use Rattle.blz_value.proofs.Membership.{Has-append_cases, Has-from_map, Has-from_flat_map}
-use Rattle.bloom_ast.specs.Step.{Sets}
-use Rattle.topo_types.specs.declared.mode.Mode.{Mode}
-use Rattle.topo_types.specs.declared.mode.Mode.TheVariants.{Free, Pass, Seal, Order}
+use Rattle.bloom_forms.specs.Step.{Sets}
+use Rattle.bloom_forms.specs.declared.mode.Mode.{Mode}
+use Rattle.bloom_forms.specs.declared.mode.Mode.TheVariants.{Free, Pass, Seal, Order}
 use Rattle.messages.specs.Messages.{Pair, Batch, Entry, is_same_entry, firsts}
 use Rattle.inbox.specs.Instances.{Instance, is_carrying, entries_of}
 use Rattle.inbox.specs.Timesteps.{SetOff, timestep_of, one_timestep, one_by_one, released_steps, is_of_some, first_part, second_part, newly_whole, steps_in, each_after, timesteps}

@@ -3,10 +3,10 @@ use Rattle.std.proofs.Common.{◌≡◌, refl, ℕ, List, [], ◌∷◌, codes, 
 use Rattle.std.specs.Prelude.{Result, Ok}
 use Rattle.blz_value.specs.declared.value.Value.{Value}
 use Rattle.blz_value.specs.declared.value.Value.TheVariants.{Text}
-use Rattle.fd_closure.specs.Bits.{bit_of, meets}
-use Rattle.topo_types.specs.declared.mode.Mode.TheVariants.{Free, Seal}
-use Rattle.topo_types.specs.Data.{Data}
-use Rattle.topo_types.specs.Messages.{Message, row}
+use Rattle.blz_value.specs.Bits.{bit_of, meets}
+use Rattle.bloom_forms.specs.declared.mode.Mode.TheVariants.{Free, Seal}
+use Rattle.topo_forms.specs.Data.{Data}
+use Rattle.topo_forms.specs.Messages.{Message, row}
 use Rattle.inbox.specs.Wiring.{Wiring}
 use Rattle.inbox.specs.Executions.{result_and_then, execution_of_events, emitted_list}
 use Rattle.inbox.specs.Completeness.{left_count, held_count_at}

@@ -2,8 +2,8 @@
 use Rattle.std.proofs.Common.{◌≡◌, refl, ℕ, ◌++◌, List, [], ◌∷◌, Some, None}
 use Rattle.std.specs.Prelude.{Result, Ok, Err}
 use Rattle.blz_value.specs.Record.{Row}
-use Rattle.topo_types.specs.declared.mode.Mode.TheVariants.{Order}
-use Rattle.topo_types.specs.Data.{Data}
+use Rattle.bloom_forms.specs.declared.mode.Mode.TheVariants.{Order}
+use Rattle.topo_forms.specs.Data.{Data}
 use Rattle.inbox.specs.Instances.{Instance}
 use Rattle.inbox.specs.Wiring.{Wiring}
 use Rattle.inbox.specs.Executions.{result_and_then, execution_of_events, contents}

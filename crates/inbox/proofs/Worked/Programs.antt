@@ -5,18 +5,18 @@ use Rattle.blz_value.specs.declared.value.Value.{Value}
 use Rattle.blz_value.specs.declared.value.Value.TheVariants.{Int}
 use Rattle.blz_value.specs.declared.test.Op.TheVariants.{Lt}
 use Rattle.blz_value.specs.Record.{Row}
-use Rattle.fd_closure.specs.declared.attrs.Attrs.{Attrs}
-use Rattle.bloom_ast.specs.declared.module.Kind.TheVariants.{Input, Output, Table, Scratch}
-use Rattle.bloom_ast.specs.declared.expr.NamedAgg.TheVariants.{Count}
-use Rattle.bloom_ast.specs.declared.expr.Term.TheVariants.{Column, Literal}
-use Rattle.bloom_ast.specs.declared.program.Program.{Program}
-use Rattle.bloom_ast.specs.declared.program.Program.TheVariants.{Module, Split, Latest, Number}
-use Rattle.bloom_ast.specs.Form.{Form}
-use Rattle.bloom_ast.specs.Query.{Name}
-use Rattle.bloom_ast.specs.Query.Formula.{compare}
-use Rattle.bloom_ast.specs.Query.Query.{base, select, join, group}
-use Rattle.topo_types.specs.Feeds.{Feed}
-use Rattle.topo_types.specs.View.{End, Stream}
+use Rattle.blz_value.specs.declared.attrs.Attrs.{Attrs}
+use Rattle.bloom_forms.specs.declared.module.Kind.TheVariants.{Input, Output, Table, Scratch}
+use Rattle.bloom_forms.specs.declared.expr.NamedAgg.TheVariants.{Count}
+use Rattle.bloom_forms.specs.declared.expr.Term.TheVariants.{Column, Literal}
+use Rattle.bloom_forms.specs.declared.program.Program.{Program}
+use Rattle.bloom_forms.specs.declared.program.Program.TheVariants.{Module, Split, Latest, Number}
+use Rattle.bloom_forms.specs.Form.{Form}
+use Rattle.bloom_forms.specs.Query.{Name}
+use Rattle.bloom_forms.specs.Query.Formula.{compare}
+use Rattle.bloom_forms.specs.Query.Query.{base, select, join, group}
+use Rattle.topo_forms.specs.Feeds.{Feed}
+use Rattle.topo_forms.specs.View.{End, Stream}
 use Rattle.inbox.specs.Instances.{PortKey}
 use Rattle.inbox.specs.Events.{Part, Event, deliver}
 

@@ -2,10 +2,10 @@
 use Rattle.std.proofs.Common.{◌≡◌, refl, ℕ, ◌++◌, map, List, [], ◌∷◌, Option, Some, None, length}
 use Rattle.std.specs.Prelude.{Result, Ok}
 use Rattle.blz_value.specs.Record.{Row}
-use Rattle.topo_types.specs.declared.mode.Mode.{Mode}
-use Rattle.fd_closure.specs.Bits.{bit_of, meets}
-use Rattle.topo_types.specs.declared.mode.Mode.TheVariants.{Free, Seal}
-use Rattle.topo_types.specs.Data.{Data}
+use Rattle.bloom_forms.specs.declared.mode.Mode.{Mode}
+use Rattle.blz_value.specs.Bits.{bit_of, meets}
+use Rattle.bloom_forms.specs.declared.mode.Mode.TheVariants.{Free, Seal}
+use Rattle.topo_forms.specs.Data.{Data}
 use Rattle.inbox.specs.Instances.{PortKey}
 use Rattle.inbox.specs.Wiring.{Wiring}
 use Rattle.inbox.specs.Executions.{Execution, result_and_then, execution_of_events, execution_of, contents, emitted_list}

@@ -1,10 +1,10 @@
 -- The wiring of planned word count is the one over which its worked row is computed.
 use Rattle.std.proofs.Common.{◌≡◌, refl}
-use Rattle.fd_closure.specs.Bits.{bit_of, meets}
-use Rattle.fd_closure.specs.Closure.{within, closure, step}
-use Rattle.topo_types.specs.Carried.{carries, carriers}
-use Rattle.topo_types.specs.Dependencies.{usable_fds}
-use Rattle.topo_types.proofs.Worked.WordCount.{word_count_with, sealed_at}
+use Rattle.blz_value.specs.Bits.{bit_of, meets}
+use Rattle.blz_value.specs.Closure.{within, closure, step}
+use Rattle.topo_forms.specs.Carried.{carries, carriers}
+use Rattle.topo_forms.specs.Dependencies.{usable_fds}
+use Rattle.topo_forms.proofs.Worked.WordCount.{word_count_with, sealed_at}
 use Rattle.inbox.specs.Wiring.{wiring_of}
 use Rattle.inbox.proofs.Worked.Words.{word_count}
 

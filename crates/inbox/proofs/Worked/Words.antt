@@ -4,13 +4,13 @@ use Rattle.std.specs.Prelude.{Result, Ok}
 use Rattle.std.specs.List.{flat_map}
 use Rattle.blz_value.specs.declared.value.Value.{Value}
 use Rattle.blz_value.specs.declared.value.Value.TheVariants.{Text}
-use Rattle.topo_types.specs.declared.mode.Mode.{Mode}
-use Rattle.fd_closure.specs.Bits.{bit_of, meets}
-use Rattle.topo_types.specs.declared.mode.Mode.TheVariants.{Pass, Seal}
-use Rattle.bloom_ast.specs.declared.program.Program.{Program}
-use Rattle.topo_types.specs.Data.{Data}
-use Rattle.topo_types.specs.Messages.{Message, row, seal}
-use Rattle.topo_types.proofs.Worked.WordCount.{word_count_with, sealed_at}
+use Rattle.bloom_forms.specs.declared.mode.Mode.{Mode}
+use Rattle.blz_value.specs.Bits.{bit_of, meets}
+use Rattle.bloom_forms.specs.declared.mode.Mode.TheVariants.{Pass, Seal}
+use Rattle.bloom_forms.specs.declared.program.Program.{Program}
+use Rattle.topo_forms.specs.Data.{Data}
+use Rattle.topo_forms.specs.Messages.{Message, row, seal}
+use Rattle.topo_forms.proofs.Worked.WordCount.{word_count_with, sealed_at}
 use Rattle.inbox.specs.Instances.{Instance}
 use Rattle.inbox.specs.Wiring.{Wiring}
 use Rattle.inbox.specs.Executions.{result_and_then, execution_of_events, emitted_list}

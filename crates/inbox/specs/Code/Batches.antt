@@ -5,14 +5,14 @@ use Rattle.std.specs.BTreeSet.{BTreeSet, contains, insert_key}
 use Rattle.std.specs.Option.{option_map, option_map_or}
 use Rattle.blz_value.specs.Record.{Row as Record, record_cmp}
 use Rattle.blz_value.specs.Members.{Has}
-use Rattle.bloom_ast.specs.Step.{Sets}
-use Rattle.topo_types.specs.Messages.{Message, row, seal}
+use Rattle.bloom_forms.specs.Step.{Sets}
+use Rattle.topo_forms.specs.Messages.{Message, row, seal}
 use Rattle.inbox.specs.Instances.{Instance, entry_of, key_of_entry}
 use Rattle.messages.specs.Messages.{Pair, Batch, Entry}
 use Rattle.messages.specs.Log.{EntryId, entry_with_id, entries_with_ids, is_same_entry_id}
 use Rattle.inbox.specs.Timesteps.{timestep_of, one_by_one}
-use Rattle.partitions.specs.Whole.{feeds_view}
-use Rattle.partitions.specs.Feeds.{FeedsView, port_count, port_in, key_in, carries_in, is_whole_in, is_due_in, HearsRow}
+use Rattle.messages.specs.Whole.{feeds_view}
+use Rattle.messages.specs.Feeds.{FeedsView, port_count, port_in, key_in, carries_in, is_whole_in, is_due_in, HearsRow}
 use Rattle.inbox.specs.Code.Waiting.{KeepsEntry, released_of}
 use Rattle.messages.specs.declared.message.Message.{Message as IdMessage}
 use Rattle.messages.specs.declared.message.Message.TheVariants.{Row, Seal}

@@ -4,15 +4,15 @@ use Rattle.std.specs.List.{list_any}
 use Rattle.blz_value.specs.Members.{Has}
 use Rattle.blz_value.specs.Record.{Row}
 use Rattle.blz_value.specs.Sets.{set_of}
-use Rattle.topo_types.specs.declared.mode.Mode.{Mode}
-use Rattle.topo_types.specs.declared.mode.Mode.TheVariants.{Free, Pass, Seal, Order}
-use Rattle.topo_types.specs.Messages.{is_same_row}
+use Rattle.bloom_forms.specs.declared.mode.Mode.{Mode}
+use Rattle.bloom_forms.specs.declared.mode.Mode.TheVariants.{Free, Pass, Seal, Order}
+use Rattle.topo_forms.specs.Messages.{is_same_row}
 use Rattle.messages.specs.Messages.{Pair, Entry, is_same_entry, firsts}
 use Rattle.inbox.specs.Instances.{Instance, port_of_feed, is_carrying, carrying_feeds, entries_of, key_of_entry, is_of_key}
 use Rattle.inbox.specs.Timesteps.{is_seal_within, from_feed, is_some_feed}
 use Rattle.messages.specs.Log.{EntryId, AreGiven, entry_with_id, entries_with_ids, row_with_id}
-use Rattle.partitions.specs.Counts.{is_met}
-use Rattle.partitions.specs.Feeds.{FeedView, FeedsView, feed_count}
+use Rattle.messages.specs.PartitionCounts.{is_met}
+use Rattle.messages.specs.Feeds.{FeedView, FeedsView, feed_count}
 use Rattle.inbox.specs.Code.Places.{places_of}
 use Rattle.inbox.specs.declared.waiting.Waiting.{Waiting}
 

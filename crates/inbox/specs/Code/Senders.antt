@@ -1,8 +1,8 @@
 -- Which sending replicas of a stream feed an instance.
 use Rattle.std.specs.Prelude.{ℕ, Bool, ◌||◌, List, filter}
-use Rattle.topo_types.specs.Feeds.{are_paired}
-use Rattle.topo_types.specs.Sets.{below}
-use Rattle.topo_types.specs.View.{View, stream_replicas, replicas_of, is_order}
+use Rattle.topo_forms.specs.Feeds.{are_paired}
+use Rattle.blz_value.specs.NumberSets.{below}
+use Rattle.topo_forms.specs.View.{View, stream_replicas, replicas_of, is_order}
 
 -- a sending replica feeds it: into a log each does, else it is paired with it
 abbrev pub is_sender : View → (component replica stream sender : ℕ) → Bool

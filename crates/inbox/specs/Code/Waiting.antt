@@ -5,7 +5,7 @@ use Rattle.std.specs.Option.{option_map_or}
 use Rattle.std.specs.Ordering.{nat_cmp}
 use Rattle.blz_value.specs.Record.{Row}
 use Rattle.blz_value.specs.Sets.{set_by}
-use Rattle.topo_types.specs.Messages.{is_same_row}
+use Rattle.topo_forms.specs.Messages.{is_same_row}
 use Rattle.messages.specs.Log.{EntryId, is_same_entry_id}
 use Rattle.messages.specs.Messages.{with_new}
 use Rattle.inbox.specs.Code.Places.{places_of}

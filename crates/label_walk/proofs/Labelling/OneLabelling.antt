@@ -6,15 +6,15 @@ use Rattle.std.proofs.lemmas.Bool.{true≢false}
 use Rattle.std.proofs.lemmas.List.{ext_get_or}
 use Rattle.blz_value.specs.Members.{Has}
 use Rattle.blz_value.proofs.Membership.{Has-from_any, Has-from_filter, Has-from_map, Has-from_flat_map}
-use Rattle.path_annotate.specs.declared.note.Note.{Note}
-use Rattle.topo_types.specs.declared.mode.Mode.TheVariants.{Free}
-use Rattle.topo_types.specs.Dependencies.{usable_fds}
-use Rattle.topo_types.specs.Graph.{Edge, is_in}
-use Rattle.topo_types.specs.Regions.{edges, region_of, region_set, is_in_cycle}
-use Rattle.topo_types.specs.Valid.{IsValid}
-use Rattle.topo_types.specs.View.{View, End, same_end, goes_to, no_attrs, port_attrs, origin_of, ends_of, mode_of, is_order, is_replicated, note_at, port_numbers, stream_numbers, streams_to}
-use Rattle.topo_types.proofs.Regions.Spreading.{from_below, both_true}
-use Rattle.topo_types.proofs.Regions.Lower.{feeds_edge, none_ordered, lower_outside, lower_into}
+use Rattle.bloom_forms.specs.declared.note.Note.{Note}
+use Rattle.bloom_forms.specs.declared.mode.Mode.TheVariants.{Free}
+use Rattle.topo_forms.specs.Dependencies.{usable_fds}
+use Rattle.blz_value.specs.Graph.{Edge, is_in}
+use Rattle.topo_forms.specs.Regions.{edges, region_of, region_set, is_in_cycle}
+use Rattle.topo_forms.specs.Valid.{IsValid}
+use Rattle.topo_forms.specs.View.{View, End, same_end, goes_to, no_attrs, port_attrs, origin_of, ends_of, mode_of, is_order, is_replicated, note_at, port_numbers, stream_numbers, streams_to}
+use Rattle.topo_forms.proofs.Regions.Spreading.{from_below, both_true}
+use Rattle.topo_forms.proofs.Regions.Lower.{feeds_edge, none_ordered, lower_outside, lower_into}
 use Rattle.label_rules.specs.declared.label.Label.{Label}
 use Rattle.label_rules.specs.declared.label.Label.TheVariants.{Async, Run}
 use Rattle.label_rules.specs.declared.label.PathLabel.{PathLabel}

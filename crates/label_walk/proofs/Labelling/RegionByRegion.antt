@@ -3,20 +3,20 @@ use Rattle.std.proofs.Common.{◌≡◌, ◌≤◌, ◌<◌, ◌+◌, ◌⊎◌,
 use Rattle.std.specs.Option.{option_map_or}
 use Rattle.std.proofs.lemmas.Bool.{or_cases, true≢false}
 use Rattle.std.proofs.lemmas.List.FromFn.{length-map-range_with_len, get_or-map-range_with_len}
-use Rattle.fd_closure.specs.declared.attrs.Fd.{Fd}
-use Rattle.fd_closure.specs.Bits.{bit_of}
-use Rattle.fd_closure.specs.Closure.{within, IsClosed, IsLeastClosed}
-use Rattle.fd_closure.proofs.Members.{in-or, in-empty, in-within, meets-within, within-meets}
-use Rattle.fd_closure.proofs.Least.{closure-least}
+use Rattle.blz_value.specs.declared.attrs.Fd.{Fd}
+use Rattle.blz_value.specs.Bits.{bit_of}
+use Rattle.blz_value.specs.Closure.{within, IsClosed, IsLeastClosed}
+use Rattle.blz_value.proofs.Members.{in-or, in-empty, in-within, meets-within, within-meets}
+use Rattle.blz_value.proofs.Least.{closure-least}
 use Rattle.blz_value.specs.Members.{Has}
 use Rattle.blz_value.proofs.Membership.{Has-from_map}
-use Rattle.topo_types.specs.Graph.{Edge, arrow, arrows, is_in, up, together, SomeHas, AreRegions, InOrder, numbered_regions}
-use Rattle.topo_types.specs.Regions.{edges, region_of, region_set, regions}
-use Rattle.topo_types.specs.Valid.{IsValid}
-use Rattle.topo_types.specs.View.{View, End, origin_of}
-use Rattle.topo_types.proofs.Regions.Classes.{together-up, region-is}
-use Rattle.topo_types.proofs.Regions.Lower.{given, one_place, lower_outside}
-use Rattle.topo_types.proofs.Regions.RegionOrder.{edge_within}
+use Rattle.blz_value.specs.Graph.{Edge, arrow, arrows, is_in, up, together, SomeHas, AreRegions, InOrder, numbered_regions}
+use Rattle.topo_forms.specs.Regions.{edges, region_of, region_set, regions}
+use Rattle.topo_forms.specs.Valid.{IsValid}
+use Rattle.topo_forms.specs.View.{View, End, origin_of}
+use Rattle.topo_forms.proofs.Regions.Classes.{together-up, region-is}
+use Rattle.topo_forms.proofs.Regions.Lower.{given, one_place, lower_outside}
+use Rattle.topo_forms.proofs.Regions.RegionOrder.{edge_within}
 use Rattle.label_rules.specs.declared.label.Label.{Label}
 use Rattle.label_rules.specs.declared.label.Label.TheVariants.{Async}
 use Rattle.label_walk.specs.Paths.{label_at}

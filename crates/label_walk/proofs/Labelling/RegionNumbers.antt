@@ -3,12 +3,12 @@ use Rattle.std.proofs.Common.{◌≡◌, ◌<◌, ◌+◌, inl, inr, ℕ, suc, t
 use Rattle.std.specs.List.{position_or_len}
 use Rattle.std.proofs.lemmas.Bool.{cases_Bool, true≢false}
 use Rattle.blz_value.proofs.Membership.{Has-get_or}
-use Rattle.topo_types.specs.Graph.{is_in, is_cyclic_set, SomeHas}
-use Rattle.topo_types.specs.Regions.{edges, region_of, region_set, regions, is_cyclic, is_in_cycle}
-use Rattle.topo_types.specs.Valid.{IsValid}
-use Rattle.topo_types.specs.View.{View}
-use Rattle.topo_types.proofs.Regions.Lower.{given}
-use Rattle.topo_types.proofs.Regions.RegionSets.{region_of_member}
+use Rattle.blz_value.specs.Graph.{is_in, is_cyclic_set, SomeHas}
+use Rattle.topo_forms.specs.Regions.{edges, region_of, region_set, regions, is_cyclic, is_in_cycle}
+use Rattle.topo_forms.specs.Valid.{IsValid}
+use Rattle.topo_forms.specs.View.{View}
+use Rattle.topo_forms.proofs.Regions.Lower.{given}
+use Rattle.topo_forms.proofs.Regions.RegionSets.{region_of_member}
 use Rattle.label_walk.specs.Paths.{IsCycleOf, region_at}
 
 -- the first set that has a number is among the sets, and has it

@@ -3,15 +3,15 @@ use Rattle.std.proofs.Common.{◌≡◌, ◌<◌, ℕ, Bool, true, false, if◌t
 use Rattle.std.specs.Option.{option_map_or}
 use Rattle.std.proofs.lemmas.Bool.{true≢false}
 use Rattle.blz_value.proofs.Membership.{Has-get_or}
-use Rattle.fd_closure.specs.declared.attrs.Fd.{Fd}
-use Rattle.topo_types.specs.declared.mode.Mode.{Mode}
-use Rattle.topo_types.specs.Dependencies.{usable_fds}
-use Rattle.topo_types.specs.Graph.{is_in, is_cyclic_set}
-use Rattle.topo_types.specs.Regions.{edges, region_set, regions, is_in_cycle, is_cyclic}
-use Rattle.topo_types.specs.Valid.{IsValid}
-use Rattle.topo_types.specs.View.{View, End, origin_of, mode_of, is_order, is_replicated, stream_numbers}
-use Rattle.topo_types.proofs.Regions.OrderAlone.{order_acyclic}
-use Rattle.topo_types.proofs.Regions.Spreading.{from_below}
+use Rattle.blz_value.specs.declared.attrs.Fd.{Fd}
+use Rattle.bloom_forms.specs.declared.mode.Mode.{Mode}
+use Rattle.topo_forms.specs.Dependencies.{usable_fds}
+use Rattle.blz_value.specs.Graph.{is_in, is_cyclic_set}
+use Rattle.topo_forms.specs.Regions.{edges, region_set, regions, is_in_cycle, is_cyclic}
+use Rattle.topo_forms.specs.Valid.{IsValid}
+use Rattle.topo_forms.specs.View.{View, End, origin_of, mode_of, is_order, is_replicated, stream_numbers}
+use Rattle.topo_forms.proofs.Regions.OrderAlone.{order_acyclic}
+use Rattle.topo_forms.proofs.Regions.Spreading.{from_below}
 use Rattle.label_rules.specs.declared.label.Label.{Label}
 use Rattle.label_rules.specs.declared.label.Label.TheVariants.{Run}
 use Rattle.label_rules.specs.declared.label.PathLabel.{PathLabel}
@@ -21,7 +21,7 @@ use Rattle.label_walk.specs.Labels.{AreLabels, as_carried, first_labels, labels_
 use Rattle.label_walk.specs.Code.Remade.{cycle_label, alone_label, member_label, remade_label, remade_labels}
 use Rattle.label_walk.proofs.Upstream.ListsAlike.{map_alike}
 use Rattle.label_walk.proofs.Labelling.RegionByRegion.{are_labels}
-use Rattle.topo_types.proofs.Regions.RegionSets.{region_of_member}
+use Rattle.topo_forms.proofs.Regions.RegionSets.{region_of_member}
 
 module _ (v : View) (valid : IsValid v) (labels : List Label) (r : ℕ) (lt : r < length (regions v)) where
   abbrev set : ℕ

@@ -1,12 +1,13 @@
 -- A source carries the key that it declares.
 use Rattle.std.proofs.Common.{◌≡◌, ◌<◌, ℕ, Bool, true, nat_eq, if◌then◌else◌, Option, None, Some, length, refl, arith, rules, ap, ◌∙◌}
 use Rattle.std.specs.Option.{option_and_then}
-use Rattle.fd_closure.specs.declared.attrs.Attrs.{Attrs}
-use Rattle.topo_types.specs.Carried.{is_key, key_before, carries, carries_key}
-use Rattle.topo_types.specs.Laws.{carries_next}
-use Rattle.topo_types.specs.Valid.{IsValid}
-use Rattle.topo_types.specs.View.{View, End, origin_of, stream_at}
-use Rattle.topo_types.proofs.Found.OneLevel.{carries_law}
+use Rattle.blz_value.specs.declared.attrs.Attrs.{Attrs}
+use Rattle.topo_forms.specs.Carried.{key_before, carries, carries_key}
+use Rattle.blz_value.specs.Arrows.{is_key}
+use Rattle.topo_forms.specs.Laws.{carries_next}
+use Rattle.topo_forms.specs.Valid.{IsValid}
+use Rattle.topo_forms.specs.View.{View, End, origin_of, stream_at}
+use Rattle.topo_forms.proofs.Found.OneLevel.{carries_law}
 
 pub source_carries : (v : View) → IsValid v → (s : ℕ) → s < length v.streams → origin_of v s ≡ None → carries v s ≡ (stream_at v s).key
 unfolding carries

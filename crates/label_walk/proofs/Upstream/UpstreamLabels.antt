@@ -3,19 +3,20 @@ use Rattle.std.proofs.Common.{◌≡◌, ◌<◌, ℕ, suc, nat_lt, Bool, true, 
 use Rattle.std.specs.List.{flat_map, filter_map}
 use Rattle.blz_value.specs.Members.{Has}
 use Rattle.blz_value.proofs.Membership.{Has-from_filter}
-use Rattle.fd_closure.specs.declared.attrs.Attrs.{Attrs}
-use Rattle.fd_closure.specs.Bits.{bit_of, meets, members}
-use Rattle.path_annotate.specs.declared.note.Note.{Note}
-use Rattle.path_annotate.specs.declared.note.Note.TheVariants.{CR}
-use Rattle.path_annotate.specs.Note.{combine}
-use Rattle.topo_types.specs.declared.mode.Mode.TheVariants.{Free}
-use Rattle.topo_types.specs.Carried.{is_key, carries}
-use Rattle.topo_types.specs.Dependencies.{usable_fds}
-use Rattle.topo_types.specs.Graph.{is_in}
-use Rattle.topo_types.specs.Regions.{region_of, region_set}
-use Rattle.topo_types.specs.Sets.{below, set_of_numbers}
-use Rattle.topo_types.specs.View.{View, End, Component, no_port, no_attrs, origin_of, is_order, is_order_mode, is_replicated, mode_of, note_at, port_numbers, streams_to}
-use Rattle.topo_types.proofs.Regions.Lower.{lower_outside, lower_into}
+use Rattle.blz_value.specs.declared.attrs.Attrs.{Attrs}
+use Rattle.blz_value.specs.Bits.{bit_of, meets, members}
+use Rattle.bloom_forms.specs.declared.note.Note.{Note}
+use Rattle.bloom_forms.specs.declared.note.Note.TheVariants.{CR}
+use Rattle.bloom_forms.specs.Note.{combine}
+use Rattle.bloom_forms.specs.declared.mode.Mode.TheVariants.{Free}
+use Rattle.topo_forms.specs.Carried.{carries}
+use Rattle.blz_value.specs.Arrows.{is_key}
+use Rattle.topo_forms.specs.Dependencies.{usable_fds}
+use Rattle.blz_value.specs.Graph.{is_in}
+use Rattle.topo_forms.specs.Regions.{region_of, region_set}
+use Rattle.blz_value.specs.NumberSets.{below, set_of_numbers}
+use Rattle.topo_forms.specs.View.{View, End, Component, no_port, no_attrs, origin_of, is_order, is_order_mode, is_replicated, mode_of, note_at, port_numbers, streams_to}
+use Rattle.topo_forms.proofs.Regions.Lower.{lower_outside, lower_into}
 use Rattle.label_rules.specs.declared.label.Label.{Label}
 use Rattle.label_rules.specs.declared.label.Label.TheVariants.{Seal, Async, Run, Inst, Diverge}
 use Rattle.label_rules.specs.PathTable.{pass_path}

@@ -1,10 +1,10 @@
 -- What is upstream decides: the laws.
 use Rattle.std.proofs.Common.{◌≡◌, ◌<◌, ℕ, zero, suc, ◌∷◌, [], get_or, arith, true, Some, List, length, arith, sym, subst}
-use Rattle.topo_types.specs.Dependencies.{upholds, usable_fds}
-use Rattle.topo_types.specs.Carried.{carries}
-use Rattle.topo_types.specs.Graph.{is_in}
-use Rattle.topo_types.specs.Valid.{IsValid}
-use Rattle.topo_types.specs.View.{View, End, Stream, no_stream}
+use Rattle.topo_forms.specs.Dependencies.{upholds, usable_fds}
+use Rattle.topo_forms.specs.Carried.{carries}
+use Rattle.blz_value.specs.Graph.{is_in}
+use Rattle.topo_forms.specs.Valid.{IsValid}
+use Rattle.topo_forms.specs.View.{View, End, Stream, no_stream}
 use Rattle.label_walk.specs.LabelLaws.{DifferInModes, LabelsLookUpstream}
 use Rattle.label_walk.specs.Upstream.{AgreeUpstream, IsSameRegion, RegionsLookUpstream, UsableLooksUpstream, UpheldLooksUpstream, CarriedLooksUpstream, LabelLooksUpstream}
 use Rattle.label_walk.proofs.Upstream.Alike.{holding, Alike, edge_kept}

@@ -4,21 +4,21 @@ use Rattle.std.specs.List.{list_any}
 use Rattle.std.proofs.lemmas.Bool.{eqb-true}
 use Rattle.blz_value.specs.Members.{Has}
 use Rattle.blz_value.proofs.Membership.{Has-from_map, Has-from_any, any_from_Has}
-use Rattle.fd_closure.specs.declared.attrs.Fd.{Fd}
-use Rattle.fd_closure.specs.Bits.{bit_of, members}
-use Rattle.fd_closure.specs.Closure.{within, IsClosed, IsLeastClosed}
-use Rattle.fd_closure.proofs.Within.{within-antisym}
-use Rattle.fd_closure.proofs.Members.{in-within, meets-within, within-meets, member_small}
-use Rattle.fd_closure.proofs.Least.{closure-least}
-use Rattle.fd_closure.proofs.Reached.{closed-map}
-use Rattle.bloom_ast.proofs.Collections.Chosen.{from_chosen}
-use Rattle.topo_types.specs.Graph.{Edge, arrow, arrows, is_in, up, together, region, is_cyclic_set}
-use Rattle.topo_types.specs.Regions.{edges, region_set, is_in_cycle}
-use Rattle.topo_types.specs.Sets.{below, set_where}
-use Rattle.topo_types.specs.View.{View, Component}
-use Rattle.topo_types.proofs.Regions.Classes.{together-up}
-use Rattle.topo_types.proofs.Regions.RegionOrder.{edge_within, where_same}
-use Rattle.topo_types.proofs.Regions.Spreading.{both_true, same_truth, from_below}
+use Rattle.blz_value.specs.declared.attrs.Fd.{Fd}
+use Rattle.blz_value.specs.Bits.{bit_of, members}
+use Rattle.blz_value.specs.Closure.{within, IsClosed, IsLeastClosed}
+use Rattle.blz_value.proofs.Within.{within-antisym}
+use Rattle.blz_value.proofs.Members.{in-within, meets-within, within-meets, member_small}
+use Rattle.blz_value.proofs.Least.{closure-least}
+use Rattle.blz_value.proofs.Reached.{closed-map}
+use Rattle.bloom_forms.proofs.Collections.Chosen.{from_chosen}
+use Rattle.blz_value.specs.Graph.{Edge, arrow, arrows, is_in, up, together, region, is_cyclic_set}
+use Rattle.topo_forms.specs.Regions.{edges, region_set, is_in_cycle}
+use Rattle.blz_value.specs.NumberSets.{below, set_where}
+use Rattle.topo_forms.specs.View.{View, Component}
+use Rattle.topo_forms.proofs.Regions.Classes.{together-up}
+use Rattle.topo_forms.proofs.Regions.RegionOrder.{edge_within, where_same}
+use Rattle.topo_forms.proofs.Regions.Spreading.{both_true, same_truth, from_below}
 use Rattle.label_walk.proofs.Upstream.Alike.{holding, Alike, swapped, same_length, edge_kept}
 use Rattle.label_walk.proofs.Tests.{and_false}
 

@@ -3,23 +3,24 @@ use Rattle.std.proofs.Common.{◌≡◌, ◌<◌, ℕ, zero, suc, not, nat_eq, n
 use Rattle.std.specs.List.{list_all, flat_map}
 use Rattle.std.specs.Option.{option_map_or, option_and_then}
 use Rattle.std.proofs.lemmas.Bool.{true≢false, false_from_ne_true, eqb-true}
-use Rattle.fd_closure.specs.declared.attrs.Attrs.{Attrs}
-use Rattle.fd_closure.specs.declared.attrs.Fd.{Fd}
-use Rattle.fd_closure.specs.Closure.{within, closure}
+use Rattle.blz_value.specs.declared.attrs.Attrs.{Attrs}
+use Rattle.blz_value.specs.declared.attrs.Fd.{Fd}
+use Rattle.blz_value.specs.Closure.{within, closure}
 use Rattle.blz_value.specs.Members.{Has}
 use Rattle.blz_value.proofs.Membership.{Has-filter, Has-from_filter, Has-from_any, Has-from_flat_map, any_from_Has}
-use Rattle.topo_types.specs.declared.mode.Mode.{Mode}
-use Rattle.topo_types.specs.declared.mode.Mode.TheVariants as mode
-use Rattle.topo_types.specs.Carried.{is_key, is_confluent, is_confluent_output, allows_notes, may_carry, streams_towards, carries_key, key_before, carries}
-use Rattle.topo_types.specs.Dependencies.{upholds_alone, hands_on, upholds, is_usable, has_to_with_from, usable_fds}
-use Rattle.topo_types.specs.Graph.{Edge, is_in}
-use Rattle.topo_types.specs.Laws.{upholds_next, carries_next}
-use Rattle.topo_types.specs.Regions.{edges, region_of, is_in_cycle}
-use Rattle.topo_types.specs.Sets.{below}
-use Rattle.topo_types.specs.View.{View, End, Component, no_output, stream_at, component_at, same_end, goes_to, goes_into, origin_of, ends_of, mode_of, mode_key, is_order, is_order_mode, has_body, has_stream, own_attrs, ports_towards, stream_numbers, streams_to, streams_into}
-use Rattle.topo_types.proofs.Found.OneLevel.{upholds_law, carries_law}
-use Rattle.topo_types.proofs.Regions.Lower.{feeds_edge, lower_outside}
-use Rattle.topo_types.proofs.Regions.Spreading.{both_true, from_below}
+use Rattle.bloom_forms.specs.declared.mode.Mode.{Mode}
+use Rattle.bloom_forms.specs.declared.mode.Mode.TheVariants as mode
+use Rattle.topo_forms.specs.Carried.{is_confluent, is_confluent_output, allows_notes, may_carry, streams_towards, carries_key, key_before, carries}
+use Rattle.blz_value.specs.Arrows.{is_key}
+use Rattle.topo_forms.specs.Dependencies.{upholds_alone, hands_on, upholds, is_usable, has_to_with_from, usable_fds}
+use Rattle.blz_value.specs.Graph.{Edge, is_in}
+use Rattle.topo_forms.specs.Laws.{upholds_next, carries_next}
+use Rattle.topo_forms.specs.Regions.{edges, region_of, is_in_cycle}
+use Rattle.blz_value.specs.NumberSets.{below}
+use Rattle.topo_forms.specs.View.{View, End, Component, no_output, stream_at, component_at, same_end, goes_to, goes_into, origin_of, ends_of, mode_of, mode_key, is_order, is_order_mode, has_body, has_stream, own_attrs, ports_towards, stream_numbers, streams_to, streams_into}
+use Rattle.topo_forms.proofs.Found.OneLevel.{upholds_law, carries_law}
+use Rattle.topo_forms.proofs.Regions.Lower.{feeds_edge, lower_outside}
+use Rattle.topo_forms.proofs.Regions.Spreading.{both_true, from_below}
 use Rattle.label_walk.proofs.Upstream.Alike.{holding, Alike, same_component}
 use Rattle.label_walk.proofs.Upstream.ListsAlike.{all_alike, filter_alike}
 use Rattle.label_walk.proofs.Upstream.UpstreamRegions.{cycle_same}

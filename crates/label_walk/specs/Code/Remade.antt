@@ -1,8 +1,8 @@
 -- The labels with those of one region made anew.
 use Rattle.std.specs.Prelude.{ℕ, if◌then◌else◌, List, map, Option, None, Some}
-use Rattle.topo_types.specs.Graph.{is_in}
-use Rattle.topo_types.specs.Regions.{is_cyclic}
-use Rattle.topo_types.specs.View.{View, End, origin_of, is_order, stream_numbers}
+use Rattle.blz_value.specs.Graph.{is_in}
+use Rattle.topo_forms.specs.Regions.{is_cyclic}
+use Rattle.topo_forms.specs.View.{View, End, origin_of, is_order, stream_numbers}
 use Rattle.label_rules.specs.declared.label.Label.{Label}
 use Rattle.label_rules.specs.declared.label.Label.TheVariants.{Run}
 use Rattle.label_walk.specs.Paths.{label_at, region_at}

@@ -1,7 +1,7 @@
 -- Flags of the shells of a bench, and what is asked of a list of components.
 use Rattle.std.specs.Prelude.{ℕ, ◌&&◌, ◌<◌, Bool, true, false, if◌then◌else◌, IsSome, List, [], ◌∷◌, length}
 use Rattle.blz_value.specs.Members.{Has}
-use Rattle.topo_types.specs.View.{View, program_of}
+use Rattle.topo_forms.specs.View.{View, program_of}
 
 -- the members whose flag is set
 abbrev pub flagged : {X : Type 0} → List Bool → List X → List X

@@ -2,21 +2,21 @@
 use Rattle.std.specs.Prelude.{◌≡◌, ◌<◌, ◌≤◌, ◌&&◌, ℕ, nat_lt, not, Bool, true, false, Some, List, length, slice_get}
 use Rattle.std.specs.List.{list_any}
 use Rattle.std.specs.Option.{option_map_or, option_and_then}
-use Rattle.topo_types.specs.Data.{Data}
-use Rattle.topo_types.specs.Feeds.{Feed}
-use Rattle.topo_types.specs.View.{View, component_at, replicas_of, stream_replicas, is_order}
+use Rattle.topo_forms.specs.Data.{Data}
+use Rattle.topo_forms.specs.Feeds.{Feed}
+use Rattle.topo_forms.specs.View.{View, component_at, replicas_of, stream_replicas, is_order}
 use Rattle.inbox.specs.Events.{Step}
-use Rattle.inbox.specs.Log.{EntryId, is_same_entry_id}
+use Rattle.messages.specs.Log.{EntryId, is_same_entry_id}
 use Rattle.inbox.specs.Wiring.{wiring_of, feeds_for}
 use Rattle.messages.specs.declared.message.Message.{Message as IdMessage}
 use Rattle.sched_turns.specs.Windows.{Looked, IsWindow, MayShow, OthersAreOpen}
 use Rattle.sched_turns.specs.declared.windows.Stale.{Stale}
-use Rattle.emitted.specs.Ids.{id_in}
+use Rattle.messages.specs.EmittedIds.{id_in}
 use Rattle.messages.specs.Known.{is_known}
 use Rattle.sched_run.specs.Made.{is_open_in, lane_list, can_take}
-use Rattle.sched_hear.specs.Net.{BooksStand, execution_in}
-use Rattle.sched_run.specs.Reading.{IsRead}
-use Rattle.sched_hear.specs.declared.books.Books.{Books}
+use Rattle.sched_net.specs.Net.{BooksStand, execution_in}
+use Rattle.sched_net.specs.Reading.{IsRead}
+use Rattle.sched_net.specs.declared.books.Books.{Books}
 use Rattle.sched_run.specs.declared.lanes.Lane.{Lane}
 use Rattle.sched_run.specs.declared.lanes.Lane.TheVariants.{Deliver, Order}
 use Rattle.sched_run.specs.declared.lanes.Taker.{Taker}

@@ -1,23 +1,23 @@
 -- A schedule that is being made: what the net went through, and what an event and a turn make of it.
 use Rattle.std.specs.Prelude.{◌≡◌, ◌≤◌, ◌<◌, ◌++◌, ◌∷◌, ℕ, suc, Option, None, Some, Result, Ok, Err, List, [], length, map}
 use Rattle.blz_value.specs.Members.{Has}
-use Rattle.bloom_ast.specs.declared.program.Program.{Program}
-use Rattle.bloom_ast.specs.Step.{Sets}
-use Rattle.topo_types.specs.Data.{Data}
-use Rattle.topo_types.specs.View.{View}
+use Rattle.bloom_forms.specs.declared.program.Program.{Program}
+use Rattle.bloom_forms.specs.Step.{Sets}
+use Rattle.topo_forms.specs.Data.{Data}
+use Rattle.topo_forms.specs.View.{View}
 use Rattle.inbox.specs.Events.{Event, event}
 use Rattle.inbox.specs.Executions.{Execution, after_event}
 use Rattle.inbox.specs.Growth.{Continues}
 use Rattle.inbox.specs.Wiring.{Wiring, wiring_of}
-use Rattle.sched_lists.specs.Limits.{Limit, too_many_rows, too_many_messages, limit_of_event}
+use Rattle.inbox.specs.Limits.{Limit, too_many_rows, too_many_messages, limit_of_event}
 use Rattle.sched_run.specs.Made.{event_limit, after_turns, limit_at_place, made_of, open_works, execution_after, AnswersSo}
 use Rattle.sched_run.specs.Naming.{CanBeWritten}
-use Rattle.sched_hear.specs.Net.{Stands, execution_in}
+use Rattle.sched_net.specs.Net.{Stands, execution_in}
 use Rattle.sched_run.specs.Code.Watch.{IsWatched}
 use Rattle.sched_run.specs.Code.Works.{AreWorksOf, AreShown}
-use Rattle.sched_hear.specs.declared.books.Books.{Books}
-use Rattle.emitted.specs.declared.fault.EventFault.{EventFault}
-use Rattle.emitted.specs.declared.fault.EventFault.TheVariants as event_fault
+use Rattle.sched_net.specs.declared.books.Books.{Books}
+use Rattle.messages.specs.declared.fault.EventFault.{EventFault}
+use Rattle.messages.specs.declared.fault.EventFault.TheVariants as event_fault
 use Rattle.sched_run.specs.declared.fault.MakeFault.{MakeFault}
 use Rattle.sched_run.specs.declared.fault.MakeFault.TheVariants.{TooManyEvents, TooManyRows, TooManyMessages, NoMemory}
 use Rattle.sched_run.specs.declared.making.Making.{Making}

@@ -1,6 +1,6 @@
 -- What a work makes stale on a lane: of the indexes that were open there, those that may not be open any more.
 use Rattle.std.specs.Prelude.{ℕ, ◌==◌, ◌&&◌, Bool, if◌then◌else◌}
-use Rattle.topo_types.specs.Feeds.{Feed}
+use Rattle.topo_forms.specs.Feeds.{Feed}
 use Rattle.sched_turns.specs.declared.windows.Stale.{Stale}
 use Rattle.sched_turns.specs.declared.windows.Stale.TheVariants.{Nothing, Place, Everything}
 use Rattle.sched_run.specs.declared.lanes.Lane.{Lane}

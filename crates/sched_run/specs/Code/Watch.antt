@@ -1,13 +1,13 @@
 -- Where a work may change what is open: at its own place, where what its instance sends comes in, and at its log.
 use Rattle.std.specs.Prelude.{◌≡◌, ◌<◌, ◌+◌, ◌==◌, ◌&&◌, ◌||◌, ℕ, Bool, false, Option, None, Some, List, [], length, slice_get, slice_index_or}
 use Rattle.blz_value.specs.Members.{Has}
-use Rattle.topo_types.specs.Data.{Data}
-use Rattle.topo_types.specs.Feeds.{Feed}
-use Rattle.topo_types.specs.View.{View, End, origin_of}
+use Rattle.topo_forms.specs.Data.{Data}
+use Rattle.topo_forms.specs.Feeds.{Feed}
+use Rattle.topo_forms.specs.View.{View, End, origin_of}
 use Rattle.inbox.specs.Events.{Step}
-use Rattle.sched_lists.specs.Places.{instance_place, instance_count}
-use Rattle.sched_hear.specs.Net.{BooksStand, execution_in}
-use Rattle.sched_hear.specs.declared.books.Books.{Books}
+use Rattle.inbox.specs.Places.{instance_place, instance_count}
+use Rattle.sched_net.specs.Net.{BooksStand, execution_in}
+use Rattle.sched_net.specs.declared.books.Books.{Books}
 use Rattle.sched_run.specs.Made.{lane_feed}
 use Rattle.sched_run.specs.Code.Looking.{LooksAt}
 use Rattle.sched_run.specs.Code.Stale.{is_same_feed}

@@ -2,17 +2,17 @@
 use Rattle.std.specs.Prelude.{◌≡◌, ◌≢◌, ◌<◌, ◌≤◌, ◌+◌, ◌^◌, ◌++◌, ℕ, Bool, true, false, if◌then◌else◌, Some, List, [], map, length, slice_get, slice_index_or, slice_set}
 use Rattle.std.specs.List.{All}
 use Rattle.blz_value.specs.Members.{Has}
-use Rattle.topo_types.specs.Data.{Data}
-use Rattle.topo_types.specs.View.{View}
+use Rattle.topo_forms.specs.Data.{Data}
+use Rattle.topo_forms.specs.View.{View}
 use Rattle.inbox.specs.Events.{Event, Step, take_one}
 use Rattle.inbox.specs.Executions.{Execution}
 use Rattle.inbox.specs.Wiring.{Wiring, wiring_of}
 use Rattle.sched_turns.specs.Windows.{Looked, IsWindow}
 use Rattle.sched_run.specs.Made.{event_in, is_open_in, lane_list, all_lanes, all_takers, can_take, open_works}
-use Rattle.sched_hear.specs.Net.{BooksStand, execution_in}
+use Rattle.sched_net.specs.Net.{BooksStand, execution_in}
 use Rattle.sched_run.specs.Code.Looking.{IsLane, IsTaker, MayLook, LooksAt}
 use Rattle.sched_run.specs.Code.Stale.{stale_on}
-use Rattle.sched_hear.specs.declared.books.Books.{Books}
+use Rattle.sched_net.specs.declared.books.Books.{Books}
 use Rattle.sched_run.specs.declared.lanes.Lane.{Lane}
 use Rattle.sched_run.specs.declared.lanes.Taker.{Taker}
 use Rattle.sched_run.specs.declared.works.Work.{Work}

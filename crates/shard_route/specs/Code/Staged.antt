@@ -1,13 +1,13 @@
 -- What private functions are given and give on the way to the answer.
 use Rattle.std.specs.Prelude.{◌≡◌, None, Some, Result, Ok, Err, List, length}
 use Rattle.std.specs.List.{filter_map}
-use Rattle.bloom_ast.specs.Form.{Accepted}
-use Rattle.topo_types.specs.declared.topology.Topology.{Topology}
-use Rattle.topo_types.specs.Allowed.{IsAllowed}
-use Rattle.topo_types.specs.Valid.{needs_module}
-use Rattle.topo_types.specs.Validity.{fault_of}
-use Rattle.shard_copies.specs.declared.fault.ShardFault.{ShardFault}
-use Rattle.shard_copies.specs.declared.fault.ShardFault.TheVariants as fault
+use Rattle.bloom_forms.specs.Form.{Accepted}
+use Rattle.topo_forms.specs.declared.topology.Topology.{Topology}
+use Rattle.topo_forms.specs.Allowed.{IsAllowed}
+use Rattle.topo_forms.specs.Valid.{needs_module}
+use Rattle.topo_forms.specs.Validity.{fault_of}
+use Rattle.shard_route.specs.declared.fault.ShardFault.{ShardFault}
+use Rattle.shard_route.specs.declared.fault.ShardFault.TheVariants as fault
 
 -- a topology with as many modules as components with one
 pub record IsGiven (t : Topology) (modules : List Accepted) : Type 0 where

@@ -1,8 +1,8 @@
 -- The components that feed each, over the streams that count.
 use Rattle.std.specs.Prelude.{ℕ, ◌&&◌, not, is_some, Bool, List, map}
 use Rattle.std.specs.Option.{option_map_or}
-use Rattle.bloom_ast.specs.Reads.{with_all, bit_if}
-use Rattle.topo_types.specs.View.{View, origin_of, is_order, goes_into, stream_numbers, component_numbers}
+use Rattle.blz_value.specs.Arrows.{with_all, bit_if}
+use Rattle.topo_forms.specs.View.{View, origin_of, is_order, goes_into, stream_numbers, component_numbers}
 
 -- a stream of an output that goes into a component which isn't Order
 abbrev pub counts_into : View → (component stream : ℕ) → Bool

@@ -1,14 +1,14 @@
 -- Streams as dependencies look at them, and what is found of them.
 use Rattle.std.specs.Prelude.{ℕ, ◌&&◌, ◌||◌, not, Bool, true, false, Option, None, Some, List, map, slice_index_or, bit_or}
 use Rattle.std.specs.List.{enumerate_from}
-use Rattle.fd_closure.specs.declared.attrs.Fd.{Fd}
-use Rattle.fd_closure.specs.Closure.{within, closure}
-use Rattle.bloom_ast.specs.Reads.{arrow_from, with_all, bit_if}
+use Rattle.blz_value.specs.declared.attrs.Fd.{Fd}
+use Rattle.blz_value.specs.Closure.{within, closure}
+use Rattle.blz_value.specs.Arrows.{arrow_from, with_all, bit_if}
 use Rattle.topo_graph.specs.declared.lines.Line.{Line}
-use Rattle.topo_types.specs.Data.{has_both}
-use Rattle.topo_types.specs.Graph.{is_in}
-use Rattle.topo_types.specs.Sets.{set_of_numbers}
-use Rattle.topo_types.specs.View.{View, End, origin_of, is_order, has_body, output_at, own_attrs, stream_attrs, streams_into, stream_numbers, component_numbers}
+use Rattle.topo_forms.specs.Data.{has_both}
+use Rattle.blz_value.specs.Graph.{is_in}
+use Rattle.blz_value.specs.NumberSets.{set_of_numbers}
+use Rattle.topo_forms.specs.View.{View, End, origin_of, is_order, has_body, output_at, own_attrs, stream_attrs, streams_into, stream_numbers, component_numbers}
 
 -- the streams into a component
 abbrev pub into_set : View → (component : ℕ) → ℕ

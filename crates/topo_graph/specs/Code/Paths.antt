@@ -1,15 +1,15 @@
 -- Streams as carried seals look at them.
 use Rattle.std.specs.Prelude.{ℕ, ◌==◌, nat_lt, not, Bool, false, Option, None, Some, List, map, filter, length}
 use Rattle.std.specs.List.{list_all, zip}
-use Rattle.fd_closure.specs.declared.attrs.Attrs.{Attrs}
-use Rattle.fd_closure.specs.declared.attrs.Fd.{Fd}
-use Rattle.fd_closure.specs.Closure.{closure}
-use Rattle.bloom_ast.specs.Reads.{with_all}
-use Rattle.topo_reach.specs.declared.carried.Path.{Path}
+use Rattle.blz_value.specs.declared.attrs.Attrs.{Attrs}
+use Rattle.blz_value.specs.declared.attrs.Fd.{Fd}
+use Rattle.blz_value.specs.Closure.{closure}
+use Rattle.blz_value.specs.Arrows.{with_all}
+use Rattle.blz_value.specs.declared.carried.Path.{Path}
 use Rattle.topo_graph.specs.Code.Ports.{at_port}
-use Rattle.topo_types.specs.Carried.{allows_notes}
-use Rattle.topo_types.specs.Graph.{is_in}
-use Rattle.topo_types.specs.View.{View, End, stream_at, origin_of, mode_of, mode_key, has_body, output_at, own_attrs, ports_towards, stream_numbers}
+use Rattle.topo_forms.specs.Carried.{allows_notes}
+use Rattle.blz_value.specs.Graph.{is_in}
+use Rattle.topo_forms.specs.View.{View, End, stream_at, origin_of, mode_of, mode_key, has_body, output_at, own_attrs, ports_towards, stream_numbers}
 
 -- told the components at which each dependency is usable: those usable at one
 abbrev pub fds_by : List Fd → (usable : List ℕ) → (component : ℕ) → List Fd

@@ -1,10 +1,10 @@
 -- The streams into each port, as a walk over the ends of all streams finds them.
 use Rattle.std.specs.Prelude.{ℕ, ◌==◌, List, [], map, filter, slice_index_or}
 use Rattle.std.specs.List.{flat_map}
-use Rattle.fd_closure.specs.Bits.{bit_of}
-use Rattle.bloom_ast.specs.Reads.{with_all}
+use Rattle.blz_value.specs.Bits.{bit_of}
+use Rattle.blz_value.specs.Arrows.{with_all}
 use Rattle.topo_graph.specs.declared.ports.Feed.{Feed}
-use Rattle.topo_types.specs.View.{View, End, ends_of, stream_numbers, component_numbers, port_numbers}
+use Rattle.topo_forms.specs.View.{View, End, ends_of, stream_numbers, component_numbers, port_numbers}
 
 -- an end of a stream, with the set of that stream
 abbrev pub feed_of : (stream : ℕ) → End → Feed

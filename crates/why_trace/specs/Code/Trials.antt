@@ -1,12 +1,12 @@
 -- What a trial goes by, and what it tells.
 use Rattle.std.specs.Prelude.{◌≡◌, ◌≢◌, Bool, false, Result, Ok, Err, List}
-use Rattle.topo_types.specs.Data.{Data}
-use Rattle.topo_types.specs.View.{View}
-use Rattle.emitted.specs.declared.fault.EventFault.TheVariants.{NoMemory}
-use Rattle.sched_hear.specs.declared.books.Books.{Books}
-use Rattle.sched_run.specs.Making.{Line}
-use Rattle.sched_run.specs.Reading.{IsRead}
-use Rattle.replay_run.specs.declared.running.StepRefusal.{StepRefusal}
+use Rattle.topo_forms.specs.Data.{Data}
+use Rattle.topo_forms.specs.View.{View}
+use Rattle.messages.specs.declared.fault.EventFault.TheVariants.{NoMemory}
+use Rattle.sched_net.specs.declared.books.Books.{Books}
+use Rattle.sched_net.specs.ScheduleLines.{Line}
+use Rattle.sched_net.specs.Reading.{IsRead}
+use Rattle.sched_net.specs.declared.running.StepRefusal.{StepRefusal}
 use Rattle.why_trace.specs.declared.trial.Trial.{Trial}
 use Rattle.why_trace.specs.Trim.{Wanted, wanted, has_record, yields}
 

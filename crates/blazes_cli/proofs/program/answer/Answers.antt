@@ -1,8 +1,8 @@
 use Rattle.std.proofs.Common.{map}
-use Rattle.command_runs.specs.Bench.{bench_states}
+use Rattle.blazes_commands.specs.Runs.Bench.{bench_states}
 use Rattle.blazes_words.specs.Requests.{asked_by}
 use Rattle.blazes_commands.specs.Commands.{script}
-use Rattle.command_files.specs.Ends.{files_states, source}
+use Rattle.command_checks.specs.Ends.{files_states, source}
 use Rattle.blazes_commands.proofs.CommandLemmas.{outcome_concluded, kinds_concluded}
 use Rattle.blazes_cli.proofs.program.answer.Goals as goal
 

@@ -1,11 +1,11 @@
 use Rattle.std.proofs.Common.{◌≡◌, ◌≢◌, None, map, string_bytes, subst}
 use Rattle.blz_outside.specs.Counts.{Rose}
-use Rattle.command_runs.specs.Bench.{bench_states}
-use Rattle.command_files.specs.Ran.{answer_of}
-use Rattle.command_files.specs.Ends.{files_states, source}
+use Rattle.blazes_commands.specs.Runs.Bench.{bench_states}
+use Rattle.command_checks.specs.Ran.{answer_of}
+use Rattle.command_checks.specs.Ends.{files_states, source}
 use Rattle.blazes_cli.specs.Outcome.{sink_states, IsSaid, IsUsageOrLost, IsReadFaultOrLost, Misses}
 use Rattle.blazes_words.specs.Words.{request_of}
-use Rattle.command_files.specs.declared.status.Status.TheVariants.{Usage, ReadFault}
+use Rattle.command_checks.specs.declared.status.Status.TheVariants.{Usage, ReadFault}
 use Rattle.blazes_cli.proofs.ReplyLemmas as lem
 use Rattle.blazes_cli.proofs.program.blazes.Goals as goal
 

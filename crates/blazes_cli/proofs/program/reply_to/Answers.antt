@@ -1,6 +1,6 @@
 use Rattle.std.proofs.Common.{map}
 use Rattle.std.proofs.lemmas.List.Sorted.{IsPermutation-refl}
-use Rattle.command_runs.specs.Bench.{bench_states}
+use Rattle.blazes_commands.specs.Runs.Bench.{bench_states}
 use Rattle.blazes_commands.proofs.CommandLemmas.{same_anyway}
 use Rattle.blazes_cli.proofs.program.reply_to.Goals as goal
 

@@ -1,8 +1,8 @@
 use Rattle.std.proofs.Common.{Option, ap, subst}
 use Rattle.data_read.specs.Making.{data_from}
-use Rattle.report_print.specs.declared.refusal.Refusal.{Refusal}
+use Rattle.report_lines.specs.declared.refusal.Refusal.{Refusal}
 use Rattle.command_checks.specs.Checks as check
-use Rattle.command_files.specs.Ran.{IsStopAt}
+use Rattle.command_checks.specs.Ran.{IsStopAt}
 use Rattle.blazes_commands.specs.Soak.{one_source}
 use Rattle.command_checks.proofs.GivenLemmas.{data_gives}
 use Rattle.blazes_commands.proofs.batches.data_of.Goals as goal

@@ -1,5 +1,5 @@
 use Rattle.std.proofs.Common.{◌≡◌, ◌++◌, ◌∙◌, map, ap, arith}
-use Rattle.topo_types.specs.Sets.{below}
+use Rattle.blz_value.specs.NumberSets.{below}
 use Rattle.blazes_commands.specs.Soak.{tweet, tweets_of}
 use Rattle.blazes_commands.proofs.batches.push_batch.Goals as goal
 

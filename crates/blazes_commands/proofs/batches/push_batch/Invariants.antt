@@ -1,6 +1,6 @@
 -- the tweets so far
 use Rattle.std.proofs.Common.{◌≡◌, ◌++◌, map}
-use Rattle.topo_types.specs.Sets.{below}
+use Rattle.blz_value.specs.NumberSets.{below}
 use Rattle.blazes_commands.specs.Soak.{tweet}
 use Rattle.blazes_commands.proofs.batches.push_batch.Given as goal
 

@@ -1,6 +1,6 @@
 use Rattle.std.proofs.Common.{◌≡◌, List, true, sym, subst, arith}
 use Rattle.blz_value.specs.Record.{Row}
-use Rattle.topo_types.specs.Data.{IsData}
+use Rattle.topo_forms.specs.Data.{IsData}
 use Rattle.blazes_commands.specs.Soak.{one_source, takes_tweets}
 use Rattle.blazes_commands.proofs.TweetsLemmas.{tweets_fit}
 use Rattle.blazes_commands.proofs.batches.tweets_data.Goals as goal

@@ -2,11 +2,11 @@ use Rattle.std.proofs.Common.{map, subst, sym}
 use Rattle.std.proofs.lemmas.List.Sorted.{IsPermutation-refl}
 use Rattle.blazes_commands.specs.Code.Ran.{RepliesTo}
 use Rattle.blazes_words.specs.Requests.{asked_by, files_shown, shard_shown, why_shown, witness_shown}
-use Rattle.command_files.specs.Ends.{files_states, source}
+use Rattle.command_checks.specs.Ends.{files_states, source}
 use Rattle.blazes_words.specs.Words.{IsWithin}
 use Rattle.blazes_words.specs.declared.words.Request.{Request}
-use Rattle.command_runs.specs.Bench.{bench_states}
-use Rattle.command_runs.proofs.RepliesLemmas.{kept_anyway}
+use Rattle.blazes_commands.specs.Runs.Bench.{bench_states}
+use Rattle.blazes_commands.proofs.Runs.RepliesLemmas.{kept_anyway}
 use Rattle.blazes_commands.proofs.LabelLemmas.{derive_replies, label_replies, plan_replies, shard_replies}
 use Rattle.blazes_commands.proofs.FoundLemmas.{why_replies, witness_replies}
 use Rattle.blazes_commands.proofs.RanLemmas.{restart_replies, run_replies}

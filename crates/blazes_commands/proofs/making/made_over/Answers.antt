@@ -1,12 +1,12 @@
 use Rattle.std.proofs.Common.{ap, map}
-use Rattle.topo_types.specs.Valid.{Validated}
+use Rattle.topo_forms.specs.Valid.{Validated}
 use Rattle.blazes_commands.specs.Checks as check
 use Rattle.blazes_commands.specs.Commands.{Says, Work}
-use Rattle.command_files.specs.Script.{Script, ◌>>=◌}
-use Rattle.command_runs.specs.Bench.{bench_states}
-use Rattle.command_runs.proofs.BenchLemmas.{same_kinds}
-use Rattle.command_runs.proofs.OpeningLemmas.{opening_stops}
-use Rattle.command_runs.proofs.RepliesLemmas.{kept_anyway}
+use Rattle.command_checks.specs.Script.{Script, ◌>>=◌}
+use Rattle.blazes_commands.specs.Runs.Bench.{bench_states}
+use Rattle.blazes_commands.proofs.Runs.BenchLemmas.{same_kinds}
+use Rattle.blazes_commands.proofs.Runs.OpeningLemmas.{opening_stops}
+use Rattle.blazes_commands.proofs.Runs.RepliesLemmas.{kept_anyway}
 use Rattle.blazes_commands.proofs.MakeLemmas.{make_replies, runs_first, runs_made, written_on}
 use Rattle.blazes_commands.proofs.making.made_over.Goals as goal
 

@@ -1,10 +1,10 @@
 use Rattle.std.proofs.Common.{map}
 use Rattle.std.proofs.lemmas.List.Sorted.{IsPermutation-refl}
 use Rattle.blazes_commands.specs.Commands.{Says, making}
-use Rattle.command_files.specs.Ends.{source, files_states}
-use Rattle.command_runs.specs.Bench.{bench_states}
-use Rattle.command_runs.proofs.FilesLemmas.{topology_stops, data_stops, files_then}
-use Rattle.command_runs.proofs.RepliesLemmas.{kept_anyway}
+use Rattle.command_checks.specs.Ends.{source, files_states}
+use Rattle.blazes_commands.specs.Runs.Bench.{bench_states}
+use Rattle.blazes_commands.proofs.Runs.FilesLemmas.{topology_stops, data_stops, files_then}
+use Rattle.blazes_commands.proofs.Runs.RepliesLemmas.{kept_anyway}
 use Rattle.blazes_commands.proofs.making.make.Goals as goal
 
 pub returns-in_err-valid : goal.returns-in_err-valid

@@ -1,5 +1,5 @@
 use Rattle.std.proofs.Common.{subst, sym}
-use Rattle.topo_types.specs.Valid.{Validated}
+use Rattle.topo_forms.specs.Valid.{Validated}
 use Rattle.sched_run.specs.Making.{IsTextOf}
 use Rattle.sched_run.specs.Naming.{CanBeWritten}
 use Rattle.blazes_commands.proofs.making.printed.Goals as goal

@@ -1,9 +1,9 @@
 use Rattle.std.proofs.Common.{map}
 use Rattle.std.proofs.lemmas.List.Sorted.{IsPermutation-refl}
-use Rattle.topo_types.specs.Data.{Data}
+use Rattle.topo_forms.specs.Data.{Data}
 use Rattle.blazes_words.specs.Requests.{soak_shown}
-use Rattle.command_runs.specs.Bench.{bench_states}
-use Rattle.command_runs.proofs.RepliesLemmas.{kept_anyway}
+use Rattle.blazes_commands.specs.Runs.Bench.{bench_states}
+use Rattle.blazes_commands.proofs.Runs.RepliesLemmas.{kept_anyway}
 use Rattle.blazes_commands.proofs.SoakLemmas.{tweets_stop, tweets_then}
 use Rattle.blazes_commands.proofs.soaking.soaked.Goals as goal
 

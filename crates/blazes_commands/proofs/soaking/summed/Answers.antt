@@ -1,7 +1,7 @@
 use Rattle.std.proofs.Common.{◌∙◌, ap}
-use Rattle.command_files.specs.Reply.{Answer}
-use Rattle.command_files.specs.Script.{Bytes}
-use Rattle.command_files.specs.declared.status.Status.TheVariants.{Done}
+use Rattle.command_checks.specs.Reply.{Answer}
+use Rattle.command_checks.specs.Script.{Bytes}
+use Rattle.command_checks.specs.declared.status.Status.TheVariants.{Done}
 use Rattle.blazes_commands.proofs.soaking.summed.Goals as goal
 
 pub returns : goal.returns

@@ -1,9 +1,9 @@
 -- the sets so far, and the turns of tables and ports
 use Rattle.std.proofs.Common.{◌≡◌, ◌≤◌, ℕ, map}
 use Rattle.std.specs.List.{range_with_len}
-use Rattle.bloom_ast.specs.declared.module.Kind.TheVariants.{Input, Table}
-use Rattle.bloom_ast.specs.Kinds.{place_in_kind}
-use Rattle.bloom_ast.specs.Step.{set_at, begun_at}
+use Rattle.bloom_forms.specs.declared.module.Kind.TheVariants.{Input, Table}
+use Rattle.bloom_forms.specs.Kinds.{place_in_kind}
+use Rattle.bloom_forms.specs.Step.{set_at, begun_at}
 use Rattle.bloom_eval.specs.Code.Held.{sets_in}
 use Rattle.bloom_eval.specs.Code.Begin.{AreLeft}
 use Rattle.bloom_eval.proofs.begin.begin.Given as goal

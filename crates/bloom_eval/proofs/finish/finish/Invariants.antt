@@ -1,7 +1,7 @@
 -- the sets so far, and those of the collections that are left
 use Rattle.std.proofs.Common.{◌≡◌, ◌≤◌, ◌++◌, ℕ, length, drop}
-use Rattle.bloom_ast.specs.declared.module.Kind.TheVariants.{Output, Table}
-use Rattle.bloom_ast.specs.Step.{set_at, sets_of_kind}
+use Rattle.bloom_forms.specs.declared.module.Kind.TheVariants.{Output, Table}
+use Rattle.bloom_forms.specs.Step.{set_at, sets_of_kind}
 use Rattle.bloom_eval.specs.Code.Held.{sets_in}
 use Rattle.bloom_eval.proofs.finish.finish.Given as goal
 

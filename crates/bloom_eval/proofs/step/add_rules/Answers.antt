@@ -1,8 +1,8 @@
 use Rattle.std.proofs.Common.{◌≡◌, ◌+◌, ◌∙◌, ◌∷◌, drop, List, Ok, Err, ap, sym, subst, arith}
 use Rattle.blz_value.specs.Record.{Row}
-use Rattle.bloom_ast.specs.Form.{RuleForm}
-use Rattle.bloom_ast.specs.Lookup.{declared}
-use Rattle.bloom_ast.specs.Step.{rows_named, rules_at}
+use Rattle.bloom_forms.specs.Form.{RuleForm}
+use Rattle.bloom_forms.specs.Lookup.{declared}
+use Rattle.bloom_forms.specs.Step.{rows_named, rules_at}
 use Rattle.bloom_eval.specs.Code.Held.{sets_in}
 use Rattle.bloom_eval.specs.Code.Counted.{Adds}
 use Rattle.bloom_eval.proofs.ByNumbers.{tests_fit}

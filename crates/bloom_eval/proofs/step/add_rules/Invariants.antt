@@ -2,8 +2,8 @@
 use Rattle.std.proofs.Common.{drop, List, Result}
 use Rattle.blz_value.specs.Record.{Row}
 use Rattle.blz_set.specs.declared.fault.SetFault.{SetFault}
-use Rattle.bloom_ast.specs.Lookup.{declared}
-use Rattle.bloom_ast.specs.Step.{rows_named, rules_at}
+use Rattle.bloom_forms.specs.Lookup.{declared}
+use Rattle.bloom_forms.specs.Step.{rows_named, rules_at}
 use Rattle.bloom_eval.specs.Code.Held.{sets_in}
 use Rattle.bloom_eval.specs.Code.Counted.{Adds}
 use Rattle.bloom_eval.proofs.step.add_rules.Given as goal

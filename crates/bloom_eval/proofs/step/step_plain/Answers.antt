@@ -1,13 +1,13 @@
 use Rattle.std.proofs.Common.{◌∙◌, List, length, Ok, ap, sym, subst}
 use Rattle.std.proofs.lemmas.List.{length-map}
-use Rattle.bloom_ast.specs.declared.module.Kind.TheVariants.{Input, Output, Table}
-use Rattle.bloom_ast.specs.declared.module.Collection.{Collection}
-use Rattle.bloom_ast.specs.Form.{Form}
-use Rattle.bloom_ast.specs.Kinds.{of_kind}
-use Rattle.bloom_ast.specs.Program.{columns_of_kind}
-use Rattle.bloom_ast.specs.Step.{Sets, at_start, sets_of_kind}
+use Rattle.bloom_forms.specs.declared.module.Kind.TheVariants.{Input, Output, Table}
+use Rattle.bloom_forms.specs.declared.module.Collection.{Collection}
+use Rattle.bloom_forms.specs.Form.{Form}
+use Rattle.bloom_forms.specs.Kinds.{of_kind}
+use Rattle.bloom_forms.specs.Program.{columns_of_kind}
+use Rattle.bloom_forms.specs.Step.{Sets, at_start, sets_of_kind}
 use Rattle.bloom_eval.specs.Code.Held.{rows_in, sets_in}
-use Rattle.bloom_ast.specs.Widths.{AreSetsOf}
+use Rattle.bloom_forms.specs.Widths.{AreSetsOf}
 use Rattle.bloom_eval.specs.Code.Taken.{AreBegun, TakesHeads}
 use Rattle.bloom_eval.proofs.Runnable.{runnable}
 use Rattle.bloom_eval.proofs.Widths.{length-sets_of, length-sets_of_all, kinds_wide, are_begun, left_wide}

@@ -1,7 +1,7 @@
 -- the table is among those that are left
 use Rattle.std.proofs.Common.{◌≡◌, ◌<◌, ◌+◌, length, drop}
-use Rattle.bloom_ast.specs.declared.module.Kind.TheVariants.{Table}
-use Rattle.bloom_ast.specs.Kinds.{of_kind, place_in_kind}
+use Rattle.bloom_forms.specs.declared.module.Kind.TheVariants.{Table}
+use Rattle.bloom_forms.specs.Kinds.{of_kind, place_in_kind}
 use Rattle.bloom_index.proofs.body.table_number.Given as goal
 
 abbrev pub invariant-loop-i : goal.invariant-loop-i

@@ -1,7 +1,7 @@
 use Rattle.std.proofs.Common.{◌∙◌, Bool, List, [], map, ap, subst}
 use Rattle.std.specs.List.{AllZip}
-use Rattle.bloom_ast.specs.declared.module.Collection.{Collection}
-use Rattle.bloom_ast.specs.Form.{Form}
+use Rattle.bloom_forms.specs.declared.module.Collection.{Collection}
+use Rattle.bloom_forms.specs.Form.{Form}
 use Rattle.bloom_index.specs.Code.Kept.{RuleStands}
 use Rattle.bloom_index.proofs.EmptyLemmas.{fresh_tables, parts_fresh}
 use Rattle.bloom_index.proofs.empty.empty_parts.Goals as goal

@@ -1,9 +1,9 @@
 use Rattle.std.proofs.Common.{◌∙◌, false, List, ap, sym}
 use Rattle.std.specs.Option.{option_map_or}
 use Rattle.std.proofs.lemmas.Bool.{eqb-true}
-use Rattle.bloom_ast.specs.declared.module.Collection.{Collection}
-use Rattle.bloom_ast.specs.Form.{Form}
-use Rattle.bloom_ast.specs.Kinds.{is_output, kind_at}
+use Rattle.bloom_forms.specs.declared.module.Collection.{Collection}
+use Rattle.bloom_forms.specs.Form.{Form}
+use Rattle.bloom_forms.specs.Kinds.{is_output, kind_at}
 use Rattle.bloom_index.proofs.EmptyLemmas.{alone_from}
 use Rattle.bloom_index.proofs.empty.is_alone.Goals as goal
 

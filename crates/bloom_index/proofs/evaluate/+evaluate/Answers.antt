@@ -8,7 +8,7 @@ use Rattle.blz_value.specs.Sets.{set_of}
 use Rattle.blz_value.specs.Test.{TestFits}
 use Rattle.blz_value.proofs.Membership.{Has-append_left, Has-append_right}
 use Rattle.bloom_eval.specs.Code.NumberedRows.{numbered_rows, numbered_sets}
-use Rattle.bloom_ast.specs.Step.{set_at}
+use Rattle.bloom_forms.specs.Step.{set_at}
 use Rattle.blz_set.specs.RecordSet.{row_limit}
 use Rattle.bloom_index.specs.Code.Growth.{grows, grows_at}
 use Rattle.bloom_growth.specs.Groups.{GroupsStand}

@@ -1,7 +1,7 @@
 use Rattle.std.proofs.Common.{Bool, false, List, ℕ, replicate, length, get_or, ◌≤◌, ◌∙◌, ap, sym, subst, arith}
 use Rattle.std.proofs.lemmas.List.{drop_all}
-use Rattle.bloom_ast.specs.declared.module.Collection.{Collection}
-use Rattle.bloom_ast.specs.Form.{Form}
+use Rattle.bloom_forms.specs.declared.module.Collection.{Collection}
+use Rattle.bloom_forms.specs.Form.{Form}
 use Rattle.bloom_index.specs.Code.Growth.{AreMarkedBelow}
 use Rattle.bloom_index.proofs.Marking.{marked_first, marked_below, head_within, marked_more, marked_all}
 use Rattle.bloom_index.proofs.grows.growing_heads.Goals as goal

@@ -1,5 +1,5 @@
 use Rattle.std.proofs.Common.{◌∙◌, ap}
-use Rattle.bloom_ast.specs.Form.{Form}
+use Rattle.bloom_forms.specs.Form.{Form}
 use Rattle.bloom_index.specs.Code.Growth.{rules_grow}
 use Rattle.bloom_index.proofs.GrowsLemmas.{head_is}
 use Rattle.bloom_index.proofs.Marking.{ruled_head}

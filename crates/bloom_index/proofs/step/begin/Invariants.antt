@@ -1,9 +1,9 @@
 -- the collections so far, and the port whose turn it is
 use Rattle.std.proofs.Common.{◌≡◌, ◌<◌, ◌≤◌, ℕ, length}
 use Rattle.blz_set.specs.RecordSet.{IsRecordSet}
-use Rattle.bloom_ast.specs.declared.module.Kind.TheVariants.{Input}
-use Rattle.bloom_ast.specs.Kinds.{place_in_kind}
-use Rattle.bloom_ast.specs.Step.{set_at}
+use Rattle.bloom_forms.specs.declared.module.Kind.TheVariants.{Input}
+use Rattle.bloom_forms.specs.Kinds.{place_in_kind}
+use Rattle.bloom_forms.specs.Step.{set_at}
 use Rattle.bloom_index.specs.Code.StepSets.{AreBegunAt}
 use Rattle.bloom_index.proofs.step.begin.Given as goal
 

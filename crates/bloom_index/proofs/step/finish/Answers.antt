@@ -1,9 +1,9 @@
 use Rattle.std.proofs.Common.{◌≡◌, ◌+◌, ◌++◌, ◌∙◌, List, length, drop, sym, ap, arith}
 use Rattle.std.proofs.lemmas.List.{append_assoc, append-nil, drop_all}
 use Rattle.blz_value.specs.Record.{Row}
-use Rattle.bloom_ast.specs.declared.module.Kind.TheVariants.{Output}
-use Rattle.bloom_ast.specs.declared.module.Collection.{Collection}
-use Rattle.bloom_ast.specs.Step.{Sets, set_at, sets_of_kind}
+use Rattle.bloom_forms.specs.declared.module.Kind.TheVariants.{Output}
+use Rattle.bloom_forms.specs.declared.module.Collection.{Collection}
+use Rattle.bloom_forms.specs.Step.{Sets, set_at, sets_of_kind}
 use Rattle.bloom_eval.specs.Code.Finish.{placed}
 use Rattle.bloom_index.specs.Code.StepSets.{out_rows, out_sets}
 use Rattle.bloom_index.proofs.StepLoops.{kind_more, out_count, out_here}

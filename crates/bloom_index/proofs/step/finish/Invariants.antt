@@ -1,7 +1,7 @@
 -- the outputs so far, and those of the collections that are left
 use Rattle.std.proofs.Common.{◌≡◌, ◌≤◌, ◌++◌, ℕ, length, drop}
-use Rattle.bloom_ast.specs.declared.module.Kind.TheVariants.{Output}
-use Rattle.bloom_ast.specs.Step.{sets_of_kind}
+use Rattle.bloom_forms.specs.declared.module.Kind.TheVariants.{Output}
+use Rattle.bloom_forms.specs.Step.{sets_of_kind}
 use Rattle.bloom_index.specs.Code.StepSets.{held_rows, out_sets}
 use Rattle.bloom_index.proofs.step.finish.Given as goal
 

@@ -2,7 +2,7 @@ use Rattle.std.proofs.Common.{◌≡◌, ◌<◌, ◌∙◌, [], List, Bool, len
 use Rattle.std.specs.Prelude.{slice_set}
 use Rattle.std.proofs.lemmas.List.{get_or_read, get_or-set_same}
 use Rattle.blz_value.specs.Record.{Row}
-use Rattle.bloom_ast.specs.Step.{set_at}
+use Rattle.bloom_forms.specs.Step.{set_at}
 use Rattle.bloom_index.specs.Code.Growth.{grows_at}
 use Rattle.bloom_index.specs.Code.HeadRules.{HasOldHead, GrowsHead}
 use Rattle.bloom_index.proofs.step.head_rows.Goals as goal

@@ -2,7 +2,7 @@ use Rattle.std.proofs.Common.{◌∙◌, List, Ok, ap, length, subst, sym}
 use Rattle.bloom_parse.specs.Code.ReadPlaces.{IsPlace}
 use Rattle.bloom_parse.specs.declared.lexing.token.Token.{Token}
 use Rattle.bloom_parse.specs.Places.{IsModuleText, IsFault}
-use Rattle.bloom_ast.specs.Form.{form_of}
+use Rattle.bloom_forms.specs.Form.{form_of}
 use Rattle.bloom_parse.specs.Tokens.{place_of, start_of}
 use Rattle.bloom_parse.proofs.Printed.NameLemmas.{text_has_own_names}
 use Rattle.bloom_parse.proofs.Grammar.ParsingLemmas.{text_is, reads_ok, no_fault}

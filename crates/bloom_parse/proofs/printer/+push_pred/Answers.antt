@@ -1,7 +1,7 @@
 -- What a predicate's parts write is the text of its tree.
 use Rattle.std.proofs.Common.{ap, ◌∙◌, ◌++◌, ◌∷◌, [], codes, append_assoc, sym, cond}
 use Rattle.std.proofs.lemmas.Result.{on_ok_weaker}
-use Rattle.bloom_ast.specs.Form.{formula_of}
+use Rattle.bloom_forms.specs.Form.{formula_of}
 use Rattle.bloom_parse.specs.Layout.{text_of, levels}
 use Rattle.bloom_parse.specs.Code.Printing.{placed, encloses_and, encloses_or}
 use Rattle.bloom_parse.specs.declared.printer.Place.TheVariants.{Whole, Side, Single}

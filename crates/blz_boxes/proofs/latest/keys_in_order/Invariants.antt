@@ -1,6 +1,6 @@
 -- the keys so far
 use Rattle.std.proofs.Common.{◌≡◌}
-use Rattle.bloom_ast.specs.StockSteps.{keys_in_order}
+use Rattle.bloom_forms.specs.StockSteps.{keys_in_order}
 use Rattle.blz_boxes.proofs.latest.keys_in_order.Given as goal
 
 abbrev pub invariant-loop-column : goal.invariant-loop-column

@@ -1,6 +1,6 @@
 use Rattle.std.specs.BTreeMap.{values}
 use Rattle.blz_boxes.specs.Code.KeptRecords.{records_of}
-use Rattle.bloom_ast.proofs.Ends.StockStanding.{kept_first}
+use Rattle.bloom_forms.proofs.Ends.StockStanding.{kept_first}
 use Rattle.blz_boxes.proofs.LatestRows.{put_at}
 use Rattle.blz_boxes.proofs.latest_table.put_all.Goals as goal
 

@@ -1,6 +1,6 @@
 -- what is kept after the records so far
 use Rattle.std.proofs.Common.{◌≡◌, take}
-use Rattle.bloom_ast.specs.StockSteps.{latest_kept}
+use Rattle.bloom_forms.specs.StockSteps.{latest_kept}
 use Rattle.blz_boxes.specs.Code.KeptRecords.{HaveKeys, records_of}
 use Rattle.blz_boxes.proofs.latest_table.put_all.Given as goal
 

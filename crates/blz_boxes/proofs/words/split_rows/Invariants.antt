@@ -1,7 +1,7 @@
 -- the rows so far
 use Rattle.std.proofs.Common.{◌≡◌, take}
 use Rattle.std.specs.List.{flat_map}
-use Rattle.bloom_ast.specs.StockSteps.{split_row}
+use Rattle.bloom_forms.specs.StockSteps.{split_row}
 use Rattle.blz_boxes.proofs.words.split_rows.Given as goal
 
 abbrev pub invariant-loop-row : goal.invariant-loop-row

@@ -1,6 +1,6 @@
 use Rattle.std.proofs.Common.{rules, ◌≡◌, ◌+◌, Some, drop}
 use Rattle.std.specs.List.{position_from}
-use Rattle.bloom_ast.specs.StockSteps.{is_space}
+use Rattle.bloom_forms.specs.StockSteps.{is_space}
 use Rattle.std.proofs.lemmas.Str.{IsUtf8-drop}
 use Rattle.blz_boxes.specs.Code.Texts.{texts}
 use Rattle.blz_boxes.proofs.Cuts.{before_space, after_space, words_step, words_end}

@@ -2,7 +2,7 @@
 use Rattle.std.proofs.Common.{◌≡◌, ◌++◌, length}
 use denote.Text.{Utf8}
 use denote.Shadow.{shadow}
-use Rattle.bloom_ast.specs.StockSteps.{words}
+use Rattle.bloom_forms.specs.StockSteps.{words}
 use Rattle.blz_boxes.specs.Code.Texts.{texts}
 use Rattle.blz_boxes.proofs.words.words_of.Given as goal
 

@@ -1,8 +1,8 @@
 use Rattle.std.proofs.Common.{List, Some, ap, ap₂, ◌∙◌}
-use Rattle.fd_closure.specs.declared.attrs.Fd.{Fd}
-use Rattle.report_print.specs.declared.refusal.Refusal.TheVariants as refusal
-use Rattle.topo_types.specs.Modes.{names_in}
-use Rattle.bloom_ast.specs.Query.{Name}
+use Rattle.blz_value.specs.declared.attrs.Fd.{Fd}
+use Rattle.report_lines.specs.declared.refusal.Refusal.TheVariants as refusal
+use Rattle.topo_forms.specs.Modes.{names_in}
+use Rattle.bloom_forms.specs.Query.{Name}
 use Rattle.command_checks.proofs.given_data.broken.Goals as goal
 
 pub returns : goal.returns

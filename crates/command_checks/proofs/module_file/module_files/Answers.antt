@@ -2,16 +2,16 @@ use Rattle.std.proofs.Common.{◌≡◌, ◌+◌, ◌++◌, List, [], ◌∷◌,
 use Rattle.std.specs.List.{filter_map}
 use Rattle.std.proofs.lemmas.List.{append-nil}
 use Rattle.blz_value.specs.declared.text.Str.{Str}
-use Rattle.bloom_ast.specs.Form.{Accepted}
-use Rattle.topo_types.specs.declared.topology.Body.{Body}
-use Rattle.topo_types.specs.declared.topology.Body.TheVariants as bodies
-use Rattle.topo_types.specs.Valid.{file_in, needs_module}
+use Rattle.bloom_forms.specs.Form.{Accepted}
+use Rattle.topo_forms.specs.declared.topology.Body.{Body}
+use Rattle.topo_forms.specs.declared.topology.Body.TheVariants as bodies
+use Rattle.topo_forms.specs.Valid.{file_in, needs_module}
 use Rattle.command_checks.specs.Checks as check
-use Rattle.command_files.specs.Ran.{Stopped}
-use Rattle.command_files.specs.Ends.{files_states, source, Came}
-use Rattle.command_files.specs.Script.{Bytes}
-use Rattle.command_files.specs.Script.Ending.{gave}
-use Rattle.command_files.proofs.ScriptLemmas.{stop_handed}
+use Rattle.command_checks.specs.Ran.{Stopped}
+use Rattle.command_checks.specs.Ends.{files_states, source, Came}
+use Rattle.command_checks.specs.Script.{Bytes}
+use Rattle.command_checks.specs.Script.Ending.{gave}
+use Rattle.command_checks.proofs.ScriptLemmas.{stop_handed}
 use Rattle.command_checks.proofs.EachLemmas.{came_more, stop_among, taken_more, taken_at}
 use Rattle.command_checks.proofs.module_file.module_files.Goals as goal
 use Rattle.command_checks.proofs.module_file.module_files.Goals.{in-Module+in_ok-read+in_ok-add, in_default}

@@ -1,9 +1,9 @@
 use Rattle.std.proofs.Common.{take}
 use Rattle.std.specs.List.{filter_map}
-use Rattle.topo_types.specs.Valid.{needs_module}
+use Rattle.topo_forms.specs.Valid.{needs_module}
 use Rattle.command_checks.specs.Checks as check
-use Rattle.command_files.specs.Ends.{files_states, source, Came}
-use Rattle.command_files.specs.Script.Ending.{gave}
+use Rattle.command_checks.specs.Ends.{files_states, source, Came}
+use Rattle.command_checks.specs.Script.Ending.{gave}
 use Rattle.command_checks.proofs.module_file.module_files.Given as goal
 
 abbrev pub invariant-loop-component : goal.invariant-loop-component

@@ -1,9 +1,9 @@
 use Rattle.command_checks.specs.Checks as check
 use Rattle.command_checks.specs.Found.{found_shown}
-use Rattle.command_files.specs.Ends.{files_states, source}
-use Rattle.command_files.specs.Script.{Script}
-use Rattle.command_files.specs.Script.Ending.{gave}
-use Rattle.command_files.proofs.ScriptLemmas.{came_at_once, came_then, stop_handed, stop_then}
+use Rattle.command_checks.specs.Ends.{files_states, source}
+use Rattle.command_checks.specs.Script.{Script}
+use Rattle.command_checks.specs.Script.Ending.{gave}
+use Rattle.command_checks.proofs.ScriptLemmas.{came_at_once, came_then, stop_handed, stop_then}
 use Rattle.command_checks.proofs.topologies.valid_topology.Goals as goal
 
 pub returns-in_err-found : goal.returns-in_err-found

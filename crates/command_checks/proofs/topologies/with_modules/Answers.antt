@@ -1,17 +1,17 @@
 use Rattle.std.proofs.Common.{◌≡◌, ◌∙◌, List, Ok, Err, ap, length, subst}
 use Rattle.std.specs.List.{filter_map}
-use Rattle.bloom_ast.specs.Form.{Accepted}
-use Rattle.topo_types.specs.declared.topology.ComponentEntry.{ComponentEntry}
-use Rattle.topo_types.specs.Valid.{Validated, needs_module}
-use Rattle.topo_types.specs.Validity.{fault_of}
+use Rattle.bloom_forms.specs.Form.{Accepted}
+use Rattle.topo_forms.specs.declared.topology.ComponentEntry.{ComponentEntry}
+use Rattle.topo_forms.specs.Valid.{Validated, needs_module}
+use Rattle.topo_forms.specs.Validity.{fault_of}
 use Rattle.command_checks.specs.Checks as check
 use Rattle.command_checks.specs.Found.{found_shown}
-use Rattle.command_files.specs.Ran.{Gives, Stopped}
-use Rattle.command_files.specs.Ends.{files_states, source, Came}
-use Rattle.command_files.specs.Script.Ending.{gave}
+use Rattle.command_checks.specs.Ran.{Gives, Stopped}
+use Rattle.command_checks.specs.Ends.{files_states, source, Came}
+use Rattle.command_checks.specs.Script.Ending.{gave}
 use Rattle.command_checks.proofs.ModulesLemmas.{modules_stop, fault_stops, modules_come, has_modules}
 use Rattle.command_checks.proofs.EachLemmas.{each_length}
-use Rattle.command_files.proofs.ScriptLemmas.{stop_handed}
+use Rattle.command_checks.proofs.ScriptLemmas.{stop_handed}
 use Rattle.command_checks.proofs.topologies.with_modules.Goals as goal
 
 pub validated-requires-clause-each : goal.validated-requires-clause-each

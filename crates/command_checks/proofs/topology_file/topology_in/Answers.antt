@@ -1,13 +1,13 @@
 -- What is read, or the refusal of what is wrong.
 use Rattle.std.proofs.Common.{Ok, Err, ap, subst}
-use Rattle.report_print.specs.declared.refusal.Refusal.TheVariants as refusal
+use Rattle.report_lines.specs.declared.refusal.Refusal.TheVariants as refusal
 use Rattle.topo_read.specs.Document.{document_of}
 use Rattle.topo_read.specs.Reading.{IsReading}
 use Rattle.topo_read.specs.declared.fault.TopoTextFault.{TopoTextFault}
-use Rattle.topo_types.specs.declared.topology.Topology.{Topology}
+use Rattle.topo_forms.specs.declared.topology.Topology.{Topology}
 use Rattle.command_checks.specs.Checks as check
 use Rattle.command_checks.proofs.GivenLemmas.{formed_gives}
-use Rattle.command_files.proofs.RefusedLemmas.{refused_gives}
+use Rattle.command_checks.proofs.RefusedLemmas.{refused_gives}
 use Rattle.command_checks.proofs.topology_file.topology_in.Goals as goal
 
 pub returns-in-Ok-clause-gives : goal.returns-in-Ok-clause-gives

@@ -1,4 +1,4 @@
-use Rattle.stream_deps.proofs.Dependencies.JointLaw.{closure_law}
+use Rattle.inbox.proofs.Dependencies.JointLaw.{closure_law}
 use Rattle.confluence.proofs.Labels.ProtectedLaw.{protected_guarded}
 use Rattle.confluence.proofs.laws.protected_law.Goals as goal
 

@@ -1,6 +1,6 @@
 -- A key is kept, or none.
 use Rattle.std.proofs.Common.{Some, ap, sym, ◌∙◌}
-use Rattle.topo_types.specs.declared.mode.Mode.{Mode}
+use Rattle.bloom_forms.specs.declared.mode.Mode.{Mode}
 use Rattle.coord_modes.specs.Choice.{mode_with_key}
 use Rattle.coord_modes.proofs.component.chosen_mode.Goals as goal
 

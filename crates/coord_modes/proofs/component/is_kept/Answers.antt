@@ -1,9 +1,9 @@
 -- The mode that is tried isn't Order.
 use Rattle.std.proofs.Common.{◌≡◌, ap, ◌∙◌}
 use Rattle.std.proofs.lemmas.Result.{IfOk-weaker}
-use Rattle.topo_types.specs.declared.mode.Mode.{Mode}
-use Rattle.topo_types.specs.View.{with_mode}
-use Rattle.coord_steps.specs.Plan.{is_good, trial}
+use Rattle.bloom_forms.specs.declared.mode.Mode.{Mode}
+use Rattle.topo_forms.specs.View.{with_mode}
+use Rattle.coord_modes.specs.Plan.{is_good, trial}
 use Rattle.coord_modes.proofs.KeptLemmas.{tried_unordered}
 use Rattle.coord_modes.proofs.component.is_kept.Goals as goal
 

@@ -1,8 +1,8 @@
 -- The key of the port decides.
 use Rattle.std.proofs.Common.{◌≡◌, Option, None, Some, IfOk, ap, if◌then◌else◌, subst}
 use Rattle.std.specs.Option.{option_and_then}
-use Rattle.fd_closure.specs.declared.attrs.Attrs.{Attrs}
-use Rattle.coord_steps.specs.Plan.{is_good, trial}
+use Rattle.blz_value.specs.declared.attrs.Attrs.{Attrs}
+use Rattle.coord_modes.specs.Plan.{is_good, trial}
 use Rattle.coord_modes.proofs.component.kept_at.Goals as goal
 
 pub returns-in-Some : goal.returns-in-Some

@@ -1,6 +1,6 @@
 -- Keys are tried, or none is.
 use Rattle.std.proofs.Common.{◌≡◌, Option, IfOk, subst}
-use Rattle.fd_closure.specs.declared.attrs.Attrs.{Attrs}
+use Rattle.blz_value.specs.declared.attrs.Attrs.{Attrs}
 use Rattle.coord_modes.proofs.KeptLemmas.{keys_tried, none_tried}
 use Rattle.coord_modes.proofs.component.kept_key.Goals as goal
 

@@ -1,9 +1,9 @@
 -- The first key that is kept, or none.
 use Rattle.std.proofs.Common.{◌<◌, length, arith, sym, ◌∙◌}
-use Rattle.topo_types.specs.Carried.{port_key}
-use Rattle.topo_types.specs.View.{component_at}
-use Rattle.coord_steps.specs.Plan.{is_good, trial}
-use Rattle.coord_steps.proofs.WalkLemmas.{kept_ends, kept_goes}
+use Rattle.topo_forms.specs.Carried.{port_key}
+use Rattle.topo_forms.specs.View.{component_at}
+use Rattle.coord_modes.specs.Plan.{is_good, trial}
+use Rattle.coord_modes.proofs.WalkLemmas.{kept_ends, kept_goes}
 use Rattle.coord_modes.proofs.component.kept_key_of_ports.Goals as goal
 
 pub returns-then-is_some : goal.returns-then-is_some

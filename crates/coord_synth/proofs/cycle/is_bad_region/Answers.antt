@@ -3,8 +3,8 @@ use Rattle.std.proofs.Common.{List, ap, ◌∙◌}
 use Rattle.label_rules.specs.declared.label.Label.{Label}
 use Rattle.label_walk.specs.Labels.{region_label}
 use Rattle.label_walk.specs.Paths.{region_at}
-use Rattle.coord_steps.specs.Plan.{is_bad}
-use Rattle.coord_steps.proofs.GoodLemmas.{labels_are}
+use Rattle.coord_modes.specs.Plan.{is_bad}
+use Rattle.coord_modes.proofs.GoodLemmas.{labels_are}
 use Rattle.coord_synth.proofs.cycle.is_bad_region.Goals as goal
 
 pub returns : goal.returns

@@ -1,7 +1,7 @@
 -- One member more.
 use Rattle.std.proofs.Common.{◌<◌, length, get_or, arith, ap, ◌∙◌}
-use Rattle.topo_types.specs.View.{View}
-use Rattle.coord_steps.specs.Plan.{order_member}
+use Rattle.topo_forms.specs.View.{View}
+use Rattle.coord_modes.specs.Plan.{order_member}
 use Rattle.coord_synth.proofs.CountLemmas.{order_member_count}
 use Rattle.coord_synth.proofs.FirstLemmas.{fold_more}
 use Rattle.coord_synth.proofs.cycle.order_members.Goals as goal

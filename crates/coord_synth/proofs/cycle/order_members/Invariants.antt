@@ -1,7 +1,7 @@
 -- the members so far are Order where they have an O note
 use Rattle.std.proofs.Common.{◌≡◌, fold, length, take}
 use Rattle.coord_synth.specs.Code.Written.{StaysWritten}
-use Rattle.coord_steps.specs.Plan.{order_member}
+use Rattle.coord_modes.specs.Plan.{order_member}
 use Rattle.coord_synth.proofs.cycle.order_members.Given as goal
 
 abbrev pub invariant-loop-member : goal.invariant-loop-member

@@ -1,6 +1,6 @@
 -- A region has a member.
 use Rattle.std.proofs.Common.{◌≡◌, ℕ, true, length, arith, ap, sym, subst}
-use Rattle.topo_types.specs.Graph.{is_in}
+use Rattle.blz_value.specs.Graph.{is_in}
 use Rattle.label_walk.specs.Paths.{region_at}
 use Rattle.coord_synth.proofs.FirstLemmas.{has_first, first_in}
 use Rattle.coord_synth.proofs.planning.first_member.Goals as goal

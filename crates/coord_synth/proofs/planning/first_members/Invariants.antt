@@ -1,6 +1,6 @@
 -- a member of each region so far
 use Rattle.std.proofs.Common.{◌≡◌, ◌<◌, ℕ, true, get_or, length}
-use Rattle.topo_types.specs.Graph.{is_in}
+use Rattle.blz_value.specs.Graph.{is_in}
 use Rattle.label_walk.specs.Paths.{region_at}
 use Rattle.coord_synth.proofs.planning.first_members.Given as goal
 

@@ -2,7 +2,7 @@
 use Rattle.std.proofs.Common.{◌≡◌, sym, subst}
 use Rattle.std.proofs.lemmas.Result.{IfOk-weaker}
 use Rattle.coord_synth.specs.Laws.{AreCoordinated}
-use Rattle.coord_steps.specs.Plan.{planned}
+use Rattle.coord_modes.specs.Plan.{planned}
 use Rattle.coord_synth.proofs.PlanLaw.{after_planning}
 use Rattle.coord_synth.proofs.planning.plan.Goals as goal
 

@@ -3,7 +3,7 @@ use Rattle.std.proofs.Common.{◌≡◌, ◌∙◌}
 use Rattle.std.proofs.lemmas.Result.{IfOk-weaker}
 use Rattle.label_walk.specs.Paths.{region_at}
 use Rattle.coord_synth.specs.Code.Shapes.{plan_at}
-use Rattle.coord_steps.specs.Plan.{plan_cycle}
+use Rattle.coord_modes.specs.Plan.{plan_cycle}
 use Rattle.coord_synth.proofs.FirstLemmas.{at_cycle}
 use Rattle.coord_synth.proofs.planning.plan_region.Goals as goal
 

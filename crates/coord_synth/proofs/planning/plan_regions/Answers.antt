@@ -1,6 +1,6 @@
 -- One region more.
 use Rattle.std.proofs.Common.{◌<◌, length, get_or, arith, ap, ◌∙◌}
-use Rattle.topo_types.specs.View.{View}
+use Rattle.topo_forms.specs.View.{View}
 use Rattle.coord_synth.specs.Code.Shapes.{plan_at}
 use Rattle.coord_synth.proofs.CountLemmas.{at_count}
 use Rattle.coord_synth.proofs.FirstLemmas.{fold_more}

@@ -2,9 +2,9 @@
 use Rattle.std.proofs.Common.{◌≡◌, ℕ, List, fold, sym, subst, ◌∙◌}
 use Rattle.std.proofs.lemmas.Result.{IfOk-weaker}
 use Rattle.label_walk.specs.Paths.{AreComponents}
-use Rattle.topo_types.specs.View.{View}
+use Rattle.topo_forms.specs.View.{View}
 use Rattle.coord_synth.specs.Code.Shapes.{AreFirsts, plan_at}
-use Rattle.coord_steps.specs.Plan.{freed, planned_by}
+use Rattle.coord_modes.specs.Plan.{freed, planned_by}
 use Rattle.coord_synth.proofs.FirstLemmas.{first_within}
 use Rattle.coord_synth.proofs.WrittenLemmas.{both}
 use Rattle.coord_synth.proofs.PlannedModes.{by_firsts}

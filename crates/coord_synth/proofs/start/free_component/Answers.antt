@@ -1,7 +1,7 @@
 -- Another mode of a component that is neither Free nor Order.
 use Rattle.std.proofs.Common.{◌≡◌, ◌∙◌}
 use Rattle.std.proofs.lemmas.Result.{IfOk-weaker}
-use Rattle.topo_types.specs.Valid.{Validated}
+use Rattle.topo_forms.specs.Valid.{Validated}
 use Rattle.coord_synth.specs.Code.Chosen.{with_chosen}
 use Rattle.coord_synth.specs.Code.Start.{free_component}
 use Rattle.coord_synth.proofs.ChosenLemmas.{freed_fits, freed_is}

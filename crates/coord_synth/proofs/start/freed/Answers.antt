@@ -1,6 +1,6 @@
 -- All components were gone through.
 use Rattle.std.proofs.Common.{◌≡◌, length, arith, ap, sym, subst, ◌∙◌}
-use Rattle.topo_types.specs.Valid.{Validated}
+use Rattle.topo_forms.specs.Valid.{Validated}
 use Rattle.coord_synth.specs.Code.Start.{free_component}
 use Rattle.coord_synth.specs.Code.Written.{IsWritten}
 use Rattle.coord_synth.proofs.StartLemmas.{freed_so_far, one_more, start_view, start_written, start_count}

@@ -1,5 +1,6 @@
 use Rattle.std.proofs.Common.{◌≡◌, ◌≤◌, drop}
-use Rattle.data_read.specs.Counting.{source_limit, passed_at}
+use Rattle.data_read.specs.Counting.{passed_at}
+use Rattle.topo_forms.specs.DataCounts.{source_limit}
 use Rattle.data_read.proofs.counting.passed_at.Given as goal
 
 -- the place from here on, after so many rows and parts, is that of all

@@ -1,5 +1,5 @@
 use Rattle.std.proofs.Common.{◌≡◌}
-use Rattle.topo_types.specs.Messages.{distinct_rows}
+use Rattle.topo_forms.specs.Messages.{distinct_rows}
 use Rattle.data_read.proofs.distinct.known_rows.Given as goal
 
 abbrev pub invariant-loop-row : goal.invariant-loop-row

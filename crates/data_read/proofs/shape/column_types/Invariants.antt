@@ -1,5 +1,5 @@
 use Rattle.std.proofs.Common.{◌≡◌, map}
-use Rattle.topo_types.specs.Sets.{below}
+use Rattle.blz_value.specs.NumberSets.{below}
 use Rattle.data_read.specs.Shape.{type_at}
 use Rattle.data_read.proofs.shape.column_types.Given as goal
 

@@ -1,5 +1,5 @@
 use Rattle.std.proofs.Common.{arith, ◌∙◌}
-use Rattle.data_read.proofs.KeyOfSource.{source_stream, carried_of_source}
+use Rattle.topo_forms.proofs.KeyOfSource.{source_stream, carried_of_source}
 use Rattle.data_read.proofs.shape.key_of.Goals as goal
 
 pub carries-requires : goal.carries-requires

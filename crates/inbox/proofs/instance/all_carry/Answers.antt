@@ -1,6 +1,6 @@
 use Rattle.std.proofs.Common.{◌∙◌, ◌||◌, not, sym, length, arith}
-use Rattle.topo_types.specs.Carried.{carries_key}
-use Rattle.topo_types.specs.View.{goes_to}
+use Rattle.topo_forms.specs.Carried.{carries_key}
+use Rattle.topo_forms.specs.View.{goes_to}
 use Rattle.inbox.proofs.Ranges.{all_below, not_all_below}
 use Rattle.inbox.proofs.instance.all_carry.Goals as goal
 

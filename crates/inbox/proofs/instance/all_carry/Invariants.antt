@@ -1,7 +1,7 @@
 -- all so far pass
 use Rattle.std.proofs.Common.{◌≡◌, ◌<◌, ◌||◌, not, ℕ, true}
-use Rattle.topo_types.specs.Carried.{carries_key}
-use Rattle.topo_types.specs.View.{goes_to}
+use Rattle.topo_forms.specs.Carried.{carries_key}
+use Rattle.topo_forms.specs.View.{goes_to}
 use Rattle.inbox.proofs.instance.all_carry.Given as goal
 
 abbrev pub invariant-loop-stream : goal.invariant-loop-stream

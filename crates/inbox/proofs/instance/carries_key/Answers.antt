@@ -1,5 +1,5 @@
 use Rattle.std.proofs.Common.{◌∙◌, ap, sym}
-use Rattle.topo_types.specs.Carried.{is_key}
+use Rattle.blz_value.specs.Arrows.{is_key}
 use Rattle.inbox.proofs.CarriedKeys.{carries_key-is}
 use Rattle.inbox.proofs.instance.carries_key.Goals as goal
 

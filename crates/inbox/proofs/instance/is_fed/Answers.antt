@@ -1,5 +1,5 @@
 use Rattle.std.proofs.Common.{◌∙◌, sym, length, arith}
-use Rattle.topo_types.specs.View.{goes_to}
+use Rattle.topo_forms.specs.View.{goes_to}
 use Rattle.inbox.proofs.Ranges.{any_below, none_below}
 use Rattle.inbox.proofs.instance.is_fed.Goals as goal
 

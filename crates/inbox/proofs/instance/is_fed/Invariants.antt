@@ -1,6 +1,6 @@
 -- none so far goes there
 use Rattle.std.proofs.Common.{◌≡◌, ◌<◌, ℕ, false}
-use Rattle.topo_types.specs.View.{goes_to}
+use Rattle.topo_forms.specs.View.{goes_to}
 use Rattle.inbox.proofs.instance.is_fed.Given as goal
 
 abbrev pub invariant-loop-stream : goal.invariant-loop-stream

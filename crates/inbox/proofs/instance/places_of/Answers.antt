@@ -1,8 +1,8 @@
 -- The loop ends at 64, past the last member.
 use Rattle.std.proofs.Common.{◌≡◌, ◌∙◌, ℕ, Some, arith, ap, map, filter}
-use Rattle.fd_closure.specs.Bits.{bit_of, meets}
-use Rattle.topo_types.specs.Data.{place_of_attribute}
-use Rattle.topo_types.specs.Sets.{below}
+use Rattle.blz_value.specs.Bits.{bit_of, meets}
+use Rattle.topo_forms.specs.Data.{place_of_attribute}
+use Rattle.blz_value.specs.NumberSets.{below}
 use Rattle.inbox.proofs.instance.places_of.Goals as goal
 
 pub returns : goal.returns

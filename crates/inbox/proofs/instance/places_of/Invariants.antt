@@ -1,8 +1,8 @@
 -- the places of the attributes so far
 use Rattle.std.proofs.Common.{◌≡◌, Some, map, filter}
-use Rattle.fd_closure.specs.Bits.{bit_of, meets}
-use Rattle.topo_types.specs.Data.{place_of_attribute}
-use Rattle.topo_types.specs.Sets.{below}
+use Rattle.blz_value.specs.Bits.{bit_of, meets}
+use Rattle.topo_forms.specs.Data.{place_of_attribute}
+use Rattle.blz_value.specs.NumberSets.{below}
 use Rattle.inbox.proofs.instance.places_of.Given as goal
 
 abbrev pub invariant-loop-attribute : goal.invariant-loop-attribute

@@ -1,7 +1,7 @@
 use Rattle.std.proofs.Common.{◌∙◌, ◌&&◌, ap, sym}
 use Rattle.std.specs.List.{list_all}
-use Rattle.topo_types.specs.Carried.{carries_key}
-use Rattle.topo_types.specs.View.{goes_to, stream_numbers, streams_to}
+use Rattle.topo_forms.specs.Carried.{carries_key}
+use Rattle.topo_forms.specs.View.{goes_to, stream_numbers, streams_to}
 use Rattle.inbox.proofs.Keeping.Whole.{all-filter}
 use Rattle.inbox.proofs.instance.port_carries.Goals as goal
 

@@ -1,7 +1,7 @@
 -- the ports so far
 use Rattle.std.proofs.Common.{◌≡◌, map}
-use Rattle.topo_types.specs.Sets.{below}
-use Rattle.partitions.specs.Ports.{port_keys}
+use Rattle.blz_value.specs.NumberSets.{below}
+use Rattle.messages.specs.Ports.{port_keys}
 use Rattle.inbox.specs.Wiring.{port_for}
 use Rattle.inbox.proofs.instance.ports_of.Given as goal
 

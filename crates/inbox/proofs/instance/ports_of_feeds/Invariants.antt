@@ -1,6 +1,6 @@
 -- the ports of the feeds so far
 use Rattle.std.proofs.Common.{◌≡◌, map, take}
-use Rattle.topo_types.specs.Feeds.{Feed}
+use Rattle.topo_forms.specs.Feeds.{Feed}
 use Rattle.inbox.proofs.instance.ports_of_feeds.Given as goal
 
 abbrev pub invariant-loop-feed : goal.invariant-loop-feed

@@ -1,9 +1,9 @@
 -- the feeds from the streams so far
 use Rattle.std.proofs.Common.{◌≡◌, ◌++◌, filter}
 use Rattle.std.specs.List.{flat_map}
-use Rattle.topo_types.specs.Feeds.{feeds_from}
-use Rattle.topo_types.specs.Sets.{below}
-use Rattle.topo_types.specs.View.{goes_to}
+use Rattle.topo_forms.specs.Feeds.{feeds_from}
+use Rattle.blz_value.specs.NumberSets.{below}
+use Rattle.topo_forms.specs.View.{goes_to}
 use Rattle.inbox.specs.Code.Senders.{senders_for}
 use Rattle.inbox.proofs.instance.push_at.Given as goal
 

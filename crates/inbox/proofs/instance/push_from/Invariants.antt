@@ -1,7 +1,7 @@
 -- the feeds of the senders so far
 use Rattle.std.proofs.Common.{◌≡◌, ◌++◌, filter}
-use Rattle.topo_types.specs.Feeds.{feeds_from}
-use Rattle.topo_types.specs.Sets.{below}
+use Rattle.topo_forms.specs.Feeds.{feeds_from}
+use Rattle.blz_value.specs.NumberSets.{below}
 use Rattle.inbox.specs.Code.Senders.{is_sender}
 use Rattle.inbox.proofs.instance.push_from.Given as goal
 

@@ -1,7 +1,7 @@
 -- no component so far is replicated
 use Rattle.std.proofs.Common.{◌≡◌, false, take}
 use Rattle.std.specs.List.{list_any}
-use Rattle.topo_types.specs.View.{is_replicated}
+use Rattle.topo_forms.specs.View.{is_replicated}
 use Rattle.label_walk.proofs.cycles.is_one_replicated.Given as goal
 
 abbrev pub invariant-loop-component : goal.invariant-loop-component

@@ -1,7 +1,7 @@
 -- The components are the members.
 use Rattle.std.proofs.Common.{ℕ, List, ap, ◌∙◌}
 use Rattle.std.specs.List.{list_any}
-use Rattle.topo_types.specs.View.{is_replicated}
+use Rattle.topo_forms.specs.View.{is_replicated}
 use Rattle.label_walk.proofs.cycles.is_replicated.Goals as goal
 
 pub returns : goal.returns

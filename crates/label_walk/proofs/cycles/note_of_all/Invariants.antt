@@ -1,8 +1,8 @@
 -- the notes of the components so far
 use Rattle.std.proofs.Common.{◌≡◌, fold, take}
 use Rattle.std.specs.List.{flat_map}
-use Rattle.path_annotate.specs.declared.note.Note.TheVariants.{CR}
-use Rattle.path_annotate.specs.Note.{combine}
+use Rattle.bloom_forms.specs.declared.note.Note.TheVariants.{CR}
+use Rattle.bloom_forms.specs.Note.{combine}
 use Rattle.label_walk.specs.Paths.{notes_in}
 use Rattle.label_walk.proofs.cycles.note_of_all.Given as goal
 

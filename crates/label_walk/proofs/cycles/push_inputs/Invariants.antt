@@ -1,7 +1,7 @@
 -- the ends so far
 use Rattle.std.proofs.Common.{◌≡◌, ◌++◌, filter, map, take}
-use Rattle.topo_types.specs.Graph.{is_in}
-use Rattle.topo_types.specs.View.{End, ends_of}
+use Rattle.blz_value.specs.Graph.{is_in}
+use Rattle.topo_forms.specs.View.{End, ends_of}
 use Rattle.label_walk.proofs.cycles.push_inputs.Given as goal
 
 abbrev pub invariant-loop-n : goal.invariant-loop-n

@@ -1,7 +1,7 @@
 -- The set is that of the region.
 use Rattle.std.proofs.Common.{◌≡◌, ℕ, List, IfOk, subst, sym}
 use Rattle.std.proofs.lemmas.Result.{IfOk-weaker}
-use Rattle.topo_types.specs.View.{End}
+use Rattle.topo_forms.specs.View.{End}
 use Rattle.label_walk.specs.Paths.{AreInputs, region_at, region_inputs}
 use Rattle.label_walk.proofs.Ranges.{inputs_within}
 use Rattle.label_walk.proofs.cycles.region_inputs.Goals as goal

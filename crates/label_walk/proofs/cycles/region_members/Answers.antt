@@ -1,8 +1,8 @@
 -- The set is that of the region, whose members are components.
 use Rattle.std.proofs.Common.{◌≡◌, ℕ, List, IfOk, subst, sym}
 use Rattle.std.proofs.lemmas.Result.{IfOk-weaker}
-use Rattle.fd_closure.specs.Bits.{members}
-use Rattle.topo_types.specs.Regions.{region_members}
+use Rattle.blz_value.specs.Bits.{members}
+use Rattle.topo_forms.specs.Regions.{region_members}
 use Rattle.label_walk.specs.Paths.{AreComponents}
 use Rattle.label_walk.proofs.Ranges.{members_within}
 use Rattle.label_walk.proofs.cycles.region_members.Goals as goal

@@ -1,9 +1,9 @@
 -- The notes are those of the members.
 use Rattle.std.proofs.Common.{ℕ, List, fold, ap, ◌∙◌}
 use Rattle.std.specs.List.{flat_map}
-use Rattle.path_annotate.specs.declared.note.Note.{Note}
-use Rattle.path_annotate.specs.declared.note.Note.TheVariants.{CR}
-use Rattle.path_annotate.specs.Note.{combine}
+use Rattle.bloom_forms.specs.declared.note.Note.{Note}
+use Rattle.bloom_forms.specs.declared.note.Note.TheVariants.{CR}
+use Rattle.bloom_forms.specs.Note.{combine}
 use Rattle.label_walk.specs.Paths.{notes_in, without_gate}
 use Rattle.label_walk.proofs.cycles.region_note.Goals as goal
 

@@ -1,8 +1,8 @@
 -- the inputs from the streams so far
 use Rattle.std.proofs.Common.{◌≡◌, filter, map}
 use Rattle.std.specs.List.{flat_map}
-use Rattle.topo_types.specs.Sets.{below}
-use Rattle.topo_types.specs.View.{End}
+use Rattle.blz_value.specs.NumberSets.{below}
+use Rattle.topo_forms.specs.View.{End}
 use Rattle.label_walk.specs.Paths.{ends_in, is_from_outside}
 use Rattle.label_walk.proofs.cycles.set_inputs.Given as goal
 

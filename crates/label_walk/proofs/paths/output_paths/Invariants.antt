@@ -1,8 +1,8 @@
 -- the paths through the ports so far
 use Rattle.std.proofs.Common.{◌≡◌}
 use Rattle.std.specs.List.{flat_map}
-use Rattle.topo_types.specs.Sets.{below}
-use Rattle.topo_types.specs.View.{note_at}
+use Rattle.blz_value.specs.NumberSets.{below}
+use Rattle.topo_forms.specs.View.{note_at}
 use Rattle.label_walk.specs.Paths.{port_paths}
 use Rattle.label_walk.proofs.paths.output_paths.Given as goal
 

@@ -1,7 +1,7 @@
 -- the union of those before and after is that of all
 use Rattle.std.proofs.Common.{◌≡◌, drop, map}
-use Rattle.fd_closure.specs.Bits.{bit_of}
-use Rattle.bloom_ast.specs.Reads.{with_all}
+use Rattle.blz_value.specs.Bits.{bit_of}
+use Rattle.blz_value.specs.Arrows.{with_all}
 use Rattle.label_walk.proofs.paths.port_attrs.Given as goal
 
 abbrev pub invariant-loop-column : goal.invariant-loop-column

@@ -1,7 +1,7 @@
 -- the paths of the streams so far
 use Rattle.std.proofs.Common.{◌≡◌, ◌++◌, filter, map}
-use Rattle.topo_types.specs.Sets.{below}
-use Rattle.topo_types.specs.View.{goes_to}
+use Rattle.blz_value.specs.NumberSets.{below}
+use Rattle.topo_forms.specs.View.{goes_to}
 use Rattle.label_walk.specs.Paths.{path_label}
 use Rattle.label_walk.proofs.paths.push_port_paths.Given as goal
 

@@ -1,6 +1,6 @@
 -- those so far that are usable
 use Rattle.std.proofs.Common.{◌≡◌, filter, take}
-use Rattle.topo_types.specs.Dependencies.{is_usable}
+use Rattle.topo_forms.specs.Dependencies.{is_usable}
 use Rattle.label_walk.proofs.paths.usable_fds.Given as goal
 
 abbrev pub invariant-loop-fd : goal.invariant-loop-fd

@@ -1,6 +1,6 @@
 -- Paths, mode, replicas and dependencies are those of the output and its component.
 use Rattle.std.proofs.Common.{◌≡◌, ℕ, nat_lt, false, ap, rules, ◌∙◌}
-use Rattle.topo_types.specs.View.{is_order}
+use Rattle.topo_forms.specs.View.{is_order}
 use Rattle.label_walk.specs.Labels.{as_carried}
 use Rattle.label_walk.proofs.Labelling.RemadeLemmas.{alone_is}
 use Rattle.label_walk.proofs.region_walk.alone_label.Goals as goal

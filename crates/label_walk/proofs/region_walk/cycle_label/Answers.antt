@@ -1,6 +1,6 @@
 -- The label is that of the region.
 use Rattle.std.proofs.Common.{◌≡◌, true, rules}
-use Rattle.topo_types.specs.Regions.{is_cyclic}
+use Rattle.topo_forms.specs.Regions.{is_cyclic}
 use Rattle.label_walk.proofs.Labelling.RemadeLemmas.{cycle_is_some}
 use Rattle.label_walk.proofs.region_walk.cycle_label.Goals as goal
 

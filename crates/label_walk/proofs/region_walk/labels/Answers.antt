@@ -1,6 +1,6 @@
 -- All regions were gone through.
 use Rattle.std.proofs.Common.{◌≡◌, length, arith, ◌∙◌}
-use Rattle.topo_types.specs.Regions.{regions}
+use Rattle.topo_forms.specs.Regions.{regions}
 use Rattle.label_walk.proofs.Labelling.RemadeLemmas.{walked}
 use Rattle.label_walk.proofs.region_walk.labels.Goals as goal
 

@@ -1,6 +1,6 @@
 -- the labels after the regions so far
 use Rattle.std.proofs.Common.{◌≡◌, fold, take}
-use Rattle.topo_types.specs.Regions.{regions}
+use Rattle.topo_forms.specs.Regions.{regions}
 use Rattle.label_walk.specs.Labels.{first_labels, with_region}
 use Rattle.label_walk.proofs.region_walk.labels.Given as goal
 

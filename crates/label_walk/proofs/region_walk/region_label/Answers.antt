@@ -1,6 +1,6 @@
 -- Paths and replicas are those of the region.
 use Rattle.std.proofs.Common.{[], ◌∙◌}
-use Rattle.topo_types.specs.declared.mode.Mode.TheVariants.{Free}
+use Rattle.bloom_forms.specs.declared.mode.Mode.TheVariants.{Free}
 use Rattle.label_rules.specs.Reconciliation.{reconcile}
 use Rattle.label_walk.proofs.region_walk.region_label.Goals as goal
 

@@ -1,7 +1,7 @@
 -- the labels of the streams so far
 use Rattle.std.proofs.Common.{◌≡◌, map}
-use Rattle.topo_types.specs.Sets.{below}
-use Rattle.topo_types.specs.View.{origin_of}
+use Rattle.blz_value.specs.NumberSets.{below}
+use Rattle.topo_forms.specs.View.{origin_of}
 use Rattle.label_walk.specs.Code.Remade.{remade_label}
 use Rattle.label_walk.proofs.region_walk.remade_labels.Given as goal
 

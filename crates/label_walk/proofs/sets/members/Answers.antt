@@ -1,7 +1,7 @@
 -- The loop ends at 64, past the last member.
 use Rattle.std.proofs.Common.{◌≡◌, ℕ, filter, arith, ap, ◌∙◌}
-use Rattle.topo_types.specs.Graph.{is_in}
-use Rattle.topo_types.specs.Sets.{below}
+use Rattle.blz_value.specs.Graph.{is_in}
+use Rattle.blz_value.specs.NumberSets.{below}
 use Rattle.label_walk.proofs.sets.members.Goals as goal
 
 pub returns : goal.returns

@@ -1,7 +1,7 @@
 -- the members so far
 use Rattle.std.proofs.Common.{◌≡◌, filter}
-use Rattle.topo_types.specs.Graph.{is_in}
-use Rattle.topo_types.specs.Sets.{below}
+use Rattle.blz_value.specs.Graph.{is_in}
+use Rattle.blz_value.specs.NumberSets.{below}
 use Rattle.label_walk.proofs.sets.members.Given as goal
 
 abbrev pub invariant-loop-number : goal.invariant-loop-number

@@ -1,5 +1,5 @@
 use Rattle.std.proofs.Common.{◌/◌, ◌%◌, get_or}
-use Rattle.fd_closure.specs.Bits.{bit_of}
+use Rattle.blz_value.specs.Bits.{bit_of}
 use Rattle.messages.proofs.NumbersLemmas.{bit_tested}
 use Rattle.messages.proofs.numbers.has_number.Goals as goal
 

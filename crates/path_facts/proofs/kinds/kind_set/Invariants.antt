@@ -1,7 +1,8 @@
 use Rattle.std.proofs.Common.{◌≡◌, map, drop}
 use Rattle.std.specs.List.{enumerate_from}
-use Rattle.bloom_ast.specs.Kinds.{same_kind}
-use Rattle.bloom_ast.specs.Reads.{with_all, bit_if, kind_set}
+use Rattle.bloom_forms.specs.Kinds.{same_kind}
+use Rattle.bloom_forms.specs.Reads.{kind_set}
+use Rattle.blz_value.specs.Arrows.{with_all, bit_if}
 use Rattle.path_facts.proofs.kinds.kind_set.Given as goal
 
 abbrev pub invariant-loop-i : goal.invariant-loop-i

@@ -1,5 +1,5 @@
 use Rattle.std.proofs.Common.{◌≡◌, ◌∙◌, ℕ, Bool, false, if◌then◌else◌, ap, arith, get_or, bit_and}
-use Rattle.fd_closure.specs.Bits.{bit_of, meets}
+use Rattle.blz_value.specs.Bits.{bit_of, meets}
 use Rattle.path_facts.specs.declared.readings.RuleFacts.{RuleFacts}
 use Rattle.path_facts.proofs.GatesLemmas.{common_start, common_step, common_end}
 use Rattle.path_facts.proofs.readings.gate_among.Goals as goal

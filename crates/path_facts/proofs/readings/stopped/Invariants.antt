@@ -1,6 +1,6 @@
 use Rattle.std.proofs.Common.{◌≡◌, ◌&&◌, not, map, drop}
-use Rattle.fd_closure.specs.Bits.{bit_of, meets}
-use Rattle.bloom_ast.specs.Reads.{with_all, bit_if}
+use Rattle.blz_value.specs.Bits.{bit_of, meets}
+use Rattle.blz_value.specs.Arrows.{with_all, bit_if}
 use Rattle.path_facts.specs.Readings as spec
 use Rattle.path_facts.proofs.readings.stopped.Given as goal
 

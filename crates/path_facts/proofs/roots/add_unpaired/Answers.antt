@@ -1,6 +1,6 @@
 use Rattle.std.proofs.Common.{◌∙◌, ◌++◌, ◌+◌, ◌∷◌, [], Bool, None, not, if◌then◌else◌, append_assoc, ap, sym, arith}
 use Rattle.path_facts.proofs.RootsLemmas.{unpaired_from, unpaired_step}
-use Rattle.path_annotate.specs.Roots.{Roots}
+use Rattle.bloom_forms.specs.Roots.{Roots}
 use Rattle.path_facts.proofs.roots.add_unpaired.Goals as goal
 
 pub loop-i-preserved : goal.loop-i-preserved

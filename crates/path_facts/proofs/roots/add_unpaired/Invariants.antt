@@ -1,6 +1,6 @@
 use Rattle.std.proofs.Common.{◌≡◌, ◌++◌}
 use Rattle.blz_value.specs.Operators.{unpaired}
-use Rattle.path_annotate.specs.Roots.{no_roots}
+use Rattle.bloom_forms.specs.Roots.{no_roots}
 use Rattle.path_facts.proofs.RootsLemmas.{unpaired_from}
 use Rattle.path_facts.proofs.roots.add_unpaired.Given as goal
 

@@ -1,6 +1,6 @@
 use Rattle.std.proofs.Common.{◌<◌, ◌∙◌, Bool, None, length, if◌then◌else◌, ap, sym, rules}
 use Rattle.std.specs.List.{list_all}
-use Rattle.path_annotate.specs.Roots.{Roots, root_at, are_same}
+use Rattle.bloom_forms.specs.Roots.{Roots, root_at, are_same}
 use Rattle.path_facts.proofs.RootsLemmas.{agreed_by}
 use Rattle.path_facts.proofs.roots.agreed_root.Goals as goal
 

@@ -1,6 +1,6 @@
 use Rattle.std.proofs.Common.{◌≡◌, map, drop}
-use Rattle.bloom_ast.specs.Reads.{with_all}
-use Rattle.path_annotate.specs.Gates.{root_set, pair_root, pairs_set}
+use Rattle.blz_value.specs.Arrows.{with_all}
+use Rattle.bloom_forms.specs.Gates.{root_set, pair_root, pairs_set}
 use Rattle.path_facts.proofs.roots.pairs_set.Given as goal
 
 abbrev pub invariant-loop-pair : goal.invariant-loop-pair

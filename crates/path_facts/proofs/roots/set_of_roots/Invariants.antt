@@ -1,6 +1,6 @@
 use Rattle.std.proofs.Common.{◌≡◌, map, drop}
-use Rattle.bloom_ast.specs.Reads.{with_all}
-use Rattle.path_annotate.specs.Gates.{root_set, set_of_roots}
+use Rattle.blz_value.specs.Arrows.{with_all}
+use Rattle.bloom_forms.specs.Gates.{root_set, set_of_roots}
 use Rattle.path_facts.proofs.roots.set_of_roots.Given as goal
 
 abbrev pub invariant-loop-root : goal.invariant-loop-root

@@ -1,7 +1,7 @@
 use Rattle.std.proofs.Common.{◌≡◌, replicate}
 use Rattle.std.specs.List.{flat_map}
-use Rattle.topo_types.specs.Sets.{below}
-use Rattle.topo_types.specs.View.{replicas_of}
+use Rattle.blz_value.specs.NumberSets.{below}
+use Rattle.topo_forms.specs.View.{replicas_of}
 use Rattle.sched_bench.proofs.bench.components_of_instances.Given as goal
 
 abbrev pub invariant-loop-component : goal.invariant-loop-component

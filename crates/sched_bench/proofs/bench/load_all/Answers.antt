@@ -1,9 +1,9 @@
 use Rattle.std.proofs.Common.{◌∙◌, get_or, map, Some, ap}
 use Rattle.std.specs.Option.{option_map}
 use Rattle.blz_value.proofs.Membership.{Has-get_or}
-use Rattle.blz_boxes.specs.Kind.{kind_of}
-use Rattle.blz_boxes.specs.Step.{nothing_kept}
-use Rattle.topo_types.specs.View.{program_of}
+use Rattle.bloom_eval.specs.Kind.{kind_of}
+use Rattle.bloom_eval.specs.Step.{nothing_kept}
+use Rattle.topo_forms.specs.View.{program_of}
 use Rattle.sched_bench.proofs.TakingLemmas.{kind_by_place, as_many, one_more, all_done}
 use Rattle.sched_bench.proofs.bench.load_all.Goals as goal
 

@@ -1,6 +1,6 @@
 use Rattle.std.proofs.Common.{◌≡◌, map, take}
-use Rattle.blz_boxes.specs.Step.{nothing_kept}
-use Rattle.topo_types.specs.View.{program_of}
+use Rattle.bloom_eval.specs.Step.{nothing_kept}
+use Rattle.topo_forms.specs.View.{program_of}
 use Rattle.sched_bench.proofs.bench.load_all.Given as goal
 
 abbrev pub invariant-loop-i : goal.invariant-loop-i

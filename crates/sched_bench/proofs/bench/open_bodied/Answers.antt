@@ -1,7 +1,7 @@
 use Rattle.std.proofs.Common.{◌∙◌, ap, map, subst, List, ℕ}
 use Rattle.blz_value.specs.Members.{Has}
-use Rattle.blz_boxes.specs.Step.{nothing_kept}
-use Rattle.topo_types.specs.View.{program_of}
+use Rattle.bloom_eval.specs.Step.{nothing_kept}
+use Rattle.topo_forms.specs.View.{program_of}
 use Rattle.sched_bench.proofs.TakingLemmas.{instances_there, all_have_bodies}
 use Rattle.sched_bench.proofs.bench.open_bodied.Goals as goal
 

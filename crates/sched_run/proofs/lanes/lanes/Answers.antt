@@ -1,7 +1,7 @@
 use Rattle.std.proofs.Common.{◌∙◌, ◌++◌, sym, ap, arith}
 use Rattle.std.specs.List.{flat_map}
 use Rattle.inbox.specs.Wiring.{wiring_of}
-use Rattle.topo_types.specs.View.{ends_of}
+use Rattle.topo_forms.specs.View.{ends_of}
 use Rattle.sched_run.specs.Made.{lanes_at}
 use Rattle.sched_run.proofs.LanesLemmas.{streams_more, all_lanes_end}
 use Rattle.sched_run.proofs.lanes.lanes.Goals as goal

@@ -1,10 +1,10 @@
 use Rattle.std.proofs.Common.{◌≡◌, ◌∙◌, ◌++◌, ◌+◌, ◌∷◌, ℕ, true, false, [], map, take, sym, ap, arith}
-use Rattle.topo_types.specs.Feeds.{Feed}
+use Rattle.topo_forms.specs.Feeds.{Feed}
 use Rattle.sched_run.specs.Made.{comes_at, feeds_here}
 use Rattle.sched_run.specs.declared.lanes.Lane.{Lane}
 use Rattle.sched_run.specs.declared.lanes.Lane.TheVariants.{Deliver}
 use Rattle.sched_run.proofs.LanesLemmas.{all_here, behind_more, behind_same, here_more, instance_end}
-use Rattle.sched_run.proofs.LeftSeen.{few_found, few_ports, feeds_found}
+use Rattle.sched_net.proofs.LeftSeen.{few_found, few_ports, feeds_found}
 use Rattle.sched_run.proofs.lanes.push_deliveries.Goals as goal
 use Rattle.sched_run.proofs.lanes.push_deliveries.Goals.{then-comes_at+in_ok-push, else-comes_at}
 

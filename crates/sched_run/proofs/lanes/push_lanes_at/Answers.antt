@@ -1,7 +1,7 @@
 use Rattle.std.proofs.Common.{◌≡◌, ◌∙◌, ◌++◌, sym, subst, ap, arith}
 use Rattle.std.specs.Prelude.{OnOk}
 use Rattle.std.specs.List.{flat_map}
-use Rattle.topo_types.specs.Sets.{below}
+use Rattle.blz_value.specs.NumberSets.{below}
 use Rattle.inbox.specs.Wiring.{wiring_of}
 use Rattle.inbox.proofs.Ranges.{flat_below_more}
 use Rattle.sched_run.specs.Made.{instance_lanes}

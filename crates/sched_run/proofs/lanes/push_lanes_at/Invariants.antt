@@ -1,7 +1,7 @@
 -- the lanes of the replicas so far
 use Rattle.std.proofs.Common.{◌≡◌, ◌++◌}
 use Rattle.std.specs.List.{flat_map}
-use Rattle.topo_types.specs.Sets.{below}
+use Rattle.blz_value.specs.NumberSets.{below}
 use Rattle.inbox.specs.Wiring.{wiring_of}
 use Rattle.sched_run.specs.Made.{instance_lanes}
 use Rattle.sched_run.proofs.lanes.push_lanes_at.Given as goal

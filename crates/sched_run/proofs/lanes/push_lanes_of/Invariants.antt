@@ -1,7 +1,7 @@
 -- the lanes of the ends so far
 use Rattle.std.proofs.Common.{◌≡◌, ◌++◌, take}
 use Rattle.std.specs.List.{flat_map}
-use Rattle.topo_types.specs.View.{ends_of}
+use Rattle.topo_forms.specs.View.{ends_of}
 use Rattle.inbox.specs.Wiring.{wiring_of}
 use Rattle.sched_run.specs.Made.{lanes_at}
 use Rattle.sched_run.proofs.lanes.push_lanes_of.Given as goal

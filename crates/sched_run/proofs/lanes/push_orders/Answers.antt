@@ -1,10 +1,10 @@
 use Rattle.std.proofs.Common.{◌≡◌, ◌∙◌, ◌++◌, ◌+◌, ◌∷◌, ℕ, true, false, [], map, take, sym, ap, arith}
-use Rattle.topo_types.specs.Feeds.{Feed}
+use Rattle.topo_forms.specs.Feeds.{Feed}
 use Rattle.sched_run.specs.Made.{comes_at, feeds_here}
 use Rattle.sched_run.specs.declared.lanes.Lane.{Lane}
 use Rattle.sched_run.specs.declared.lanes.Lane.TheVariants.{Order}
 use Rattle.sched_run.proofs.LanesLemmas.{all_here, behind_more, behind_same, here_more, log_end}
-use Rattle.sched_run.proofs.LeftSeen.{feeds_found}
+use Rattle.sched_net.proofs.LeftSeen.{feeds_found}
 use Rattle.sched_run.proofs.lanes.push_orders.Goals as goal
 use Rattle.sched_run.proofs.lanes.push_orders.Goals.{then-comes_at+in_ok-push, else-comes_at}
 

@@ -1,5 +1,5 @@
 use Rattle.std.proofs.Common.{◌∙◌, ◌++◌, ◌∷◌, [], map, sym, ap, arith}
-use Rattle.topo_types.specs.Sets.{below}
+use Rattle.blz_value.specs.NumberSets.{below}
 use Rattle.inbox.proofs.Ranges.{map_below_more}
 use Rattle.sched_run.specs.declared.lanes.Taker.{Taker}
 use Rattle.sched_run.proofs.LanesLemmas.{takers_end, none_end, behind_more}

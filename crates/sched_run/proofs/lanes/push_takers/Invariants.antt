@@ -1,6 +1,6 @@
 -- the replicas so far
 use Rattle.std.proofs.Common.{◌≡◌, ◌++◌, map}
-use Rattle.topo_types.specs.Sets.{below}
+use Rattle.blz_value.specs.NumberSets.{below}
 use Rattle.sched_run.proofs.lanes.push_takers.Given as goal
 
 abbrev pub invariant-loop-replica : goal.invariant-loop-replica

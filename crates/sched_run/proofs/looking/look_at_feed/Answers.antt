@@ -1,6 +1,6 @@
 use Rattle.std.proofs.Common.{◌∙◌, ap, refl, length}
-use Rattle.topo_types.specs.Feeds.{Feed}
-use Rattle.sched_hear.specs.Seen.{list_seen}
+use Rattle.topo_forms.specs.Feeds.{Feed}
+use Rattle.sched_net.specs.Seen.{list_seen}
 use Rattle.sched_run.proofs.LookingLemmas.{may_look_heard, looks_heard, on_ok_so}
 use Rattle.sched_run.proofs.looking.look_at_feed.Goals as goal
 

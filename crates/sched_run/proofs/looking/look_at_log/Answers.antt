@@ -1,8 +1,8 @@
 use Rattle.std.proofs.Common.{◌∙◌, ap, refl, length, subst, sym}
-use Rattle.topo_types.specs.Feeds.{Feed}
+use Rattle.topo_forms.specs.Feeds.{Feed}
 use Rattle.sched_turns.specs.Windows.{IsWindow, MayShow, OthersAreOpen}
 use Rattle.sched_run.specs.Code.Looking.{is_unlogged_at}
-use Rattle.sched_hear.specs.Seen.{list_seen}
+use Rattle.sched_net.specs.Seen.{list_seen}
 use Rattle.sched_run.proofs.LookingLemmas.{may_look_logged, looks_logged, on_ok_so}
 use Rattle.sched_run.proofs.looking.look_at_log.Goals as goal
 

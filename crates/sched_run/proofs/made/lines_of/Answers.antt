@@ -1,5 +1,5 @@
 use Rattle.std.proofs.Common.{arith, subst, sym}
-use Rattle.sched_hear.specs.Numbered.{event_by_numbers}
+use Rattle.sched_net.specs.Numbered.{event_by_numbers}
 use Rattle.sched_run.specs.Naming.{HasEventNames}
 use Rattle.sched_run.proofs.WrittenLemmas.{lines_first, lines_more, lines_whole}
 use Rattle.sched_run.proofs.made.lines_of.Goals as goal

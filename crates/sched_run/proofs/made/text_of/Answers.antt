@@ -1,5 +1,5 @@
 use Rattle.std.proofs.Common.{subst, sym}
-use Rattle.sched_hear.specs.Numbered.{event_by_numbers}
+use Rattle.sched_net.specs.Numbered.{event_by_numbers}
 use Rattle.sched_run.specs.Naming.{HasEventNames}
 use Rattle.sched_run.proofs.WrittenLemmas.{text_first, text_more, text_whole}
 use Rattle.sched_run.proofs.made.text_of.Goals as goal

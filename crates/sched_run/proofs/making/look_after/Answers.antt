@@ -1,6 +1,6 @@
 use Rattle.std.proofs.Common.{ℕ}
 use Rattle.std.specs.Prelude.{OnOk}
-use Rattle.sched_hear.specs.Net.{BooksRun}
+use Rattle.sched_net.specs.Net.{BooksRun}
 use Rattle.sched_run.specs.Code.Watch.{IsUntouched, IsWatched, StillShows}
 use Rattle.sched_run.specs.Code.Works.{AreWorksOf, AreShown, HasNames, MayLookAt}
 use Rattle.sched_run.proofs.NetRead.{of_own, of_read}

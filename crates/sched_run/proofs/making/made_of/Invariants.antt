@@ -1,9 +1,9 @@
 -- whatever data the net stood for at first, it has turned; and each turn adds an event at least
 use Rattle.std.proofs.Common.{◌≡◌, ◌-◌, [], map, length}
-use Rattle.topo_types.specs.Data.{Data}
+use Rattle.topo_forms.specs.Data.{Data}
 use Rattle.sched_run.specs.Made.{event_limit}
 use Rattle.sched_run.specs.Code.Making.{HasTurned, IsReady}
-use Rattle.sched_hear.specs.Net.{Stands}
+use Rattle.sched_net.specs.Net.{Stands}
 use Rattle.sched_run.proofs.making.made_of.Given as goal
 
 abbrev pub invariant-loop-making : goal.invariant-loop-making

@@ -1,5 +1,5 @@
 use Rattle.std.specs.Prelude.{IfOk}
-use Rattle.sched_hear.specs.Net.{BooksRun}
+use Rattle.sched_net.specs.Net.{BooksRun}
 use Rattle.sched_run.specs.Code.Watch.{IsWatched}
 use Rattle.sched_run.specs.Code.Works.{AreWorksOf, AreShown}
 use Rattle.sched_run.proofs.NetRead.{of_own, of_read}

@@ -1,7 +1,7 @@
 use Rattle.std.proofs.Common.{◌∙◌, ap}
 use Rattle.sched_text.specs.declared.event.Sent.{Sent}
 use Rattle.inbox.specs.Events.{Part}
-use Rattle.topo_types.specs.View.{port_at}
+use Rattle.topo_forms.specs.View.{port_at}
 use Rattle.sched_run.proofs.NamesLemmas.{deliver_numbered}
 use Rattle.sched_run.proofs.PrintableNames.{printable_message}
 use Rattle.sched_run.proofs.naming.deliver_of.Goals as goal

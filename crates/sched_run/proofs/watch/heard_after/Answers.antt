@@ -1,6 +1,6 @@
 use Rattle.std.proofs.Common.{◌∙◌, ℕ, List, [], ap, get_or, length, subst, arith}
 use Rattle.std.proofs.lemmas.List.{get_or_default}
-use Rattle.topo_types.specs.Feeds.{Feed}
+use Rattle.topo_forms.specs.Feeds.{Feed}
 use Rattle.sched_run.specs.Code.Looking.{IsLane}
 use Rattle.sched_run.specs.Code.Watch.{heard_at}
 use Rattle.sched_run.specs.Code.Works.{HasNames}

@@ -1,8 +1,8 @@
 use Rattle.std.proofs.Common.{◌<◌, ◌+◌, ◌++◌, ◌∷◌, ◌∙◌, ℕ, List, [], length, ap, get_or, set, refl, sym, subst, arith}
 use Rattle.std.proofs.lemmas.List.{get_or_default}
 use Rattle.std.proofs.lemmas.Option.{slice_get_read}
-use Rattle.topo_types.specs.Feeds.{Feed}
-use Rattle.sched_lists.specs.Places.{instance_count}
+use Rattle.topo_forms.specs.Feeds.{Feed}
+use Rattle.inbox.specs.Places.{instance_count}
 use Rattle.sched_run.specs.Code.Looking.{IsLane}
 use Rattle.sched_run.specs.Code.Watch.{AreHeardBelow}
 use Rattle.sched_run.proofs.WatchLemmas.{heard_more, heard_pass, instance_inside}

@@ -1,8 +1,8 @@
 use Rattle.std.proofs.Common.{◌+◌, ◌∙◌, length, ap, refl, sym, subst, arith}
 use Rattle.std.proofs.lemmas.Option.{slice_get_read}
-use Rattle.topo_types.specs.Feeds.{Feed}
-use Rattle.topo_types.specs.View.{origin_of}
-use Rattle.sched_lists.specs.Places.{instance_place}
+use Rattle.topo_forms.specs.Feeds.{Feed}
+use Rattle.topo_forms.specs.View.{origin_of}
+use Rattle.inbox.specs.Places.{instance_place}
 use Rattle.sched_run.specs.Code.Looking.{IsLane}
 use Rattle.sched_run.specs.Code.Watch.{AreReadersBelow}
 use Rattle.sched_run.proofs.WatchLemmas.{readers_more, readers_pass, sender_inside}

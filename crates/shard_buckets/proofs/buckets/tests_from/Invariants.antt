@@ -1,6 +1,6 @@
 use Rattle.std.proofs.Common.{◌≡◌, ◌++◌, map, drop}
-use Rattle.bloom_ast.specs.Form.{formula_of}
-use Rattle.row_laws.specs.Shards.{buckets, buckets_from}
+use Rattle.bloom_forms.specs.Form.{formula_of}
+use Rattle.bloom_forms.specs.Shards.{buckets, buckets_from}
 use Rattle.shard_buckets.proofs.buckets.tests_from.Given as goal
 
 abbrev pub invariant-loop-next : goal.invariant-loop-next

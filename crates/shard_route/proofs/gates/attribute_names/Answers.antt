@@ -1,8 +1,8 @@
 -- The names are distinct, so each is added.
 use Rattle.std.proofs.Common.{◌≡◌, ◌∙◌, [], ap}
 use Rattle.std.proofs.lemmas.Result.{IfOk-weaker}
-use Rattle.topo_types.specs.Attributes.{with_columns}
-use Rattle.topo_copy.proofs.CopiedNames.{copied_names}
+use Rattle.topo_forms.specs.Attributes.{with_columns}
+use Rattle.topo_forms.proofs.CopiedNames.{copied_names}
 use Rattle.shard_route.proofs.gates.attribute_names.Goals as goal
 
 pub returns : goal.returns

@@ -1,8 +1,8 @@
 -- One output whose gate lacks the attribute is enough.
 use Rattle.std.proofs.Common.{◌∙◌, ◌<◌, not, length, arith, sym}
-use Rattle.bloom_ast.specs.Program.{output_columns}
-use Rattle.path_annotate.specs.Annotation.{gate_of_output}
-use Rattle.shard_copies.specs.Sharding.{has_attribute}
+use Rattle.bloom_forms.specs.Program.{output_columns}
+use Rattle.bloom_forms.specs.Annotation.{gate_of_output}
+use Rattle.shard_route.specs.Sharding.{has_attribute}
 use Rattle.shard_route.proofs.Below.{found_below, none_below}
 use Rattle.shard_route.proofs.gates.lacks_in_gate.Goals as goal
 

@@ -1,7 +1,7 @@
 use Rattle.std.proofs.Common.{◌≡◌, not, false}
 use Rattle.std.specs.List.{list_any, range_with_len}
-use Rattle.path_annotate.specs.Annotation.{gate_of_output}
-use Rattle.shard_copies.specs.Sharding.{has_attribute}
+use Rattle.bloom_forms.specs.Annotation.{gate_of_output}
+use Rattle.shard_route.specs.Sharding.{has_attribute}
 use Rattle.shard_route.proofs.gates.lacks_in_gate.Given as goal
 
 abbrev pub invariant-loop-output : goal.invariant-loop-output

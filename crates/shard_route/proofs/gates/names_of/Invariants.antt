@@ -1,5 +1,5 @@
 use Rattle.std.proofs.Common.{◌≡◌, [], drop}
-use Rattle.topo_types.specs.Attributes.{with_columns}
+use Rattle.topo_forms.specs.Attributes.{with_columns}
 use Rattle.shard_route.proofs.gates.names_of.Given as goal
 
 abbrev pub invariant-loop-name : goal.invariant-loop-name

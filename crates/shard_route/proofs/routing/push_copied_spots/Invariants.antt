@@ -1,5 +1,5 @@
 use Rattle.std.proofs.Common.{◌≡◌, ◌++◌, map, take}
-use Rattle.shard_copies.specs.Routing as spec
+use Rattle.shard_route.specs.Routing as spec
 use Rattle.shard_route.proofs.routing.push_copied_spots.Given as goal
 
 abbrev pub invariant-loop-number : goal.invariant-loop-number

@@ -1,5 +1,5 @@
 use Rattle.std.proofs.Common.{◌≡◌, map, take}
-use Rattle.shard_copies.specs.Routing as spec
+use Rattle.shard_route.specs.Routing as spec
 use Rattle.shard_route.proofs.routing.sharded_sources.Given as goal
 
 abbrev pub invariant-loop-source : goal.invariant-loop-source

@@ -1,5 +1,5 @@
 use Rattle.std.proofs.Common.{◌≡◌, ◌++◌, drop}
-use Rattle.shard_copies.specs.Sharding.{files_of}
+use Rattle.shard_route.specs.Sharding.{files_of}
 use Rattle.shard_route.proofs.sharding.files_of.Given as goal
 
 abbrev pub invariant-loop-place : goal.invariant-loop-place

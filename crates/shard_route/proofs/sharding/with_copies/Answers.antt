@@ -1,7 +1,7 @@
 -- The new topology with its modules may be validated.
 use Rattle.std.proofs.Common.{ap}
-use Rattle.topo_types.specs.declared.topology.Topology.{Topology}
-use Rattle.shard_copies.proofs.NewTopology.{allowed_there, each_there}
+use Rattle.topo_forms.specs.declared.topology.Topology.{Topology}
+use Rattle.shard_route.proofs.NewTopology.{allowed_there, each_there}
 use Rattle.shard_route.proofs.sharding.with_copies.Goals as goal
 
 pub faultless-requires-clause-each : goal.faultless-requires-clause-each

@@ -2,10 +2,10 @@
 use Rattle.std.proofs.Common.{◌≡◌, ◌≤◌, ◌∙◌, List, length, map, arith, ap, subst}
 use Rattle.std.proofs.lemmas.List.{length-map}
 use Rattle.blz_value.specs.Members.{Has}
-use Rattle.bloom_ast.specs.Form.{formula_of}
-use Rattle.bloom_ast.specs.Query.{Formula}
+use Rattle.bloom_forms.specs.Form.{formula_of}
+use Rattle.bloom_forms.specs.Query.{Formula}
 use Rattle.shard_buckets.specs.Buckets.{bucket_tests}
-use Rattle.shard_copies.proofs.BucketsLemmas.{are_tests, few_tests}
+use Rattle.shard_route.proofs.BucketsLemmas.{are_tests, few_tests}
 use Rattle.shard_route.proofs.sharding.with_module.Goals as goal
 
 pub with_tests-requires-clause-tests : goal.with_tests-requires-clause-tests

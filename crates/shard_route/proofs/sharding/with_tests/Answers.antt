@@ -1,7 +1,7 @@
 -- There is a number for each copy.
-use Rattle.bloom_ast.specs.Form.{formula_of}
+use Rattle.bloom_forms.specs.Form.{formula_of}
 use Rattle.std.proofs.Common.{length}
-use Rattle.shard_copies.proofs.NewTopology.{as_many, small_numbers}
+use Rattle.shard_route.proofs.NewTopology.{as_many, small_numbers}
 use Rattle.shard_route.proofs.sharding.with_tests.Goals as goal
 
 pub with_copies-requires-clause-numbers : goal.with_copies-requires-clause-numbers

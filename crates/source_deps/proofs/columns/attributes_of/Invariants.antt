@@ -1,6 +1,6 @@
 use Rattle.std.proofs.Common.{◌≡◌, drop, map}
-use Rattle.bloom_ast.specs.Reads.{with_all}
-use Rattle.path_annotate.specs.Gates.{root_set}
+use Rattle.blz_value.specs.Arrows.{with_all}
+use Rattle.bloom_forms.specs.Gates.{root_set}
 use Rattle.source_deps.proofs.columns.attributes_of.Given as goal
 
 -- the set with those of the rest is that of all

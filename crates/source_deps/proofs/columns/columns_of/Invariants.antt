@@ -1,5 +1,5 @@
 use Rattle.std.proofs.Common.{◌≡◌, take}
-use Rattle.topo_types.specs.View.{stream_at}
+use Rattle.topo_forms.specs.View.{stream_at}
 use Rattle.source_deps.proofs.columns.columns_of.Given as goal
 
 abbrev pub invariant-loop-place : goal.invariant-loop-place

@@ -1,7 +1,7 @@
 -- The loop ends at 64, past the last member.
 use Rattle.std.proofs.Common.{◌≡◌, ℕ, filter, arith, ap, ◌∙◌}
 use Rattle.std.specs.List.{range_with_len}
-use Rattle.fd_closure.specs.Bits.{bit_of, meets}
+use Rattle.blz_value.specs.Bits.{bit_of, meets}
 use Rattle.source_deps.proofs.columns.members_of.Goals as goal
 
 pub returns : goal.returns

@@ -1,7 +1,7 @@
 -- the members so far
 use Rattle.std.proofs.Common.{◌≡◌, filter}
 use Rattle.std.specs.List.{range_with_len}
-use Rattle.fd_closure.specs.Bits.{bit_of, meets}
+use Rattle.blz_value.specs.Bits.{bit_of, meets}
 use Rattle.source_deps.proofs.columns.members_of.Given as goal
 
 abbrev pub invariant-loop-attribute : goal.invariant-loop-attribute

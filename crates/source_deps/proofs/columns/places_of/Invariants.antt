@@ -1,5 +1,5 @@
 use Rattle.std.proofs.Common.{◌≡◌, map, take}
-use Rattle.topo_types.specs.Data.{place_of_attribute}
+use Rattle.topo_forms.specs.Data.{place_of_attribute}
 use Rattle.source_deps.proofs.columns.places_of.Given as goal
 
 abbrev pub invariant-loop-attribute : goal.invariant-loop-attribute

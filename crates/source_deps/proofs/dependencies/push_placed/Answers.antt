@@ -1,6 +1,6 @@
 use Rattle.std.proofs.Common.{rules, ◌≡◌, true}
-use Rattle.topo_types.specs.Data.{has_both, key_places}
-use Rattle.topo_types.specs.View.{stream_at, stream_attrs}
+use Rattle.topo_forms.specs.Data.{has_both, key_places}
+use Rattle.topo_forms.specs.View.{stream_at, stream_attrs}
 use Rattle.source_deps.proofs.PairLemmas.{placed_more, sides_here}
 use Rattle.source_deps.proofs.dependencies.push_placed.Goals as goal
 

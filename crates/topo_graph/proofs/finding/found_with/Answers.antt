@@ -1,16 +1,16 @@
 use Rattle.std.proofs.Common.{◌≡◌, map, length, ◌∙◌}
 use Rattle.std.specs.List.{enumerate_from}
-use Rattle.topo_types.specs.Carried.{carries}
-use Rattle.topo_types.specs.Found.{into_ports, usable_at}
+use Rattle.topo_forms.specs.Carried.{carries}
+use Rattle.topo_forms.specs.Found.{into_ports, usable_at}
 use Rattle.topo_graph.specs.Code.Lines.{all_into, lines_by, upholders_by, good_set, usable_by}
 use Rattle.topo_graph.specs.Code.Paths.{paths_by}
-use Rattle.topo_reach.specs.Carried.{carried_by}
+use Rattle.blz_value.specs.Carried.{carried_by}
 use Rattle.topo_graph.specs.Code.Ports.{all_rows}
-use Rattle.topo_types.specs.Dependencies.{upholders}
-use Rattle.topo_types.specs.Kept.{view_kept}
-use Rattle.topo_types.specs.Regions.{regions, region_of, is_cyclic}
-use Rattle.topo_types.specs.Sets.{below}
-use Rattle.topo_types.specs.View.{component_numbers, stream_numbers}
+use Rattle.topo_forms.specs.Dependencies.{upholders}
+use Rattle.topo_forms.specs.Kept.{view_kept}
+use Rattle.topo_forms.specs.Regions.{regions, region_of, is_cyclic}
+use Rattle.blz_value.specs.NumberSets.{below}
+use Rattle.topo_forms.specs.View.{component_numbers, stream_numbers}
 use Rattle.topo_graph.proofs.AllFound.{upheld_found, usable_found, carried_found}
 use Rattle.topo_graph.proofs.PortsFound.{rows_found}
 use Rattle.topo_graph.proofs.finding.found_with.Goals as goal

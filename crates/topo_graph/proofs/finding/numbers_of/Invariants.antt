@@ -1,6 +1,6 @@
 use Rattle.std.proofs.Common.{◌≡◌, map}
 use Rattle.std.specs.List.{range_with_len, position_or_len}
-use Rattle.topo_types.specs.Graph.{is_in}
+use Rattle.blz_value.specs.Graph.{is_in}
 use Rattle.topo_graph.proofs.finding.numbers_of.Given as goal
 
 abbrev pub invariant-loop-component : goal.invariant-loop-component

@@ -1,11 +1,11 @@
 use Rattle.std.proofs.Common.{◌≡◌, ◌≤◌, map, length, ℕ, List, refl, arith, ap, sym, ◌∙◌}
 use Rattle.std.specs.List.{position_or_len}
 use Rattle.topo_graph.specs.Code.Feeders.{all_feeders}
-use Rattle.topo_reach.specs.Regions.{sets_by, regions_by, is_cyclic_by}
-use Rattle.topo_types.specs.Graph.{is_in}
-use Rattle.topo_types.specs.Kept.{view_kept}
-use Rattle.topo_types.specs.Regions.{regions}
-use Rattle.topo_types.specs.Sets.{below}
+use Rattle.blz_value.specs.Regions.{sets_by, regions_by, is_cyclic_by}
+use Rattle.blz_value.specs.Graph.{is_in}
+use Rattle.topo_forms.specs.Kept.{view_kept}
+use Rattle.topo_forms.specs.Regions.{regions}
+use Rattle.blz_value.specs.NumberSets.{below}
 use Rattle.topo_graph.proofs.RegionsFound.{few_found, regions_found, cycles_found, numbers_found}
 use Rattle.topo_graph.proofs.finding.regions_of.Goals as goal
 

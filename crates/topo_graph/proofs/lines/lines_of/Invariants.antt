@@ -1,7 +1,7 @@
 use Rattle.std.proofs.Common.{◌≡◌, map}
 use Rattle.std.specs.List.{range_with_len}
 use Rattle.topo_graph.specs.Code.Lines.{line_by}
-use Rattle.topo_types.specs.Kept.{view_kept}
+use Rattle.topo_forms.specs.Kept.{view_kept}
 use Rattle.topo_graph.proofs.lines.lines_of.Given as goal
 
 abbrev pub invariant-loop-stream : goal.invariant-loop-stream

@@ -1,5 +1,5 @@
 use Rattle.std.proofs.Common.{◌≡◌, drop}
-use Rattle.bloom_ast.specs.Reads.{with_all}
+use Rattle.blz_value.specs.Arrows.{with_all}
 use Rattle.topo_graph.specs.Code.Ports.{set_of_port, sets_into}
 use Rattle.topo_graph.proofs.ports.set_of_port.Given as goal
 

@@ -1,7 +1,7 @@
 -- What format 1 allows format 2 allows.
 use Rattle.std.proofs.Common.{subst, sym, ◌∙◌}
-use Rattle.topo_types.specs.declared.topology.Topology.{Topology}
-use Rattle.topo_types.specs.Allowed.{IsAllowed}
+use Rattle.topo_forms.specs.declared.topology.Topology.{Topology}
+use Rattle.topo_forms.specs.Allowed.{IsAllowed}
 use Rattle.topo_read.proofs.AllowedTwo.{allowed_two}
 use Rattle.topo_read.proofs.writing.topology_of.Goals as goal
 

@@ -1,5 +1,5 @@
 use Rattle.std.proofs.Common.{◌∙◌, arith}
-use Rattle.topo_types.specs.View.{stream_replicas}
+use Rattle.topo_forms.specs.View.{stream_replicas}
 use Rattle.inbox.specs.Executions.{contents}
 use Rattle.inbox.specs.Wiring.{wiring_of}
 use Rattle.witness_check.proofs.Readings.{one_more, all_of, contents_read}

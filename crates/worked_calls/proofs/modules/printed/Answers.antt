@@ -1,5 +1,5 @@
 use Rattle.std.proofs.Common.{◌∙◌, ap}
-use Rattle.bloom_ast.specs.Form.{form_of}
+use Rattle.bloom_forms.specs.Form.{form_of}
 use Rattle.bloom_parse.specs.Layout.{printed as text_of}
 use Rattle.worked_calls.proofs.modules.printed.Goals as goal
 

@@ -1,5 +1,5 @@
 use Rattle.std.proofs.Common.{ap, map}
-use Rattle.topo_types.specs.Valid.{Validated}
+use Rattle.topo_forms.specs.Valid.{Validated}
 use Rattle.worked_calls.proofs.NetRuns.{first_runs}
 use Rattle.worked_calls.proofs.nets.opened_shown.Goals as goal
 

@@ -1,5 +1,5 @@
 use Rattle.std.proofs.Common.{◌≡◌, ◌∙◌, ◌+◌, suc, slice_set, arith, ap}
-use Rattle.bloom_ast.specs.Step.{Sets}
+use Rattle.bloom_forms.specs.Step.{Sets}
 use Rattle.bloom_eval.proofs.Emptied.{emptied, one_more}
 use Rattle.bloom_eval.proofs.sets.Kept.clear.Goals as goal
 

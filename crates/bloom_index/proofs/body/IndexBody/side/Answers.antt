@@ -1,6 +1,6 @@
 use Rattle.std.proofs.Common.{◌<◌, ◌∙◌, Bool, Option, Some, List, length, ap, sym, subst, arith}
-use Rattle.bloom_ast.specs.declared.program.Program.TheVariants.{Module}
-use Rattle.bloom_ast.specs.ProgramStep.{empty_tables}
+use Rattle.bloom_forms.specs.declared.program.Program.TheVariants.{Module}
+use Rattle.bloom_forms.specs.ProgramStep.{empty_tables}
 use Rattle.bloom_index.specs.declared.step.Parts.{Parts}
 use Rattle.bloom_index.specs.Sides.{side_rows}
 use Rattle.bloom_index.specs.Code.Kept.{tables_in, held_over, kept_tables, PartsStand, KeptStands}

@@ -1,6 +1,6 @@
 use Rattle.std.proofs.Common.{◌≡◌, Err, refl}
-use Rattle.bloom_ast.specs.Form.{Accepted}
-use Rattle.bloom_ast.specs.Step.{Sets, tables_after}
+use Rattle.bloom_forms.specs.Form.{Accepted}
+use Rattle.bloom_forms.specs.Step.{Sets, tables_after}
 use Rattle.bloom_eval.specs.declared.fault.StepFault.TheVariants.{TooManyRows}
 use Rattle.bloom_eval.specs.StepAnswers.{AllFit, SomeIsOver, counted_sets}
 use Rattle.bloom_index.specs.Code.Kept.{tables_in, kept_tables, PutsOut}

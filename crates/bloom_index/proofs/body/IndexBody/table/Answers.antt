@@ -1,11 +1,11 @@
 use Rattle.std.proofs.Common.{◌≡◌, ◌<◌, ◌∙◌, Option, Some, List, [], length, IfOk, ap, sym, subst, arith}
 use Rattle.std.proofs.lemmas.List.{get_or_default}
 use Rattle.blz_value.specs.Record.{Row}
-use Rattle.bloom_ast.specs.declared.module.Kind.TheVariants.{Table}
-use Rattle.bloom_ast.specs.declared.module.Collection.{Collection}
-use Rattle.bloom_ast.specs.Form.{Form}
-use Rattle.bloom_ast.specs.Kinds.{of_kind, kind_at, place_in_kind}
-use Rattle.bloom_ast.specs.Step.{set_at}
+use Rattle.bloom_forms.specs.declared.module.Kind.TheVariants.{Table}
+use Rattle.bloom_forms.specs.declared.module.Collection.{Collection}
+use Rattle.bloom_forms.specs.Form.{Form}
+use Rattle.bloom_forms.specs.Kinds.{of_kind, kind_at, place_in_kind}
+use Rattle.bloom_forms.specs.Step.{set_at}
 use Rattle.bloom_index.specs.declared.step.Parts.{Parts}
 use Rattle.bloom_index.specs.Code.Kept.{tables_in, kept_tables, PartsStand, KeptStands}
 use Rattle.bloom_index.proofs.BodyLemmas.{table_within, table_rows, no_table}

@@ -1,9 +1,9 @@
 use Rattle.std.proofs.Common.{◌≡◌, [], Option, Err, OnOk, sym, subst}
 use Rattle.std.specs.Option.{option_map, option_map_or}
-use Rattle.bloom_ast.specs.declared.program.Program.TheVariants.{Module as ModuleProgram}
+use Rattle.bloom_forms.specs.declared.program.Program.TheVariants.{Module as ModuleProgram}
 use Rattle.bloom_eval.specs.declared.fault.StepFault.TheVariants.{TooManyRows}
 use Rattle.bloom_eval.specs.StepAnswers.{AllFit, SomeIsOver}
-use Rattle.blz_boxes.specs.Step.{counted_next}
+use Rattle.bloom_eval.specs.Step.{counted_next}
 use Rattle.bloom_index.specs.declared.body.IndexBody.{IndexBody}
 use Rattle.bloom_index.specs.Code.Kept.{kept_tables}
 use Rattle.bloom_index.proofs.shell.IndexShellComponent.step.Goals as goal

@@ -2,10 +2,10 @@
 use Rattle.std.proofs.Common.{ℕ, List, Ok, Bor, ap, sym, ◌∙◌}
 use Rattle.std.specs.Global.{Box}
 use Rattle.std.specs.Prelude.{Result}
-use Rattle.bloom_ast.specs.Form.{query_of}
-use Rattle.bloom_ast.specs.Query.{Name, Query}
-use Rattle.bloom_ast.specs.Query.Query.{base}
-use Rattle.bloom_ast.specs.declared.expr.Expr.{Expr}
+use Rattle.bloom_forms.specs.Form.{query_of}
+use Rattle.bloom_forms.specs.Query.{Name, Query}
+use Rattle.bloom_forms.specs.Query.Query.{base}
+use Rattle.bloom_forms.specs.declared.expr.Expr.{Expr}
 use Rattle.bloom_parse.specs.declared.lexing.terminal.Terminal.{Terminal}
 use Rattle.bloom_parse.specs.declared.reading.read_fault.ReadFault.TheVariants.{NoMemory}
 use Rattle.bloom_parse.specs.Code.ReadingExprs.{base_at}

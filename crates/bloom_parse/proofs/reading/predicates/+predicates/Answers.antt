@@ -1,6 +1,6 @@
 use Rattle.std.proofs.Common.{rules}
 use Rattle.std.specs.Option.{option_map}
-use Rattle.bloom_ast.specs.Form.{formula_of}
+use Rattle.bloom_forms.specs.Form.{formula_of}
 use Rattle.bloom_parse.specs.Code.ReadingPredicates.{formulas, unit_at}
 use Rattle.bloom_parse.proofs.Grammar.PredicateCorrect.{next_and, next_or}
 use Rattle.bloom_parse.proofs.reading.predicates.+predicates.Goals as goal

@@ -1,7 +1,7 @@
 -- Levels go down, and what is left reads as the whole.
 use Rattle.std.proofs.Common.{◌≡◌, None, ◌+◌, ◌-◌, ◌*◌}
 use Rattle.std.specs.Option.{option_map}
-use Rattle.bloom_ast.specs.Form.{formula_of}
+use Rattle.bloom_forms.specs.Form.{formula_of}
 use Rattle.bloom_parse.specs.Code.ReadingPredicates.{formulas, chain_at, unit_at}
 use Rattle.bloom_parse.proofs.reading.predicates.+predicates.Given as goal
 

@@ -1,9 +1,9 @@
 -- A comparison is what its three parts read, the fault of the first part that fails, or want of memory.
 use Rattle.std.proofs.Common.{ℕ, List, Ok, Bor, ap, sym, ◌∙◌}
 use Rattle.std.specs.Global.{Box}
-use Rattle.bloom_ast.specs.Form.{formula_of}
-use Rattle.bloom_ast.specs.Query.{Formula}
-use Rattle.bloom_ast.specs.declared.expr.Pred.{Pred}
+use Rattle.bloom_forms.specs.Form.{formula_of}
+use Rattle.bloom_forms.specs.Query.{Formula}
+use Rattle.bloom_forms.specs.declared.expr.Pred.{Pred}
 use Rattle.bloom_parse.specs.declared.lexing.terminal.Terminal.{Terminal}
 use Rattle.bloom_parse.specs.declared.reading.read_fault.ReadFault.TheVariants.{NoMemory}
 use Rattle.bloom_parse.specs.Code.ReadingPredicates.{comparison_at}

@@ -1,6 +1,6 @@
 -- what was found, and what the rest gives, are the whole
 use Rattle.std.proofs.Common.{◌≡◌, ◌-◌, length}
-use Rattle.bloom_ast.specs.Form.{rule_forms}
+use Rattle.bloom_forms.specs.Form.{rule_forms}
 use Rattle.bloom_parse.specs.Code.ReadingSingle.{has_name}
 use Rattle.bloom_parse.specs.Code.ReadingLists.{many_at, with_front}
 use Rattle.bloom_parse.specs.Code.ReadingModules.{rule_at, rules_at}

@@ -1,7 +1,7 @@
 use Rattle.std.proofs.Common.{◌≡◌, ◌∙◌, ap, arith, List, length, sym, subst}
 use Rattle.blz_value.specs.Record.{Row}
-use Rattle.bloom_ast.specs.Step.{Sets, set_at}
-use Rattle.bloom_ast.specs.Widths.{AreWide}
+use Rattle.bloom_forms.specs.Step.{Sets, set_at}
+use Rattle.bloom_forms.specs.Widths.{AreWide}
 use Rattle.blz_boxes.specs.Code.KeptRecords.{records_of}
 use Rattle.blz_boxes.proofs.KeptWidths.{first_set, latest_stepped}
 use Rattle.blz_boxes.proofs.latest.LatestBody.step.Goals as goal

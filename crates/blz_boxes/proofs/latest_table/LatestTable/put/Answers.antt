@@ -1,7 +1,7 @@
 use Rattle.std.proofs.Common.{rules, ◌≡◌, ap, length, arith}
 use Rattle.std.specs.BTreeMap.{btree_map_len}
 use Rattle.blz_value.specs.Record.{Row}
-use Rattle.bloom_ast.specs.StockSteps.{latest_kept}
+use Rattle.bloom_forms.specs.StockSteps.{latest_kept}
 use Rattle.blz_boxes.specs.Code.KeptRecords.{records_of}
 use Rattle.blz_boxes.proofs.Records.{count_records}
 use Rattle.blz_boxes.proofs.latest_table.LatestTable.put.Goals as goal

@@ -1,8 +1,8 @@
 use Rattle.std.proofs.Common.{◌≡◌, ◌∙◌, ap, arith, [], ◌∷◌, List, length, refl, sym, subst}
 use Rattle.std.specs.Prelude.{codes}
 use Rattle.blz_value.specs.Record.{Row}
-use Rattle.bloom_ast.specs.Step.{Sets, set_at}
-use Rattle.bloom_ast.specs.Widths.{AreWide}
+use Rattle.bloom_forms.specs.Step.{Sets, set_at}
+use Rattle.bloom_forms.specs.Widths.{AreWide}
 use Rattle.blz_boxes.specs.Code.Numbers.{numbered_records}
 use Rattle.blz_boxes.proofs.KeptWidths.{first_set, number_stepped}
 use Rattle.blz_boxes.proofs.number.NumberBody.step.Goals as goal

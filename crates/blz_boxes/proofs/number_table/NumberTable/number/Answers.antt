@@ -5,7 +5,7 @@ use Rattle.blz_value.specs.Members.{Has}
 use Rattle.blz_value.specs.Record.{Row, record_cmp}
 use Rattle.blz_value.specs.Sets.{set_of, IsRowSet}
 use Rattle.blz_set.specs.References.{shown}
-use Rattle.bloom_ast.specs.StockSteps.{numbered, number_kept}
+use Rattle.bloom_forms.specs.StockSteps.{numbered, number_kept}
 use Rattle.blz_boxes.specs.Code.Numbers.{numbered_records}
 use Rattle.blz_boxes.proofs.NumberRows.{fresh_sorted, fresh_absent, numbered_by, count_kept, over_from, out_within}
 use Rattle.blz_boxes.proofs.number_table.NumberTable.number.Goals as goal

@@ -1,8 +1,8 @@
 use Rattle.std.proofs.Common.{◌∙◌, sym, subst}
-use Rattle.bloom_ast.specs.declared.module.Kind.TheVariants.{Table}
-use Rattle.bloom_ast.specs.Program.{columns_of_kind}
-use Rattle.bloom_ast.specs.Step.{Sets}
-use Rattle.bloom_ast.specs.Widths.{AreSetsOf}
+use Rattle.bloom_forms.specs.declared.module.Kind.TheVariants.{Table}
+use Rattle.bloom_forms.specs.Program.{columns_of_kind}
+use Rattle.bloom_forms.specs.Step.{Sets}
+use Rattle.bloom_forms.specs.Widths.{AreSetsOf}
 use Rattle.blz_boxes.proofs.Tables.{emptied_same, empties_wide}
 use Rattle.blz_boxes.proofs.plain.PlainBody.clear.Goals as goal
 

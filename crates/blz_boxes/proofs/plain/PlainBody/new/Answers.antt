@@ -1,10 +1,10 @@
 use Rattle.std.proofs.Common.{◌≡◌, ◌∙◌, List, ap, sym, subst}
-use Rattle.bloom_ast.specs.declared.module.Kind.TheVariants.{Table}
-use Rattle.bloom_ast.specs.declared.module.Collection.{Collection}
-use Rattle.bloom_ast.specs.Form.{Form, Accepted}
-use Rattle.bloom_ast.specs.Program.{columns_of_kind}
-use Rattle.bloom_ast.specs.Step.{Sets}
-use Rattle.bloom_ast.specs.Widths.{AreSetsOf}
+use Rattle.bloom_forms.specs.declared.module.Kind.TheVariants.{Table}
+use Rattle.bloom_forms.specs.declared.module.Collection.{Collection}
+use Rattle.bloom_forms.specs.Form.{Form, Accepted}
+use Rattle.bloom_forms.specs.Program.{columns_of_kind}
+use Rattle.bloom_forms.specs.Step.{Sets}
+use Rattle.bloom_forms.specs.Widths.{AreSetsOf}
 use Rattle.blz_boxes.proofs.Tables.{empties, empties_wide}
 use Rattle.blz_boxes.proofs.plain.PlainBody.new.Goals as goal
 

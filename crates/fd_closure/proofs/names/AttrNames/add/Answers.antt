@@ -1,7 +1,7 @@
 use Rattle.std.proofs.Common.{◌≡◌, ◌≢◌, ◌++◌, [], ◌∷◌, length, None, rules}
 use Rattle.blz_value.specs.Members.{Has}
-use Rattle.fd_closure.specs.Names.{place_of}
-use Rattle.fd_closure.proofs.Places.{place_of-last, slice_get-last, IsNameList-push}
+use Rattle.blz_value.specs.Names.{place_of}
+use Rattle.blz_value.proofs.Places.{place_of-last, slice_get-last, IsNameList-push}
 use Rattle.fd_closure.proofs.names.AttrNames.add.Goals as goal
 
 pub invariant_of-self-2 : goal.invariant_of-self-2

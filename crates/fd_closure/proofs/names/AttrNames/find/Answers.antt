@@ -1,6 +1,6 @@
 use Rattle.std.proofs.Common.{◌≡◌, rules}
-use Rattle.fd_closure.specs.Names.{place_of}
-use Rattle.fd_closure.proofs.Places.{place_of-get, place_of-none, place_of-new}
+use Rattle.blz_value.specs.Names.{place_of}
+use Rattle.blz_value.proofs.Places.{place_of-get, place_of-none, place_of-new}
 use Rattle.fd_closure.proofs.names.AttrNames.find.Goals as goal
 
 pub returns-clause-place : goal.returns-clause-place

@@ -1,5 +1,5 @@
 use Rattle.std.proofs.Common.{◌∙◌, ◌++◌, ap, List}
-use Rattle.partitions.specs.Whole.{feeds_view}
+use Rattle.messages.specs.Whole.{feeds_view}
 use Rattle.messages.specs.Log.{EntryId}
 use Rattle.inbox.specs.Code.Batches.{goes_in}
 use Rattle.inbox.proofs.Keeping.Loops.{going_step}

@@ -1,6 +1,6 @@
 -- those of the messages so far
 use Rattle.std.proofs.Common.{◌≡◌, filter, take}
-use Rattle.partitions.specs.Whole.{feeds_view}
+use Rattle.messages.specs.Whole.{feeds_view}
 use Rattle.inbox.specs.Code.Batches.{goes_in, entry_ids_of}
 use Rattle.inbox.proofs.inbox.Inbox.going.Given as goal
 

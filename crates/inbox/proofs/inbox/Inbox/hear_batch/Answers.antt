@@ -2,15 +2,15 @@ use Rattle.std.proofs.Common.{◌<◌, ◌∙◌, ◌++◌, List, [], cond, ap, 
 use Rattle.blz_value.specs.Members.{Has}
 use Rattle.blz_value.specs.Record.{Row}
 use Rattle.blz_value.proofs.Membership.{All-of_member}
-use Rattle.bloom_ast.specs.Step.{Sets}
+use Rattle.bloom_forms.specs.Step.{Sets}
 use Rattle.messages.specs.Ids.{IsGiven}
 use Rattle.inbox.specs.Inbox.{HasHeard}
 use Rattle.inbox.specs.Instances.{Instance}
 use Rattle.messages.specs.Log.{EntryId}
 use Rattle.messages.specs.Messages.{Batch}
 use Rattle.inbox.specs.Code.Batches.{Releases}
-use Rattle.partitions.specs.Whole.{feeds_view}
-use Rattle.partitions.specs.Feeds.{feed_count}
+use Rattle.messages.specs.Whole.{feeds_view}
+use Rattle.messages.specs.Feeds.{feed_count}
 use Rattle.inbox.proofs.Keeping.Hears.{Heard, HearsBatch, hears_all}
 use Rattle.inbox.proofs.inbox.Inbox.hear_batch.Goals.{In_ok-push_some}
 use Rattle.inbox.proofs.inbox.Inbox.hear_batch.Goals as goal

@@ -1,6 +1,6 @@
 use Rattle.std.proofs.Common.{◌++◌, ◌∷◌, [], subst}
 use Rattle.blz_value.specs.Record.{Row}
-use Rattle.topo_types.specs.Messages.{seal}
+use Rattle.topo_forms.specs.Messages.{seal}
 use Rattle.inbox.specs.Inbox.{Keeps}
 use Rattle.inbox.proofs.inbox.Inbox.hear_one.Goals as goal
 

@@ -1,4 +1,4 @@
-use Rattle.partitions.specs.Whole.{feeds_view}
+use Rattle.messages.specs.Whole.{feeds_view}
 use Rattle.inbox.proofs.Keeping.Batches.{keeps-row, from-record, count-if}
 use Rattle.inbox.proofs.inbox.Inbox.hear_record.Goals as goal
 

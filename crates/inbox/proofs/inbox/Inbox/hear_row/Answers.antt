@@ -2,8 +2,8 @@ use Rattle.std.proofs.Common.{◌∙◌, ap, sym, subst, Option, ℕ, []}
 use Rattle.std.proofs.lemmas.Option.{get_or_from_slice_get}
 use Rattle.blz_value.specs.Record.{Row}
 use Rattle.inbox.specs.Code.Batches.{is_open}
-use Rattle.partitions.specs.Whole.{feeds_view}
-use Rattle.partitions.specs.Feeds.{key_in, port_in}
+use Rattle.messages.specs.Whole.{feeds_view}
+use Rattle.messages.specs.Feeds.{key_in, port_in}
 use Rattle.messages.specs.Log.{row_with_id}
 use Rattle.inbox.specs.Code.Waiting.{KeepsEntry}
 use Rattle.inbox.proofs.Keeping.Batches.{hears_record}

@@ -1,5 +1,5 @@
 use Rattle.std.proofs.Common.{refl}
-use Rattle.partitions.specs.Whole.{feeds_view}
+use Rattle.messages.specs.Whole.{feeds_view}
 use Rattle.inbox.proofs.Keeping.Batches.{keeps-seal, count-one}
 use Rattle.inbox.proofs.inbox.Inbox.hear_seal.Goals as goal
 

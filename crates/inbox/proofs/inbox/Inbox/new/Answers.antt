@@ -1,8 +1,8 @@
 use Rattle.std.proofs.Common.{◌≡◌, ◌∙◌, ℕ, suc, List, [], ◌∷◌, ap, cond, refl, false, length, map}
-use Rattle.topo_types.specs.Feeds.{Feed, feeds, log_feeds}
-use Rattle.topo_types.specs.View.{View, is_order, mode_key, port_numbers}
+use Rattle.topo_forms.specs.Feeds.{Feed, feeds, log_feeds}
+use Rattle.topo_forms.specs.View.{View, is_order, mode_key, port_numbers}
 use Rattle.inbox.specs.Code.Heard.{is_sealing}
-use Rattle.partitions.specs.Ports.{port_keys}
+use Rattle.messages.specs.Ports.{port_keys}
 use Rattle.inbox.specs.Wiring.{port_for, feeds_for}
 use Rattle.inbox.proofs.Keeping.Fresh.{has_none}
 use Rattle.inbox.proofs.inbox.Inbox.new.Goals as goal

@@ -2,7 +2,7 @@
 use Rattle.std.proofs.Common.{◌≡◌, take}
 use Rattle.std.specs.List.{filter_map}
 use Rattle.blz_value.specs.Sets.{set_of}
-use Rattle.partitions.specs.Whole.{feeds_view}
+use Rattle.messages.specs.Whole.{feeds_view}
 use Rattle.inbox.specs.Code.Batches.{open_key}
 use Rattle.messages.specs.Ids.{batch_with_ids}
 use Rattle.inbox.proofs.inbox.Inbox.open_keys.Given as goal

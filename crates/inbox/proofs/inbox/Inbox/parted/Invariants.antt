@@ -1,7 +1,7 @@
 -- the entries so far, at carrying ports and at others
 use Rattle.std.proofs.Common.{◌≡◌, not, filter, take}
-use Rattle.partitions.specs.Whole.{feeds_view}
-use Rattle.partitions.specs.Feeds.{carries_in}
+use Rattle.messages.specs.Whole.{feeds_view}
+use Rattle.messages.specs.Feeds.{carries_in}
 use Rattle.inbox.proofs.inbox.Inbox.parted.Given as goal
 
 abbrev pub invariant-loop-entry : goal.invariant-loop-entry

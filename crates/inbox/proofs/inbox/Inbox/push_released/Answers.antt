@@ -1,8 +1,8 @@
 use Rattle.std.proofs.Common.{◌<◌, ◌∙◌, sym, subst, length, not, List}
 use Rattle.std.specs.List.{All}
 use Rattle.messages.specs.Log.{EntryId}
-use Rattle.partitions.specs.Whole.{feeds_view}
-use Rattle.partitions.specs.Feeds.{carries_in}
+use Rattle.messages.specs.Whole.{feeds_view}
+use Rattle.messages.specs.Feeds.{carries_in}
 use Rattle.inbox.proofs.Keeping.Loops.{given_filter}
 use Rattle.inbox.proofs.inbox.Inbox.push_released.Goals as goal
 

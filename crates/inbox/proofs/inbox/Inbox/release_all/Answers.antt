@@ -1,7 +1,7 @@
 use Rattle.std.proofs.Common.{rules, ◌≡◌, ◌<◌, ◌-◌, ◌∙◌, ◌++◌, ◌∷◌, ap, refl, sym, subst, length, ℕ, List}
 use Rattle.std.specs.List.{All}
 use Rattle.messages.specs.Log.{EntryId}
-use Rattle.partitions.specs.Whole.{feeds_view}
+use Rattle.messages.specs.Whole.{feeds_view}
 use Rattle.inbox.specs.Code.Batches.{steps_released}
 use Rattle.inbox.proofs.Keeping.Loops.{given_released, releases_some}
 use Rattle.inbox.proofs.inbox.Inbox.release_all.Goals as goal

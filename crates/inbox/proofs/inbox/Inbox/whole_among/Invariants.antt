@@ -1,7 +1,7 @@
 -- the partitions so far that are whole, and those still to come
 use Rattle.std.proofs.Common.{◌≡◌, ◌++◌, filter}
-use Rattle.partitions.specs.Whole.{feeds_view}
-use Rattle.partitions.specs.Feeds.{is_whole_in}
+use Rattle.messages.specs.Whole.{feeds_view}
+use Rattle.messages.specs.Feeds.{is_whole_in}
 use Rattle.inbox.proofs.inbox.Inbox.whole_among.Given as goal
 
 abbrev pub invariant-loop-key : goal.invariant-loop-key

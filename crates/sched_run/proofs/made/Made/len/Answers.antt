@@ -1,7 +1,7 @@
 use Rattle.std.proofs.Common.{List, length, ap, arith}
 use Rattle.std.proofs.lemmas.List.{length-map}
 use Rattle.inbox.specs.Events.{Event}
-use Rattle.sched_hear.specs.Numbered.{event_by_numbers}
+use Rattle.sched_net.specs.Numbered.{event_by_numbers}
 use Rattle.sched_run.proofs.made.Made.len.Goals as goal
 
 pub returns : goal.returns

@@ -1,5 +1,5 @@
 use Rattle.std.proofs.Common.{map, ap}
-use Rattle.sched_hear.specs.Numbered.{event_by_numbers}
+use Rattle.sched_net.specs.Numbered.{event_by_numbers}
 use Rattle.sched_run.proofs.made.Made.new.Goals as goal
 
 pub returns : goal.returns

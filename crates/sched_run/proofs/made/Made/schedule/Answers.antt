@@ -2,10 +2,11 @@ use Rattle.std.proofs.Common.{List, length, map, ap, subst, sym, ◌∙◌, ◌�
 use Rattle.std.specs.List.{All}
 use Rattle.std.proofs.lemmas.List.{length-map}
 use Rattle.sched_text.specs.Text.{IsPrintable}
-use Rattle.sched_hear.specs.Numbered.{event_by_numbers}
-use Rattle.sched_hear.specs.declared.numbered.NumberedEvent.{NumberedEvent}
+use Rattle.sched_net.specs.Numbered.{event_by_numbers}
+use Rattle.sched_net.specs.declared.numbered.NumberedEvent.{NumberedEvent}
 use Rattle.sched_run.specs.Made.{event_limit}
-use Rattle.sched_run.specs.Making.{CountFromOne, events_of, Line}
+use Rattle.sched_run.specs.Making.{CountFromOne}
+use Rattle.sched_net.specs.ScheduleLines.{events_of, Line}
 use Rattle.sched_run.specs.Naming.{CanBeWritten, HasEventNames}
 use Rattle.sched_run.proofs.WrittenLemmas.{all_by_numbers}
 use Rattle.sched_run.proofs.made.Made.schedule.Goals as goal

@@ -3,8 +3,8 @@ use Rattle.std.specs.Prelude.{IfOk}
 use Rattle.std.specs.List.{All}
 use Rattle.std.proofs.lemmas.List.{length-map}
 use Rattle.inbox.specs.Events.{Event}
-use Rattle.sched_hear.specs.Numbered.{event_by_numbers}
-use Rattle.sched_hear.specs.declared.numbered.NumberedEvent.{NumberedEvent}
+use Rattle.sched_net.specs.Numbered.{event_by_numbers}
+use Rattle.sched_net.specs.declared.numbered.NumberedEvent.{NumberedEvent}
 use Rattle.sched_run.specs.Made.{event_limit}
 use Rattle.sched_run.specs.Making.{IsTextOf}
 use Rattle.sched_run.specs.Naming.{CanBeWritten, HasEventNames}

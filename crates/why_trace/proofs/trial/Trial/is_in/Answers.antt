@@ -1,7 +1,7 @@
 use Rattle.std.proofs.Common.{◌∙◌, List, Bor, ap}
 use Rattle.std.specs.List.{list_any}
 use Rattle.blz_value.specs.Record.{Row}
-use Rattle.topo_types.specs.Messages.{is_same_row}
+use Rattle.topo_forms.specs.Messages.{is_same_row}
 use Rattle.why_trace.specs.Code.Trials.{sought_of}
 use Rattle.why_trace.proofs.TrialLemmas.{record_in}
 use Rattle.why_trace.proofs.trial.Trial.is_in.Goals as goal

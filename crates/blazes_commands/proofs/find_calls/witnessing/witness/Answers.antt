@@ -1,0 +1,55 @@
+use Rattle.std.proofs.Common.{map}
+use Rattle.std.proofs.lemmas.List.Sorted.{IsPermutation-refl}
+use Rattle.blazes_words.specs.Requests.{witness_shown}
+use Rattle.command_checks.specs.Ends.{files_states, source}
+use Rattle.blazes_commands.specs.Runs.Bench.{bench_states}
+use Rattle.blazes_commands.proofs.Runs.FilesLemmas.{topology_stops, data_stops, files_then}
+use Rattle.blazes_commands.proofs.Runs.RepliesLemmas.{kept_anyway}
+use Rattle.blazes_commands.specs.Finds.Code.Seen.{comparing_files}
+use Rattle.blazes_commands.specs.Finds.Finds.{SaysWitness}
+use Rattle.blazes_commands.proofs.Finds.FilesLemmas.{data_hold}
+use Rattle.blazes_commands.proofs.find_calls.witnessing.witness.Goals as goal
+
+pub witness_files-requires : goal.witness_files-requires
+witness_files-requires g c =
+    let b = source (g.F.Files.held c.valid_topology.new.files) (g.F.Files.steady c.valid_topology.new.files) (g.F.Files.faults c.valid_topology.new.files) in
+    let d = source (g.F.Files.held c.data_file.new.files) (g.F.Files.steady c.data_file.new.files) (g.F.Files.faults c.data_file.new.files) in
+    record { fits = c.in_ok-given.ensures.fits; holds = data_hold (files_states b d) c.in_ok-valid.valid c.args.names.given.now c.in_ok-given.given c.in_ok-given.ensures.ran }
+
+pub returns-in_err-valid : goal.returns-in_err-valid
+returns-in_err-valid g c =
+    let asked = witness_shown c.args.names in
+    let bench = bench_states (map (λ b. (goal.Component-dyn g (b.vtable, b.value)).kind b.value) c.args.bench.now.items) (map (λ b. (goal.Component-dyn g (b.vtable, b.value)).kind b.value) c.args.bench.now.items) (map (λ b. (goal.Component-dyn g (b.vtable, b.value)).program b.value) c.args.bench.now.items) (map (λ b. (goal.Component-dyn g (b.vtable, b.value)).kept b.value) c.args.bench.now.items) in
+    let a = source (g.F.Files.held c.args.files.now) (g.F.Files.steady c.args.files.now) (g.F.Files.faults c.args.files.now) in
+    let b = source (g.F.Files.held c.valid_topology.new.files) (g.F.Files.steady c.valid_topology.new.files) (g.F.Files.faults c.valid_topology.new.files) in
+    record {
+      replies = topology_stops SaysWitness bench asked.topology asked.given (λ seen. comparing_files bench.kinds asked seen.view) c.from_residual.result (files_states a b) c.in_err-valid.field-0.0 c.from_residual.ensures.1 c.in_err-valid.ensures;
+      kinds = kept_anyway bench c.from_residual.result (IsPermutation-refl bench.kinds);
+    }
+
+pub returns-in_err-given : goal.returns-in_err-given
+returns-in_err-given g c =
+    let asked = witness_shown c.args.names in
+    let bench = bench_states (map (λ b. (goal.Component-dyn g (b.vtable, b.value)).kind b.value) c.args.bench.now.items) (map (λ b. (goal.Component-dyn g (b.vtable, b.value)).kind b.value) c.args.bench.now.items) (map (λ b. (goal.Component-dyn g (b.vtable, b.value)).program b.value) c.args.bench.now.items) (map (λ b. (goal.Component-dyn g (b.vtable, b.value)).kept b.value) c.args.bench.now.items) in
+    let a = source (g.F.Files.held c.args.files.now) (g.F.Files.steady c.args.files.now) (g.F.Files.faults c.args.files.now) in
+    let b = source (g.F.Files.held c.valid_topology.new.files) (g.F.Files.steady c.valid_topology.new.files) (g.F.Files.faults c.valid_topology.new.files) in
+    let d = source (g.F.Files.held c.data_file.new.files) (g.F.Files.steady c.data_file.new.files) (g.F.Files.faults c.data_file.new.files) in
+    record {
+      replies = data_stops SaysWitness bench asked.topology asked.given (λ seen. comparing_files bench.kinds asked seen.view) c.from_residual-in_err-given.result a b d c.in_ok-valid.valid c.in_err-given.field-0.0
+          c.from_residual-in_err-given.ensures.1 c.in_ok-valid.ensures c.in_err-given.ensures.ran;
+      kinds = kept_anyway bench c.from_residual-in_err-given.result (IsPermutation-refl bench.kinds);
+    }
+
+pub returns : goal.returns
+returns g c =
+    let asked = witness_shown c.args.names in
+    let bench = bench_states (map (λ b. (goal.Component-dyn g (b.vtable, b.value)).kind b.value) c.args.bench.now.items) (map (λ b. (goal.Component-dyn g (b.vtable, b.value)).kind b.value) c.witness_files.new.bench.items) (map (λ b. (goal.Component-dyn g (b.vtable, b.value)).program b.value) c.witness_files.new.bench.items) (map (λ b. (goal.Component-dyn g (b.vtable, b.value)).kept b.value) c.witness_files.new.bench.items) in
+    let a = source (g.F.Files.held c.args.files.now) (g.F.Files.steady c.args.files.now) (g.F.Files.faults c.args.files.now) in
+    let b = source (g.F.Files.held c.valid_topology.new.files) (g.F.Files.steady c.valid_topology.new.files) (g.F.Files.faults c.valid_topology.new.files) in
+    let d = source (g.F.Files.held c.data_file.new.files) (g.F.Files.steady c.data_file.new.files) (g.F.Files.faults c.data_file.new.files) in
+    let e = source (g.F.Files.held c.witness_files.new.files) (g.F.Files.steady c.witness_files.new.files) (g.F.Files.faults c.witness_files.new.files) in
+    record {
+      replies = files_then SaysWitness bench asked.topology asked.given (λ seen. comparing_files bench.kinds asked seen.view) c.witness_files.result a b d e c.in_ok-valid.valid c.in_ok-given.given c.in_ok-valid.ensures c.in_ok-given.ensures.ran
+          c.witness_files.ensures.replies;
+      kinds = c.witness_files.ensures.kinds;
+    }

@@ -1,8 +1,0 @@
--- the numbers so far
-use Rattle.std.proofs.Common.{◌≡◌, take}
-use Rattle.bloom_ast.specs.Borrowed.{names_in}
-use Rattle.bloom_ast.specs.Rows.{column_numbers}
-use Rattle.bloom_ast.proofs.numbering.column_numbers.Given as goal
-
-abbrev pub invariant-loop-name : goal.invariant-loop-name
-invariant-loop-name l = l.numbers.items ≡ column_numbers (names_in l.columns) (take l.name-index l.names)

@@ -1,8 +1,0 @@
--- the numbers so far
-use Rattle.std.proofs.Common.{◌≡◌, take}
-use Rattle.bloom_ast.specs.Borrowed.{names_in}
-use Rattle.bloom_ast.specs.Rows.{item_numbers}
-use Rattle.bloom_ast.proofs.numbering.item_numbers.Given as goal
-
-abbrev pub invariant-loop-item : goal.invariant-loop-item
-invariant-loop-item l = l.numbers.items ≡ item_numbers (names_in l.columns) (take l.item-index l.items)

@@ -1,5 +1,0 @@
-mod Heights
-mod Fitting
-mod FaultPlaces
-mod FirstFaultLemmas
-mod WholeCheck

@@ -1,3 +1,0 @@
--- What private functions give.
-pub mod Fitting
-pub mod Checking

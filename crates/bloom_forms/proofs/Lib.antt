@@ -1,0 +1,13 @@
+pub mod Collections
+pub mod Ends
+pub mod Faults
+pub mod Reach
+pub mod Combining
+pub mod Copies
+pub mod ByNumber
+pub mod Rows
+pub mod Confluent
+pub mod Split
+pub mod Ports
+pub mod Shard
+pub mod Worked

@@ -1,0 +1,20 @@
+use Rattle.std.proofs.Common.{◌≡◌, ◌∙◌, ap, sym, subst, length, arith}
+use Rattle.std.proofs.lemmas.List.{length-map}
+use Rattle.bloom_forms.specs.declared.numbered.NumberedExpr.{NumberedExpr}
+use Rattle.bloom_forms.specs.Borrowed.{names_in}
+use Rattle.bloom_forms.specs.Columns.{columns_of, pair_numbers, joined_columns}
+use Rattle.bloom_forms.specs.Lookup.{declared}
+use Rattle.bloom_forms.specs.Numbered.{IsNumbered}
+use Rattle.bloom_forms.specs.Query.Query.{join}
+use Rattle.bloom_forms.proofs.numbering.NumberedPart.join.Goals as goal
+
+pub returns : goal.returns
+returns c = λ cs a b numberable left right.
+    let others : names_in c.deref-2.result.now ≡ columns_of (declared cs) b = ap names_in c.deref-2.ensures.value ∙ right.columns in
+    let numbers : c.in_ok-numbers.numbers ≡ pair_numbers (columns_of (declared cs) a) (columns_of (declared cs) b) c.args.pairs.now = c.in_ok-numbers.ensures ∙ (λ i. pair_numbers ((ap names_in c.deref.ensures.value ∙ left.columns) i) (others i) c.args.pairs.now) in
+    let columns : names_in c.in_ok-all.all.items ≡ joined_columns (columns_of (declared cs) a) (columns_of (declared cs) b) c.args.pairs.now = c.in_ok-all.ensures ∙ (λ i. joined_columns (left.columns i) ((ap names_in c.deref-3.ensures.value ∙ right.columns) i) c.args.pairs.now) in
+    record {
+      expr = subst (λ (e : NumberedExpr). IsNumbered cs (join a b c.args.pairs.now) e) (sym c.in_ok-expr.ensures) (left.expr, right.expr, numbers);
+      columns = columns;
+      few = omega (arith, numberable.2, ap length columns, length-map c.in_ok-all.all.items (λ name. name.now));
+    }

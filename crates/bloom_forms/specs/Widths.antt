@@ -1,0 +1,14 @@
+-- Rows of one width, and sets for lists of columns.
+use Rattle.std.specs.Prelude.{ℕ, ◌≡◌, List, length}
+use Rattle.std.specs.List.{All, AllZip}
+use Rattle.blz_value.specs.Record.{Row}
+use Rattle.bloom_forms.specs.Query.{Name}
+use Rattle.bloom_forms.specs.Step.{Sets}
+
+-- each row has so many values
+abbrev pub AreWide : ℕ → List Row → Type 0
+AreWide width rows = All (λ row. length row ≡ width) rows
+
+-- one set for each list of columns, with rows of that width
+abbrev pub AreSetsOf : List (List Name) → Sets → Type 0
+AreSetsOf columns sets = AllZip (λ names rows. AreWide (length names) rows) columns sets

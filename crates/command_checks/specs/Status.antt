@@ -1,0 +1,14 @@
+-- The exit status of a call.
+use Rattle.std.specs.Prelude.{ℕ}
+use Rattle.command_checks.specs.declared.status.Status.{Status}
+use Rattle.command_checks.specs.declared.status.Status.TheVariants.{Done, Refused, Usage, ReadFault, WriteFault, Incomplete, NoMemory}
+
+-- the exit status of the process
+abbrev pub code_of : Status → ℕ
+code_of Done = 0
+code_of Refused = 1
+code_of Usage = 2
+code_of ReadFault = 3
+code_of WriteFault = 4
+code_of Incomplete = 5
+code_of NoMemory = 6

@@ -1,3 +1,0 @@
-pub mod ScriptLemmas
-pub mod FileLemmas
-pub mod RefusedLemmas

@@ -1,8 +1,0 @@
--- What a command replies.
-use Rattle.command_files.specs.Script.{Bytes}
-use Rattle.command_files.specs.declared.status.Status.{Status}
-
--- a status and a text
-pub record Answer : Type 0 where
-  pub status : Status
-  pub text : Bytes

@@ -1,8 +1,0 @@
-pub mod ScriptsLemmas
-pub mod RepliesLemmas
-pub mod FilesLemmas
-pub mod NetLemmas
-pub mod SeenLemmas
-pub mod WitnessLemmas
-pub mod LookedLemmas
-pub mod ReasonsLemmas

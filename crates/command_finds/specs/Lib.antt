@@ -1,5 +1,0 @@
-pub mod Checks
-pub mod WitnessText
-pub mod WhyText
-pub mod Finds
-pub mod Code

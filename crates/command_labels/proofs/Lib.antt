@@ -1,3 +1,0 @@
-pub mod RepliesLemmas
-pub mod ShardLemmas
-pub mod BuiltInLemmas

@@ -1,5 +1,0 @@
--- There is one label a stream.
-use Rattle.command_labels.proofs.labelling.listed.Goals as goal
-
-pub label_text-requires : goal.label_text-requires
-label_text-requires c = c.in_ok-labels.ensures.rules.each

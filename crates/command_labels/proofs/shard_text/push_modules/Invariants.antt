@@ -1,8 +1,0 @@
--- the modules so far
-use Rattle.std.proofs.Common.{◌≡◌, ◌++◌, take}
-use Rattle.std.specs.List.{flat_map}
-use Rattle.command_labels.specs.ShardText.{module_part}
-use Rattle.command_labels.proofs.shard_text.push_modules.Given as goal
-
-abbrev pub invariant-loop-file : goal.invariant-loop-file
-invariant-loop-file l = l.into.items ≡ l.initial.into.items ++ flat_map module_part (take l.file-index l.files)

@@ -1,5 +1,0 @@
-pub mod Replies
-pub mod Shards
-pub mod ShardText
-pub mod Answers
-pub mod BuiltIn

@@ -1,6 +1,0 @@
-pub mod RepliesLemmas
-pub mod FilesLemmas
-pub mod OpeningLemmas
-pub mod ContentsLemmas
-pub mod BenchLemmas
-pub mod RunLemmas

@@ -1,3 +1,0 @@
--- What only the clauses of private functions speak of.
-pub mod Notes
-pub mod Tried

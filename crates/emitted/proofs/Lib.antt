@@ -1,9 +1,0 @@
-pub mod ListsLemmas
-pub mod ListSeals
-pub mod CountsLemmas
-pub mod Tallies
-pub mod ListLoops
-pub mod FaultLemmas
-pub mod SubjectLemmas
-pub mod Ids
-pub mod SealedSources

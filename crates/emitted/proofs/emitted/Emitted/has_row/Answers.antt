@@ -1,6 +1,0 @@
-use Rattle.std.proofs.Common.{◌∙◌}
-use Rattle.emitted.proofs.SubjectLemmas.{row_test}
-use Rattle.emitted.proofs.emitted.Emitted.has_row.Goals as goal
-
-pub returns : goal.returns
-returns c = c.contains_key.ensures ∙ row_test c.args.id c.number.result c.self.inside.messages.entries c.args.self.now c.number.ensures c.self.invariant c.self.view_is

@@ -1,6 +1,0 @@
-use Rattle.std.proofs.Common.{◌∙◌}
-use Rattle.emitted.proofs.SubjectLemmas.{seal_test}
-use Rattle.emitted.proofs.emitted.Emitted.has_seal.Goals as goal
-
-pub returns : goal.returns
-returns c = c.contains_key.ensures ∙ seal_test c.args.key.now c.in_ok-copy.field-0 c.self.inside.messages.entries c.args.self.now c.in_ok-copy.ensures c.self.invariant c.self.view_is

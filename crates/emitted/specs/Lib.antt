@@ -1,6 +1,0 @@
-pub mod Lists
-pub mod Faults
-pub mod Subject
-pub mod SubjectLaws
-pub mod Ids
-pub mod Counts

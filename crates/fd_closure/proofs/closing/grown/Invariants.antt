@@ -1,6 +1,0 @@
-use Rattle.std.proofs.Common.{◌≡◌, drop}
-use Rattle.fd_closure.specs.Closure as spec
-use Rattle.fd_closure.proofs.closing.grown.Given as goal
-
-abbrev pub invariant-loop-fd : goal.invariant-loop-fd
-invariant-loop-fd l = spec.grown (drop l.fd-index l.fds) l.reached.bits ≡ spec.grown l.fds l.initial.reached.bits

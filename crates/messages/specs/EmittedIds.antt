@@ -1,0 +1,32 @@
+-- The ids of the records of an emitted list.
+use Rattle.std.specs.Prelude.{ℕ, ◌==◌, ◌++◌, Bool, false, Option, Some, None, List, [], ◌∷◌, if◌then◌else◌}
+use Rattle.std.specs.List.{list_any}
+use Rattle.blz_value.specs.Record.{Row as Record}
+use Rattle.blz_value.specs.Operators.{cells}
+use Rattle.blz_value.specs.Message.{is_same_row}
+use Rattle.messages.specs.Log.{row_with_id}
+use Rattle.messages.specs.declared.message.Message.{Message as IdMessage}
+use Rattle.messages.specs.declared.message.Message.TheVariants.{Row, Seal}
+
+abbrev pub id_in : IdMessage → Option ℕ
+id_in (Row id) = Some id
+id_in (Seal key count) = None
+
+-- the message is the record with this id
+abbrev pub is_row_with : (id : ℕ) → IdMessage → Bool
+is_row_with id (Row other) = id == other
+is_row_with id (Seal key count) = false
+
+-- the message is a seal of this partition
+abbrev pub is_seal_of : (key : Record) → IdMessage → Bool
+is_seal_of key (Row id) = false
+is_seal_of key (Seal other count) = is_same_row key other
+
+-- the message is a record of the partition, where the key has these columns
+abbrev pub counts_in : List Record → (columns : List ℕ) → (key : Record) → IdMessage → Bool
+counts_in records columns key (Row id) = is_same_row (cells columns (row_with_id records id)) key
+counts_in records columns key (Seal other count) = false
+
+-- a list with a record at its end, unless it stands there
+abbrev pub with_id : List IdMessage → (id : ℕ) → List IdMessage
+with_id list id = if list_any (is_row_with id) list then list else list ++ Row id ∷ []

@@ -1,0 +1,56 @@
+//! What a message is about.
+ghost use Rattle.std.specs.Prelude.{◌≡◌};
+ghost use Rattle.std.specs.Cmp.{partial_equiv_from_equiv};
+ghost use Rattle.messages.specs.Subject.{is_same_subject, subject_writes, key_hash};
+ghost use Rattle.messages.specs.SubjectLaws.{is_same_subject_equiv, subject_writes_alike};
+
+use blz_value::Record;
+use std::hash::{BuildHasher, BuildHasherDefault, DefaultHasher, Hash, Hasher};
+
+/// What a message is about: a record, by its id in a pool, or a partition, by its key value. One list
+/// has one message at most about it.
+#[derive(Drop)]
+pub enum Subject {
+    Row(u32),
+    Partition(Record),
+}
+
+impl PartialEq for Subject {
+    ghost eq = { is_same_subject };
+
+    ghost laws = { partial_equiv_from_equiv is_same_subject_equiv };
+
+    fn eq(&self, other: &Subject) -> bool {
+        match (self, other) {
+            (Subject::Row(id), Subject::Row(other)) => id == other,
+            (Subject::Partition(key), Subject::Partition(other)) => key == other,
+            (Subject::Row(_), Subject::Partition(_)) | (Subject::Partition(_), Subject::Row(_)) =>
+                false,
+        }
+    }
+}
+
+impl Eq for Subject {
+    ghost laws = { is_same_subject_equiv };
+}
+
+impl Hash for Subject {
+    ghost hash_input = { subject_writes };
+
+    ghost respects_eq = { subject_writes_alike };
+
+    fn hash<H: Hasher>(&self, state: &mut H) {
+        match self {
+            Subject::Row(id) => state.write_u32(*id),
+            Subject::Partition(key) => state.write_u64(hash_of(key)),
+        }
+    }
+}
+
+// The hash of a key value, by SipHash.
+fn hash_of(key: &Record) -> u64
+    ensures { result ≡ key_hash key.now }
+{
+    let hashers: BuildHasherDefault<DefaultHasher> = BuildHasherDefault::new();
+    hashers.hash_one(key)
+}

@@ -1,8 +1,0 @@
-use Rattle.path_annotate.proofs.Copies.RootsLaw.{table_solves, one_table}
-use Rattle.path_annotate.proofs.laws.roots_law.Goals as goal
-
-pub returns-clause-solved : goal.returns-clause-solved
-returns-clause-solved c = table_solves
-
-pub returns-clause-one : goal.returns-clause-one
-returns-clause-one c = one_table

@@ -1,6 +1,0 @@
-mod Lists
-mod ByNumberLemmas
-mod ByNumberCorrect
-mod ReadingsCorrect
-mod UsesLemmas
-mod AnnotationCorrect

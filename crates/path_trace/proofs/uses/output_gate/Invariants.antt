@@ -1,7 +1,0 @@
-use Rattle.std.proofs.Common.{drop}
-use Rattle.path_trace.specs.Code.ReadingUses.{gate_towards}
-use Rattle.path_facts.proofs.GatesLemmas.{IsCommon}
-use Rattle.path_trace.proofs.uses.output_gate.Given as goal
-
-abbrev pub invariant-loop-rule : goal.invariant-loop-rule
-invariant-loop-rule l = IsCommon l.fn.all.bits l.gate.bits (gate_towards l.fn.all.bits l.output (drop l.rule-index l.rules)) (gate_towards l.fn.all.bits l.output l.rules)

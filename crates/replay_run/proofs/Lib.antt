@@ -1,4 +1,0 @@
-pub mod FirstLemmas
-pub mod StepsLemmas
-pub mod WorkedLines
-pub mod WorkedReplay

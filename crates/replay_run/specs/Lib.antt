@@ -1,4 +1,0 @@
-pub mod Lent
-pub mod Reading
-pub mod Steps
-pub mod Code

@@ -1,2 +1,0 @@
-pub mod DeriveText
-pub mod Code

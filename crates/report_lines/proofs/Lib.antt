@@ -1,0 +1,3 @@
+mod WorkedRefusals
+pub mod Streams
+mod WorkedTexts

@@ -1,9 +1,0 @@
--- the lines of the streams so far
-use Rattle.std.proofs.Common.{◌≡◌}
-use Rattle.std.specs.List.{flat_map}
-use Rattle.topo_types.specs.Sets.{below}
-use Rattle.report_print.specs.LabelText.{label_line}
-use Rattle.report_print.proofs.label_lines.label_text.Given as goal
-
-abbrev pub invariant-loop-stream : goal.invariant-loop-stream
-invariant-loop-stream l = l.text.items ≡ flat_map (label_line l.valid.view l.labels) (below l.stream)

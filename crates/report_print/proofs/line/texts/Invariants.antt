@@ -1,7 +1,0 @@
--- the names so far
-use Rattle.std.proofs.Common.{◌≡◌, take}
-use Rattle.report_print.specs.Lines.{shown}
-use Rattle.report_print.proofs.line.texts.Given as goal
-
-abbrev pub invariant-loop-name : goal.invariant-loop-name
-invariant-loop-name l = shown l.texts.items ≡ take l.name-index l.names

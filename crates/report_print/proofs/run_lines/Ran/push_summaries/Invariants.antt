@@ -1,0 +1,7 @@
+-- the lines so far
+use Rattle.report_print.specs.SoakText.{stream_line}
+use Rattle.report_print.proofs.RunLoops.{IsSoFar}
+use Rattle.report_print.proofs.run_lines.Ran.push_summaries.Given as goal
+
+abbrev pub invariant-loop-stream : goal.invariant-loop-stream
+invariant-loop-stream g l = IsSoFar l.self.valid.now.view l.self.net.now.books (stream_line l.self.valid.now.view l.labels) l.initial.text.items l.stream l.text.items

@@ -1,7 +1,0 @@
--- the lines so far
-use Rattle.report_runs.specs.RunText.{stream_lines}
-use Rattle.report_runs.proofs.RunLoops.{IsSoFar}
-use Rattle.report_runs.proofs.run_lines.Ran.push_streams.Given as goal
-
-abbrev pub invariant-loop-stream : goal.invariant-loop-stream
-invariant-loop-stream g l = IsSoFar l.self.valid.now.view l.self.net.now.books (stream_lines l.self.valid.now.view) l.initial.text.items l.stream l.text.items

@@ -1,3 +1,0 @@
-pub mod RunText
-pub mod SoakText
-pub mod Code

@@ -1,9 +1,0 @@
--- the outlets for the streams so far
-use Rattle.std.proofs.Common.{◌≡◌, map, filter}
-use Rattle.topo_types.specs.Sets.{below}
-use Rattle.topo_types.specs.View.{comes_from}
-use Rattle.sched_lists.specs.Outlets.{outlet_for}
-use Rattle.sched_lists.proofs.outlets.outlets_of.Given as goal
-
-abbrev pub invariant-loop-stream : goal.invariant-loop-stream
-invariant-loop-stream l = l.outlets.items ≡ map (outlet_for l.valid.view l.replica) (filter (comes_from l.valid.view l.component) (below l.stream))

@@ -1,7 +1,0 @@
--- the lists of the streams so far
-use Rattle.topo_types.specs.View.{stream_replicas}
-use Rattle.sched_lists.proofs.PlacesMade.{HasCounted}
-use Rattle.sched_lists.proofs.places.list_count.Given as goal
-
-abbrev pub invariant-loop-stream : goal.invariant-loop-stream
-invariant-loop-stream l = HasCounted (stream_replicas l.valid.view) l.stream l.count

@@ -1,7 +1,0 @@
--- the places so far
-use Rattle.topo_types.specs.View.{stream_replicas}
-use Rattle.sched_lists.proofs.PlacesMade.{HasPlaces}
-use Rattle.sched_lists.proofs.places.list_places.Given as goal
-
-abbrev pub invariant-loop-stream : goal.invariant-loop-stream
-invariant-loop-stream l = HasPlaces (stream_replicas l.valid.view) l.stream l.places.items l.next

@@ -1,3 +1,0 @@
--- What private functions give.
-pub mod Running
-pub mod Sources

@@ -1,5 +1,0 @@
-use Rattle.shard_copies.proofs.ShardLaw.{answers_together}
-use Rattle.shard_copies.proofs.laws.shard_law.Goals as goal
-
-pub returns : goal.returns
-returns c = answers_together

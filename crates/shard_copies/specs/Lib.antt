@@ -1,5 +1,0 @@
-pub mod Copies
-pub mod Routing
-pub mod Sharding
-pub mod Laws
-pub mod Copying

@@ -1,3 +1,0 @@
--- Columns, and the attributes that they name.
-pub mod Growing
-pub mod BodyColumns

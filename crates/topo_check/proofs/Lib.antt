@@ -1,4 +1,0 @@
-pub mod Columns
-pub mod Lists
-pub mod Worked
-pub mod Faults

@@ -1,3 +1,0 @@
--- Lists and their elements.
-pub mod Distinct
-pub mod Positions

@@ -1,2 +1,0 @@
--- Worked topologies with faults.
-pub mod Refusals

@@ -1,9 +1,0 @@
-use Rattle.std.proofs.Common.{◌≡◌, ◌+◌, drop}
-use Rattle.blz_value.specs.FirstPlace.{first_place}
-use Rattle.topo_types.specs.Kept.{view_kept}
-use Rattle.topo_types.specs.Validity.OfView.{is_mismatched}
-use Rattle.topo_check.proofs.validity.of_view.first_mismatched.Given as goal
-
-abbrev pub invariant-loop-number : goal.invariant-loop-number
-invariant-loop-number l =
-    first_place (λ i s. is_mismatched (view_kept l.kept) (l.sources + i)) l.number (drop l.number l.streams) ≡ first_place (λ i s. is_mismatched (view_kept l.kept) (l.sources + i)) 0 l.streams

@@ -1,6 +1,0 @@
-use Rattle.std.proofs.Common.{◌≡◌, map, take}
-use Rattle.topo_types.specs.Sites.{column_number}
-use Rattle.topo_check.proofs.view.bodies.column_numbers.Given as goal
-
-abbrev pub invariant-loop-name : goal.invariant-loop-name
-invariant-loop-name l = l.numbers.items ≡ map (column_number l.columns) (take l.name-index l.names)

@@ -1,7 +1,0 @@
-use Rattle.std.proofs.Common.{◌≡◌, ◌++◌, map, drop}
-use Rattle.bloom_ast.specs.Kinds.{of_kind}
-use Rattle.topo_types.specs.Sites.{collection_side}
-use Rattle.topo_check.proofs.view.bodies.sides_of_kind.Given as goal
-
-abbrev pub invariant-loop-collection : goal.invariant-loop-collection
-invariant-loop-collection l = l.sides.items ++ map collection_side (of_kind l.kind (drop l.collection-index l.collections)) ≡ map collection_side (of_kind l.kind l.collections)

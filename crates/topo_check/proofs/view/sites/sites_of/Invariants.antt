@@ -1,7 +1,0 @@
-use Rattle.std.proofs.Common.{◌≡◌, ◌++◌, drop}
-use Rattle.topo_types.specs.Sites as spec
-use Rattle.topo_check.specs.Code.Built.{sites_seen}
-use Rattle.topo_check.proofs.view.sites.sites_of.Given as goal
-
-abbrev pub invariant-loop-component : goal.invariant-loop-component
-invariant-loop-component l = sites_seen l.sites.items ++ spec.sites_of (drop l.component-index l.components) l.rest ≡ spec.sites_of l.components l.modules

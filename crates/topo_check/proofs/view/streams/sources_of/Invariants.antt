@@ -1,8 +1,0 @@
-use Rattle.std.proofs.Common.{◌≡◌, map, take}
-use Rattle.topo_types.specs.ViewOf.{source_view}
-use Rattle.topo_types.specs.Kept.{stream_kept}
-use Rattle.topo_check.specs.Code.Built.{sites_seen}
-use Rattle.topo_check.proofs.view.streams.sources_of.Given as goal
-
-abbrev pub invariant-loop-source : goal.invariant-loop-source
-invariant-loop-source l = map stream_kept l.streams.items ≡ map (source_view l.names (sites_seen l.sites)) (take l.source-index l.sources)

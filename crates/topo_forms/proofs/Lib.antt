@@ -1,0 +1,10 @@
+pub mod KeyOfSource
+pub mod Columns
+pub mod Lists
+pub mod Worked
+pub mod Found
+pub mod Views
+pub mod Regions
+pub mod Faults
+pub mod CopiedNames
+pub mod DistinctRows

@@ -1,0 +1,2 @@
+-- Lists and their elements.
+pub mod Tables

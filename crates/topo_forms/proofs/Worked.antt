@@ -1,0 +1,4 @@
+-- Worked topologies.
+pub mod WordCount
+pub mod Gossip
+pub mod WorkedFeeds

@@ -1,0 +1,93 @@
+//! Data: what each source holds.
+ghost use Rattle.std.specs.Prelude.{◌≡◌, ◌<◌, IfOk, length};
+ghost use Rattle.topo_forms.specs.DataCounts.{AreFew};
+ghost use Rattle.topo_forms.specs.Data.{source_data};
+
+use crate::lists::SourceLists;
+use blz_value::Record;
+use std::alloc::{AllocError, Global};
+use std::marker::Model;
+
+/// What the sources of a topology hold: of each its distinct records and its distinct declared
+/// partitions, both in file order. They are at most 65,536 together.
+#[derive(Drop)]
+pub struct Data {
+    sources: Vec<SourceLists>,
+}
+
+impl Model for Data {
+    ghost use Rattle.std.specs.Prelude.{List};
+    ghost use Rattle.topo_forms.specs.Data.{SourceData};
+    ghost use Rattle.topo_forms.specs.DataCounts.{AreFew};
+
+    ghost Value = { List SourceData };
+
+    ghost view = { λ d. d.sources.items };
+
+    ghost invariant = { λ d. AreFew d.sources.items };
+}
+
+impl Data {
+    /// The data of these sources.
+    pub fn new(sources: Vec<SourceLists>) -> Data
+        requires { AreFew sources.items }
+        ensures { result ≡ sources.items }
+    {
+        Data { sources }
+    }
+
+    /// How many records and partitions all sources together hold at most; the call does nothing.
+    pub fn known(&self)
+        ensures { AreFew self.now }
+    {
+        let _ = &self.sources;
+    }
+
+    /// The records of a source, each once, in file order.
+    pub fn rows(&self, source: u32) -> &[Record]
+        requires { source < length self.now }
+        ensures { result.now ≡ (source_data self.now source).rows }
+    {
+        self.sources[source as usize].rows.as_slice()
+    }
+
+    /// The declared partitions of a source, each once, in file order.
+    pub fn parts(&self, source: u32) -> &[Record]
+        requires { source < length self.now }
+        ensures { result.now ≡ (source_data self.now source).parts }
+    {
+        self.sources[source as usize].parts.as_slice()
+    }
+
+    /// Equal data of their own. Takes the time and the memory of all records.
+    pub fn copy(&self) -> Result<Data, AllocError>
+        ensures { IfOk result (λ same. same ≡ self.now) }
+    {
+        let mut sources = Vec::new(*self.sources.allocator());
+        for lists in &self.sources {
+            sources.push(lists_copy(lists)?)?;
+        }
+        Ok(Data { sources })
+    }
+}
+
+// Equal lists of their own.
+fn lists_copy(lists: &SourceLists) -> Result<SourceLists, AllocError>
+    ensures { IfOk result (λ same. same ≡ lists.now) }
+{
+    let alloc = *lists.rows.allocator();
+    Ok(SourceLists {
+        rows: copies(alloc, &lists.rows)?,
+        parts: copies(alloc, &lists.parts)?,
+    })
+}
+
+fn copies(alloc: Global, records: &[Record]) -> Result<Vec<Record>, AllocError>
+    ensures { IfOk result (λ same. same.items ≡ records.now) }
+{
+    let mut same = Vec::new(alloc);
+    for record in records {
+        same.push(record.copy()?)?;
+    }
+    Ok(same)
+}

@@ -1,0 +1,22 @@
+//! What is found of a view once: the streams into its ports, regions, dependencies and carried
+//! seals.
+use blz_value::{Attrs, Items};
+
+/// What is found of a view.
+#[derive(Drop)]
+pub struct GraphFacts {
+    /// The streams into each port of each component.
+    pub into: Items<Items<u64>>,
+    /// The members of each region.
+    pub regions: Items<u64>,
+    /// Whether each region is cyclic.
+    pub cyclic: Items<bool>,
+    /// The number of the region of each component.
+    pub numbers: Items<u32>,
+    /// The streams that uphold each dependency.
+    pub upheld: Items<u64>,
+    /// The components at which each dependency is usable.
+    pub usable: Items<u64>,
+    /// The key that each stream carries.
+    pub carried: Items<Option<Attrs>>,
+}

@@ -1,0 +1,31 @@
+//! What topologies are: one as it is written, by its names, one without a fault, by its numbers, and the data
+//! of its sources.
+#![tactic(auto)]
+
+mod copied;
+mod data;
+mod fault;
+mod graph_facts;
+mod index;
+mod kept;
+mod laws;
+mod lists;
+mod sets;
+mod topologies;
+mod topology;
+mod valid;
+mod view_copies;
+
+pub use copied::{Copied, copy_all};
+pub use data::Data;
+pub use fault::{TopoFault, TopoKind, TopoPlace, ValidFault};
+pub use graph_facts::GraphFacts;
+pub use kept::{Kept, KeptComponent, KeptOutput, KeptPort, KeptStream};
+pub use laws::{carried_law, regions_law, valid_law};
+pub use lists::SourceLists;
+pub use topology::{
+    Body, ColumnType, ComponentEntry, Declared, FdEntry, ModeName, NoteName, Side, SourceEntry,
+    Spot, Stock, StreamEntry, Topology,
+};
+pub use valid::{Valid, carries, goes_to, upholds, usable};
+pub use view_copies::{copy_program, valid_copy};

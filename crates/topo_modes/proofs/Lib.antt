@@ -1,9 +1,0 @@
-pub mod Altered
-pub mod KeyNames
-pub mod NamedAttributes
-pub mod OtherModes
-pub mod OtherSites
-pub mod WithModeLaw
-pub mod Remoding
-pub mod ValidEnds
-pub mod NextWhole

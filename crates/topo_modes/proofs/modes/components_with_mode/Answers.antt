@@ -1,6 +1,0 @@
-use Rattle.std.proofs.Common.{refl}
-use Rattle.topo_modes.proofs.Remoding.{remade}
-use Rattle.topo_modes.proofs.modes.components_with_mode.Goals as goal
-
-pub returns : goal.returns
-returns c = remade c.args.components.items c.args.components.items c.args.number c.index_mut.result.now c.args.mode refl c.index_mut.ensures.value

@@ -1,7 +1,0 @@
-use Rattle.std.proofs.Common.{◌≡◌, List, subst, IfOk}
-use Rattle.bloom_ast.specs.Query.{Name}
-use Rattle.topo_modes.proofs.Remoding.{key_names}
-use Rattle.topo_modes.proofs.modes.names_in.Goals as goal
-
-pub returns : goal.returns
-returns c = subst (λ (names : List Name). IfOk c.names_with.result (λ some. some.items ≡ names)) (key_names c.args.set c.args.names.now c.requires.few c.requires.within) c.names_with.ensures

@@ -1,6 +1,0 @@
-use Rattle.std.proofs.Common.{◌≡◌, length}
-use Rattle.topo_types.specs.Code.Index.{AllPlaces}
-use Rattle.topo_types.proofs.index.all_ports.Given as goal
-
-abbrev pub invariant-loop-component : goal.invariant-loop-component
-invariant-loop-component l = (length l.all.items ≡ l.component-index) × AllPlaces l.components l.all.items

@@ -1,5 +1,0 @@
-use Rattle.std.proofs.Common.{◌≡◌, map, take}
-use Rattle.topo_types.proofs.index.component_names.Given as goal
-
-abbrev pub invariant-loop-component : goal.invariant-loop-component
-invariant-loop-component l = map (λ name. name.now) l.names.items ≡ map (λ x. x.name) (take l.component-index l.components)

@@ -1,6 +1,0 @@
-use Rattle.std.proofs.Common.{map, take}
-use Rattle.topo_types.specs.Code.Index.{Places}
-use Rattle.topo_types.proofs.index.places_of.Given as goal
-
-abbrev pub invariant-loop-place : goal.invariant-loop-place
-invariant-loop-place l = Places (map (λ name. name.now) (take l.place l.names)) l.places

@@ -1,5 +1,0 @@
-use Rattle.std.proofs.Common.{◌≡◌, map, take}
-use Rattle.topo_types.proofs.index.stream_names.Given as goal
-
-abbrev pub invariant-loop-stream : goal.invariant-loop-stream
-invariant-loop-stream l = map (λ name. name.now) l.names.items ≡ map (λ x. x.name) (take l.stream-index l.streams)

@@ -2,9 +2,9 @@
 ghost use Rattle.std.specs.Prelude.{◌≡◌, [], None, IsSome};
 ghost use Rattle.bloom_eval.specs.declared.kind.ProgramKind.TheVariants.{Latest as LatestKind};
 
-use bloom_eval::{Arrivals, Component, Outs, StepFault};
-use bloom_forms::Program;
-use blz_boxes::LatestShell;
+use bloom_ast::Program;
+use bloom_eval::{Arrivals, Outs, StepFault};
+use blz_boxes::{Component, LatestShell};
 use blz_set::RecordSet;
 use blz_value::write_record;
 use std::alloc::{AllocError, Global};

@@ -7,14 +7,12 @@ ghost use Rattle.messages.specs.Ids.{IsGiven};
 use crate::inputs::valid_of;
 use crate::shells::{pair, show_sets};
 use anyhow::{Result, ensure};
-use bloom_forms::Mode;
 use blz_outside::MemFiles;
 use blz_pool::{Id, Pool};
 use blz_value::{Record, Value, write_record};
-use inbox::{Inbox, Timesteps};
-use messages::Message;
+use inbox::{Inbox, Message, Timesteps};
 use std::alloc::Global;
-use topo_forms::Valid;
+use topo_types::{Mode, Valid};
 
 // A message of a batch: a record by its id, or the seal of a key, which counts so many records.
 #[derive(Clone, Copy)]

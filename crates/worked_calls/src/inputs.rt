@@ -10,9 +10,10 @@ ghost use Rattle.worked_calls.specs.Told.{told_of};
 use anyhow::{Result, bail};
 use blz_outside::{End, Files, MemFiles};
 use command_checks::{data_file, schedule_file, valid_topology};
+use data_read::Data;
 use sched_text::Schedule;
 use std::alloc::Global;
-use topo_forms::{Data, Valid};
+use topo_types::Valid;
 
 /// The most bytes of a file.
 pub const FILE_LIMIT: usize = 16_777_216;

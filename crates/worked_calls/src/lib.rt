@@ -4,6 +4,7 @@
 
 mod benches;
 mod calls;
+mod dependencies;
 mod inboxes;
 mod inputs;
 mod modules;

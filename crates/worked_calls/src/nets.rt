@@ -6,17 +6,17 @@ ghost use Rattle.topo_forms.specs.Data.{IsData};
 
 use crate::benches::PoorShell;
 use crate::inputs::{given_of, schedule_of, valid_of};
-use anyhow::{Result, bail};
-use bloom_eval::Component;
-use blz_boxes::{PlainShell, SplitShell};
+use anyhow::{Result, bail, ensure};
+use blz_boxes::{Component, PlainShell, SplitShell};
 use blz_outside::MemFiles;
 use blz_value::{Record, write_record};
-use messages::Message;
-use sched_net::{Net, StepRefusal, run};
-use sched_run::make;
+use data_read::Data;
+use inbox::Message;
+use replay_run::{StepRefusal, run};
+use sched_run::{Net, make};
 use sched_text::{Event, print};
 use std::alloc::Global;
-use topo_forms::{Data, Valid};
+use topo_types::Valid;
 
 /// The schedule that is made of the seed 0 over a topology and data, as it is printed.
 pub(crate) fn made_shown(
@@ -150,7 +150,12 @@ fn stream_shown(
 {
     let name = valid.stream_name(stream);
     for replica in 0..valid.stream_replicas(stream) {
-        for (index, message) in list_of(net, stream, replica).iter().enumerate() {
+        let messages = list_of(net, stream, replica);
+        ensure!(
+            messages.len() == net.emitted(stream, replica),
+            "the list has the length that the net tells",
+        );
+        for (index, message) in messages.iter().enumerate() {
             let front = format!(in alloc; "{} {replica} {index} ", name.as_str())?;
             shown.extend_from_slice(front.as_bytes())?;
             let row = match u32::try_from(index) {

@@ -2,9 +2,8 @@
 ghost use Rattle.std.specs.Prelude.{◌<◌, ◌-◌, ◌^◌, IfOk, length};
 ghost use Rattle.bloom_forms.specs.Program.{IsStock, output_columns};
 
-use anyhow::Result;
-use bloom_ast::check;
-use bloom_forms::{Checked, Collection, Kind, Program};
+use anyhow::{Result, ensure};
+use bloom_ast::{Checked, Collection, Kind, Program, check};
 use bloom_parse::parse;
 use fd_closure::AttrNames;
 use path_annotate::roots;
@@ -61,8 +60,13 @@ fn output_shown(
     requires stock { IsStock program.now }
     requires within { output < length (output_columns program.now) }
 {
+    let found = roots(alloc, program, names, output)?;
+    ensure!(
+        found.len() == program.output_width(output) as usize,
+        "each column of the output has its root",
+    );
     shown.extend_from_slice(b"roots")?;
-    for root in &roots(alloc, program, names, output)? {
+    for root in &found {
         shown.push(b' ')?;
         shown.extend_from_slice(name_of(names, *root).as_bytes())?;
     }

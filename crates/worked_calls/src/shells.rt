@@ -6,11 +6,10 @@ ghost use Rattle.bloom_forms.specs.Program.{IsStock, port_columns, table_columns
 ghost use Rattle.bloom_forms.specs.Widths.{AreSetsOf};
 
 use anyhow::{Result, ensure};
-use bloom_ast::check;
-use bloom_eval::{Arrivals, Component, Outs};
-use bloom_forms::Program;
+use bloom_ast::{Program, check};
+use bloom_eval::{Arrivals, Outs};
 use bloom_parse::parse;
-use blz_boxes::{LatestShell, NumberShell, PlainShell};
+use blz_boxes::{Component, LatestShell, NumberShell, PlainShell};
 use blz_set::RecordSet;
 use blz_value::{Items, Record, Str, Value, write_record};
 use std::alloc::{AllocError, Global};

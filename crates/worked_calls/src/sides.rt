@@ -6,12 +6,11 @@ ghost use Rattle.bloom_forms.specs.Widths.{AreSetsOf};
 
 use crate::shells::{pair, show_sets, stepped};
 use anyhow::{Result, ensure};
-use bloom_ast::check;
-use bloom_eval::{Arrivals, Component, Outs};
-use bloom_forms::Program;
+use bloom_ast::{Program, check};
+use bloom_eval::{Arrivals, Outs};
 use bloom_index::IndexShell;
 use bloom_parse::parse;
-use blz_boxes::PlainShell;
+use blz_boxes::{Component, PlainShell};
 use blz_set::RecordSet;
 use blz_value::{Record, Value, write_record};
 use std::alloc::Global;

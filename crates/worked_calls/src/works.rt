@@ -1,4 +1,6 @@
-//! What the rows themselves show of nets, inboxes and benches, of calls that the program doesn't make.
+//! What the rows themselves show of dependencies, nets, inboxes and benches, of calls that the program doesn't
+//! make.
+use crate::dependencies::upheld_shown;
 use crate::inboxes::heard_shown;
 use crate::nets::{made_shown, run_shown};
 use anyhow::Result;
@@ -7,6 +9,7 @@ use std::alloc::Global;
 
 /// What is shown for these words over files, None for other words:
 ///
+/// - `upheld TOPOLOGY`: the dependencies of a topology, each with the streams that uphold it.
 /// - `heard TOPOLOGY`: what the first instance of a topology makes of some batches, as [`heard_shown`] says.
 /// - `made TOPOLOGY DATA`: the schedule of the seed 0, as it is printed.
 /// - `placed TOPOLOGY DATA SCHEDULE`: how many records a net keeps after the schedule, and whether it is ended.
@@ -18,6 +21,9 @@ pub fn work_shown(
     files: &mut MemFiles,
 ) -> Result<Option<Vec<u8>>> {
     match words {
+        [kind, topology] if kind.as_str() == "upheld" => {
+            Ok(Some(upheld_shown(alloc, topology.as_str(), files)?))
+        }
         [kind, topology] if kind.as_str() == "heard" => {
             Ok(Some(heard_shown(alloc, topology.as_str(), files)?))
         }

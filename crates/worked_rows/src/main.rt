@@ -33,12 +33,10 @@ mod runs;
 
 use crate::question::{Question, bytes_of};
 use anyhow::{Result, bail};
-use blazes_cli::blazes;
-use bloom_eval::Component;
+use blazes_cli::{Status, blazes};
 use bloom_index::IndexShell;
-use blz_boxes::{LatestShell, NumberShell, PlainShell, SplitShell};
+use blz_boxes::{Component, LatestShell, NumberShell, PlainShell, SplitShell};
 use blz_outside::MemSink;
-use command_checks::Status;
 use std::alloc::Global;
 use std::env;
 use worked_calls::{PoorShell, TellingShell};

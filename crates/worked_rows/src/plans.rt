@@ -1,14 +1,12 @@
 //! The plans of a topology that the program doesn't make, and the topology with another mode, as they are
 //! written.
 use anyhow::{Result, bail, ensure};
-use bloom_forms::Mode;
 use blz_outside::MemFiles;
 use command_checks::valid_topology;
 use coord_synth::{order_plan, seal_plan};
 use std::alloc::Global;
-use topo_forms::Valid;
-use topo_graph::WithMode;
 use topo_read::{topology_of, write};
+use topo_types::{Mode, Valid, WithMode};
 
 // The valid topology of a file.
 fn valid_of(alloc: Global, name: &str, files: &mut MemFiles) -> Result<Valid> {

@@ -2,8 +2,8 @@
 use crate::plans::plan_shown;
 use crate::runs::run_shown;
 use anyhow::Result;
+use blazes_cli::Status;
 use blz_outside::{Files, MemFiles, MemSink, RealFiles, Sink};
-use command_checks::Status;
 use std::alloc::{AllocError, Global};
 use worked_calls::{shown, work_shown};
 

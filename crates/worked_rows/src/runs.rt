@@ -7,14 +7,12 @@ ghost use Rattle.worked_calls.specs.Told.{told_of};
 ghost use Rattle.worked_rows.specs.Runs.{HasOneTable, RunsOneTable, LeavesOneTable};
 
 use anyhow::{Result, bail, ensure};
-use blazes_cli::blazes;
+use blazes_cli::{Status, blazes};
 use blazes_words::{Request, RunFiles, request_of};
-use bloom_eval::Component;
-use blz_boxes::{LatestShell, NumberShell, PlainShell, SplitShell};
+use blz_boxes::{Component, LatestShell, NumberShell, PlainShell, SplitShell};
 use blz_outside::{MemFiles, MemSink};
-use command_checks::Status;
 use std::alloc::Global;
-use topo_forms::Valid;
+use topo_types::Valid;
 use worked_calls::{bytes_in, show_kept, valid_of};
 
 // The most bytes that the program writes.

@@ -1,7 +1,7 @@
 //! Sets of attributes, what dependencies add to them, and the places of names.
 use crate::lines::Lines;
-use blz_value::{Attrs, Fd, Str, closure};
-use fd_closure::{AttrNames, NamesFault, compatible};
+use blz_value::Str;
+use fd_closure::{AttrNames, Attrs, Fd, NamesFault, closure, compatible};
 use std::alloc::{AllocError, Global};
 
 fn set(bits: u64) -> Attrs {

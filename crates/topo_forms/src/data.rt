@@ -3,7 +3,7 @@ ghost use Rattle.std.specs.Prelude.{◌≡◌, ◌<◌, IfOk, length};
 ghost use Rattle.topo_forms.specs.DataCounts.{AreFew};
 ghost use Rattle.topo_forms.specs.Data.{source_data};
 
-use crate::lists::SourceLists;
+use crate::source_lists::SourceLists;
 use blz_value::Record;
 use std::alloc::{AllocError, Global};
 use std::marker::Model;

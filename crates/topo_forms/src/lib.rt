@@ -9,8 +9,8 @@ mod graph_facts;
 mod index;
 mod kept;
 mod laws;
-mod lists;
 mod sets;
+mod source_lists;
 mod topologies;
 mod topology;
 mod valid;
@@ -22,7 +22,7 @@ pub use fault::{TopoFault, TopoKind, TopoPlace, ValidFault};
 pub use graph_facts::GraphFacts;
 pub use kept::{Kept, KeptComponent, KeptOutput, KeptPort, KeptStream};
 pub use laws::{carried_law, regions_law, valid_law};
-pub use lists::SourceLists;
+pub use source_lists::SourceLists;
 pub use topology::{
     Body, ColumnType, ComponentEntry, Declared, FdEntry, ModeName, NoteName, Side, SourceEntry,
     Spot, Stock, StreamEntry, Topology,

@@ -44,6 +44,7 @@ fn placed_pairs(alloc: Global, pool: &mut Pool) -> Result<Vec<Id>> {
     Ok(ids)
 }
 
+// The same of a pool with the pairs, by their ids.
 fn batches_shown(
     alloc: Global,
     valid: &Valid,
@@ -55,6 +56,7 @@ fn batches_shown(
     five_shown(alloc, &mut inbox, pool, ids, shown)
 }
 
+// Adds what the five batches set off, where there are four pairs.
 fn five_shown(
     alloc: Global,
     inbox: &mut Inbox,
@@ -113,6 +115,7 @@ fn batch_of(alloc: Global, inbox: &Inbox, pool: &Pool, said: &[Said]) -> Result<
     Ok(batch)
 }
 
+// The message of what is said, where the pool gave its id.
 fn message_of(alloc: Global, pool: &Pool, said: Said) -> Result<Message>
     ensures { IfOk result (IsGiven pool.now) }
 {

@@ -65,6 +65,7 @@ fn shown_over(
     opened_shown(alloc, valid, given, &mut bench, kind, lines)
 }
 
+// The same over a bench.
 fn opened_shown(
     alloc: Global,
     valid: &Valid,
@@ -79,6 +80,7 @@ fn opened_shown(
     net_shown(alloc, &mut net, kind, lines)
 }
 
+// The same of a net to which no event was applied.
 fn net_shown(
     alloc: Global,
     net: &mut Net<'_>,
@@ -137,6 +139,7 @@ fn lists_text(alloc: Global, valid: &Valid, net: &Net<'_>) -> Result<Vec<u8>>
     Ok(shown)
 }
 
+// Adds a line for each message that the replicas of a stream emitted.
 fn stream_shown(
     alloc: Global,
     valid: &Valid,

@@ -1,20 +1,12 @@
 //! The plans of a topology that the program doesn't make, and the topology with another mode, as they are
 //! written.
-use anyhow::{Result, bail, ensure};
+use anyhow::{Result, ensure};
 use blz_outside::MemFiles;
-use command_checks::valid_topology;
 use coord_synth::{order_plan, seal_plan};
 use std::alloc::Global;
 use topo_read::{topology_of, write};
 use topo_types::{Mode, Valid, WithMode};
-
-// The valid topology of a file.
-fn valid_of(alloc: Global, name: &str, files: &mut MemFiles) -> Result<Valid> {
-    match valid_topology(alloc, name, files) {
-        Ok(valid) => Ok(valid),
-        Err(_) => bail!("{name} is no valid topology"),
-    }
-}
+use worked_calls::valid_of;
 
 // A planned topology, as it is written.
 fn text_of(alloc: Global, planned: &Valid) -> Result<Vec<u8>> {

@@ -17,5 +17,6 @@ pub mod Tallies
 pub mod ListLoops
 pub mod FaultLemmas
 pub mod SubjectLemmas
+pub mod LentLists
 pub mod Ids
 pub mod SealedSources

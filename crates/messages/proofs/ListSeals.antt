@@ -1,7 +1,8 @@
 -- What one more seal makes of emitted lists by ids is, read in the pool, what the definitions make of the lists.
-use Rattle.std.proofs.Common.{◌≡◌, ◌<◌, ◌≤◌, ◌+◌, ◌||◌, ℕ, Bool, true, false, cond, List, [], ◌∷◌, ◌++◌, length, map, filter, take, set, get_or, refl, ap, ◌∙◌, sym, subst, inl, inr, arith, append-nil, length-append}
+use Rattle.std.proofs.Common.{◌≡◌, ◌<◌, ◌≤◌, ◌+◌, ◌||◌, ℕ, Option, slice_get, Bool, true, false, cond, List, [], ◌∷◌, ◌++◌, length, map, filter, take, set, get_or, refl, ap, ◌∙◌, sym, subst, inl, inr, arith, append-nil, length-append}
 use Rattle.std.specs.Prelude.{if◌then◌else◌}
 use Rattle.std.specs.List.{list_any}
+use Rattle.std.specs.Option.{option_and_then}
 use Rattle.std.proofs.lemmas.Bool.{cases_eq}
 use Rattle.std.proofs.lemmas.List.{map-append, map-set, set-get_or, get_or-set_same, get_or-set_other, length-set, length-map, take_more, get_or_default, length-take-le}
 use Rattle.std.proofs.lemmas.List.Sums.{sum_by-set, get_or-le-sum_by}
@@ -16,7 +17,8 @@ use Rattle.messages.specs.declared.message.Message.{Message as IdMessage}
 use Rattle.messages.specs.declared.message.Message.TheVariants.{Row, Seal}
 use Rattle.messages.proofs.EmittedLemmas.{continues_itself, with_seal-continues, rows_in-append, rows-with_seal}
 use Rattle.messages.specs.Lists.{message_limit, Listed, read_list, read_lists, list_at, total, IsExact, OneListBecomes}
-use Rattle.messages.specs.EmittedIds.{is_seal_of, counts_in}
+use Rattle.messages.specs.EmittedIds.{id_in, is_seal_of, counts_row}
+use Rattle.messages.proofs.LentLists.{row_there}
 use Rattle.messages.proofs.ListsLemmas.{read-at, total-read, total-same}
 
 -- ---- a seal that stands there
@@ -81,7 +83,7 @@ count-seal records list index sealed n columns key within at =
     ∙ count_in-seal columns front sealed n key
 
 -- one message more
-pub count-more : (records : List Record) (list : List IdMessage) (index : ℕ) (m : IdMessage) (columns : List ℕ) (key : Record) (b : Bool) → index < length list → m ≡ get_or list index m → counts_in records columns key m ≡ b
+pub count-more : (records : List Record) (list : List IdMessage) (index : ℕ) (m : IdMessage) (columns : List ℕ) (key : Record) (b : Bool) → index < length list → m ≡ get_or list index m → counts_row records columns key (id_in m) ≡ b
     → count_in columns (read_list records (take (index + 1) list)) key ≡ count_in columns (read_list records (take index list)) key + (if b then 1 else 0)
 count-more records list index (Row id) columns key b within at is = count-row records list index id columns key b within at is
 count-more records list index (Seal sealed n) columns key b within at is =
@@ -91,13 +93,22 @@ count-more records list index (Seal sealed n) columns key b within at is =
 
 -- a count goes on over a list by its place
 pub counted_step : (l : Listed) (place index : ℕ) (m : IdMessage) (items : List IdMessage) (columns : List ℕ) (key : Record) (b : Bool) (old new : ℕ) → items ≡ list_at l.lists place → index < length items → m ≡ get_or items index m
-    → old ≡ count_in columns (read_list l.records (take index (list_at l.lists place))) key → b ≡ counts_in l.records columns key m → new ≡ old + (if b then 1 else 0)
+    → old ≡ count_in columns (read_list l.records (take index (list_at l.lists place))) key → b ≡ counts_row l.records columns key (id_in m) → new ≡ old + (if b then 1 else 0)
     → new ≡ count_in columns (read_list l.records (take (index + 1) (list_at l.lists place))) key
 counted_step l place index m items columns key b old new same within at before is now =
     let list : List IdMessage = list_at l.lists place in
     now
     ∙ ap (λ n. n + (if b then 1 else 0)) before
     ∙ sym (count-more l.records list index m columns key b (subst (λ ms. index < length ms) same within) (at ∙ ap (λ ms. get_or ms index m) same) (sym is))
+
+-- and by the record at a place
+pub counted_row : (l : Listed) (place index : ℕ) (items : List IdMessage) (found : Option ℕ) (columns : List ℕ) (key : Record) (old new : ℕ) → items ≡ list_at l.lists place → index < length items → found ≡ option_and_then id_in (slice_get items index)
+    → old ≡ count_in columns (read_list l.records (take index (list_at l.lists place))) key → new ≡ old + (if counts_row l.records columns key found then 1 else 0)
+    → new ≡ count_in columns (read_list l.records (take (index + 1) (list_at l.lists place))) key
+counted_row l place index items found columns key old new same within is before now =
+    let m : IdMessage = get_or items index (Row 0) in
+    counted_step l place index m items columns key (counts_row l.records columns key found) old new same within (get_or_default items index (Row 0) m within) before
+    (ap (counts_row l.records columns key) (is ∙ row_there items index within)) now
 
 length-filter-le : (p : Record → Bool) (rows : List Record) → length (filter p rows) ≤ length rows
 length-filter-le p [] = omega arith

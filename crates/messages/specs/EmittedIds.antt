@@ -22,10 +22,10 @@ abbrev pub is_seal_of : (key : Record) → IdMessage → Bool
 is_seal_of key (Row id) = false
 is_seal_of key (Seal other count) = is_same_row key other
 
--- the message is a record of the partition, where the key has these columns
-abbrev pub counts_in : List Record → (columns : List ℕ) → (key : Record) → IdMessage → Bool
-counts_in records columns key (Row id) = is_same_row (cells columns (row_with_id records id)) key
-counts_in records columns key (Seal other count) = false
+-- the record with an id is one of the partition, where the key has these columns; without an id none is
+abbrev pub counts_row : List Record → (columns : List ℕ) → (key : Record) → Option ℕ → Bool
+counts_row records columns key (Some id) = is_same_row (cells columns (row_with_id records id)) key
+counts_row records columns key None = false
 
 -- a list with a record at its end, unless it stands there
 abbrev pub with_id : List IdMessage → (id : ℕ) → List IdMessage

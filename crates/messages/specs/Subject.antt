@@ -11,10 +11,14 @@ use Rattle.messages.specs.declared.message.Message.TheVariants as message
 use Rattle.messages.specs.declared.subject.Subject.{Subject}
 use Rattle.messages.specs.declared.subject.Subject.TheVariants.{Row, Partition}
 
--- what a message is about
-abbrev pub subject_of : IdMessage → Subject
-subject_of (message.Row id) = Row id
-subject_of (message.Seal key count) = Partition key
+-- the message about it, where a seal has this count
+abbrev pub message_about : Subject → (count : ℕ) → IdMessage
+message_about (Row id) count = message.Row id
+message_about (Partition key) count = message.Seal key count
+
+-- the message of an entry of a list: what stands there once, with a count
+abbrev pub message_of : Subject × ℕ → IdMessage
+message_of entry = message_about entry.0 entry.1
 
 -- it is one record, or one partition
 abbrev pub is_same_subject : Subject → Subject → Bool

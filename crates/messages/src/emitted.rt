@@ -1,7 +1,8 @@
 //! One emitted list, by the ids of its records.
-ghost use Rattle.std.specs.Prelude.{◌≡◌, ◌++◌, ◌∷◌, [], length, not, false, IfOk, OnOk, OnErr};
+ghost use Rattle.std.specs.Prelude.{◌≡◌, ◌++◌, ◌∷◌, [], length, slice_get, not, false, IfOk, OnOk, OnErr};
 ghost use Rattle.std.specs.List.{list_any};
-ghost use Rattle.messages.specs.EmittedIds.{is_row_with, is_seal_of, with_id};
+ghost use Rattle.std.specs.Option.{option_and_then};
+ghost use Rattle.messages.specs.EmittedIds.{id_in, is_row_with, is_seal_of, with_id};
 ghost use Rattle.messages.specs.declared.message.Message.TheVariants.{Seal};
 
 use crate::message::Message;
@@ -12,24 +13,21 @@ use indexmap::IndexMap;
 use std::alloc::{AllocError, Global};
 use std::marker::Model;
 
-/// The messages that a sender of a stream emitted, in order, by what they are about. So no two are
-/// about one record or about one partition.
+/// The messages that a sender of a stream emitted, in order: what stands in the list once, and the count
+/// of a seal, which is 0 of a record. So no two are about one record or about one partition.
 #[derive(Drop)]
 pub struct Emitted {
-    messages: IndexMap<Subject, Message>,
+    counts: IndexMap<Subject, u32>,
 }
 
 impl Model for Emitted {
-    ghost use Rattle.std.specs.Prelude.{◌≡◌, List, map};
-    ghost use Rattle.indexmap.specs.IndexMap.{keys, values};
+    ghost use Rattle.std.specs.Prelude.{List, map};
     ghost use Rattle.messages.specs.declared.message.Message.{Message};
-    ghost use Rattle.messages.specs.Subject.{subject_of};
+    ghost use Rattle.messages.specs.Subject.{message_of};
 
     ghost Value = { List Message };
 
-    ghost view = { λ list. values list.messages };
-
-    ghost invariant = { λ list. keys list.messages ≡ map subject_of (values list.messages) };
+    ghost view = { λ list. map message_of list.counts.entries };
 }
 
 impl Emitted {
@@ -38,7 +36,7 @@ impl Emitted {
         ensures { result ≡ [] }
     {
         Emitted {
-            messages: IndexMap::new(alloc),
+            counts: IndexMap::new(alloc),
         }
     }
 
@@ -46,28 +44,45 @@ impl Emitted {
     pub fn len(&self) -> usize
         ensures { result ≡ length self.now }
     {
-        self.messages().len()
+        self.counts.len()
     }
 
-    /// The messages in order.
-    pub fn messages(&self) -> &[Message]
-        ensures { result.now ≡ self.now }
+    /// The id of the record at a place, counted from 0; None where a seal stands, and past the end.
+    pub fn row(&self, index: usize) -> Option<Id>
+        ensures { result ≡ option_and_then id_in (slice_get self.now index) }
     {
-        self.messages.values().as_slice()
+        match self.counts.get_index(index) {
+            Some((Subject::Row(id), _)) => Some(*id),
+            Some((Subject::Partition(_), _)) | None => None,
+        }
+    }
+
+    /// A message at a place, of its own; None past the end. The error is want of memory.
+    pub fn message(&self, index: usize) -> Result<Option<Message>, AllocError>
+        ensures { IfOk result (λ message. message ≡ slice_get self.now index) }
+    {
+        match self.counts.get_index(index) {
+            Some((Subject::Row(id), _)) => Ok(Some(Message::Row(*id))),
+            Some((Subject::Partition(key), count)) => Ok(Some(Message::Seal {
+                key: key.copy()?,
+                count: *count,
+            })),
+            None => Ok(None),
+        }
     }
 
     /// Whether the record with an id stands in the list.
     pub fn has_row(&self, id: Id) -> bool
         ensures { result ≡ list_any (is_row_with id) self.now }
     {
-        self.messages.contains_key(&Subject::Row(id.number()))
+        self.counts.contains_key(&Subject::Row(id))
     }
 
     /// Whether a seal of a partition stands in the list. The error is want of memory.
     pub fn has_seal(&self, key: &Record) -> Result<bool, AllocError>
         ensures { IfOk result (λ has. has ≡ list_any (is_seal_of key.now) self.now) }
     {
-        Ok(self.messages.contains_key(&Subject::Partition(key.copy()?)))
+        Ok(self.counts.contains_key(&Subject::Partition(key.copy()?)))
     }
 
     /// Puts a record behind the others, unless it stands there, and gives whether it is new. The error is
@@ -77,9 +92,7 @@ impl Emitted {
         ensures ok { OnOk result (self.new ≡ with_id self.old id) }
         ensures err { OnErr result (self.new ≡ self.old) }
     {
-        let known = self
-            .messages
-            .insert(Subject::Row(id.number()), Message::Row(id))?;
+        let known = self.counts.insert(Subject::Row(id), 0)?;
         Ok(known.is_none())
     }
 
@@ -90,8 +103,7 @@ impl Emitted {
         ensures ok { OnOk result (self.new ≡ self.old ++ Seal key count ∷ []) }
         ensures err { OnErr result (self.new ≡ self.old) }
     {
-        let subject = Subject::Partition(key.copy()?);
-        self.messages.insert(subject, Message::Seal { key, count })?;
+        self.counts.insert(Subject::Partition(key), count)?;
         Ok(())
     }
 }

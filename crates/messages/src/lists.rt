@@ -1,5 +1,5 @@
 //! All emitted lists, and the pool of their records.
-ghost use Rattle.std.specs.Prelude.{◌≡◌, ◌<◌, ◌≤◌, ◌+◌, ◌++◌, ◌∷◌, ℕ, [], length, replicate, slice_get, slice_index_or, slice_set, false, true, None, Some, Err, IfOk, OnOk, if◌then◌else◌};
+ghost use Rattle.std.specs.Prelude.{◌≡◌, ◌<◌, ◌≤◌, ◌+◌, ◌++◌, ◌∷◌, ℕ, [], length, replicate, slice_get, slice_index_or, slice_set, false, true, None, Some, Err, IfOk, IfSome, OnOk, if◌then◌else◌};
 ghost use Rattle.std.specs.List.{All, list_any};
 ghost use Rattle.blz_pool.specs.Pool.{IsPool, record_limit, with_record};
 ghost use Rattle.blz_value.specs.Members.{Has};
@@ -11,14 +11,14 @@ ghost use Rattle.messages.specs.Lists.{message_limit};
 ghost use Rattle.messages.specs.Lists.{OneListBecomes, AllAreGiven, IsExact, read_lists, list_at, total};
 ghost use Rattle.messages.specs.EmittedCounts.{count_of, seals_of, HasRoom, IsTallyOf, IsTallied};
 ghost use Rattle.messages.specs.Faults.{IsLimit};
-ghost use Rattle.messages.specs.EmittedIds.{is_row_with, is_seal_of, with_id, counts_in};
+ghost use Rattle.messages.specs.EmittedIds.{is_row_with, is_seal_of, with_id, counts_row};
 ghost use Rattle.messages.specs.declared.fault.EventFault.TheVariants.{TooManyMessages};
 
 use crate::counts::{Tally, with_one};
 use crate::emitted::Emitted;
 use crate::fault::EventFault;
 use crate::limits::MAX_MESSAGES;
-use crate::message::Message;
+use crate::message_list::MessageList;
 use blz_pool::{Id, Pool, PoolFault};
 use blz_value::Record;
 use std::alloc::{AllocError, Global};
@@ -97,12 +97,12 @@ impl Lists {
     }
 
     /// The messages of the list at a place.
-    pub fn list(&self, place: usize) -> &[Message]
+    pub fn list(&self, place: usize) -> MessageList<'_>
         requires { place < length self.now.lists }
-        ensures list { result.now ≡ list_at self.now.lists place }
-        ensures given { All (IsGiven self.now.records) result.now }
+        ensures list { result ≡ list_at self.now.lists place }
+        ensures given { All (IsGiven self.now.records) result }
     {
-        self.lists[place].messages()
+        MessageList::of(&self.lists[place])
     }
 
     /// What holds of all lists; the call does nothing.
@@ -206,16 +206,16 @@ impl Lists {
         Ok(())
     }
 
-    // Counts the record of a message.
-    fn count_message(&self, message: &Message, tally: &mut Tally) -> Result<(), AllocError>
-        requires given { IsGiven self.now.records message.now }
+    // Counts the record of a message, by its id, None of a seal.
+    fn count_row(&self, row: Option<Id>, tally: &mut Tally) -> Result<(), AllocError>
+        requires given { IfSome row (λ id. id < length self.now.records) }
         requires room { HasRoom tally.old }
         ensures columns { tally.new.columns ≡ tally.old.columns }
-        ensures counts { OnOk result ((key : Row) → count_of tally.new.counts key ≡ count_of tally.old.counts key + (if counts_in self.now.records tally.old.columns key message.now then 1 else 0)) }
+        ensures counts { OnOk result ((key : Row) → count_of tally.new.counts key ≡ count_of tally.old.counts key + (if counts_row self.now.records tally.old.columns key row then 1 else 0)) }
     {
-        match message {
-            Message::Row(id) => tally.add(self.alloc, self.pool.get(*id)),
-            Message::Seal { .. } => Ok(()),
+        match row {
+            Some(id) => tally.add(self.alloc, self.pool.get(id)),
+            None => Ok(()),
         }
     }
 
@@ -226,9 +226,10 @@ impl Lists {
         ensures counts { IfOk result (λ tally. IsTallyOf tally (list_at (read_lists self.now) place)) }
     {
         self.known();
+        let list = self.list(place);
         let mut tally = Tally::new(self.alloc, columns)?;
-        for message in self.lists[place].messages() {
-            self.count_message(message, &mut tally)?;
+        for index in 0..list.len() {
+            self.count_row(list.row(index), &mut tally)?;
         }
         Ok(tally)
     }

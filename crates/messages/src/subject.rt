@@ -4,14 +4,15 @@ ghost use Rattle.std.specs.Cmp.{partial_equiv_from_equiv};
 ghost use Rattle.messages.specs.Subject.{is_same_subject, subject_writes, key_hash};
 ghost use Rattle.messages.specs.SubjectLaws.{is_same_subject_equiv, subject_writes_alike};
 
+use blz_pool::Id;
 use blz_value::Record;
 use std::hash::{BuildHasher, BuildHasherDefault, DefaultHasher, Hash, Hasher};
 
-/// What a message is about: a record, by its id in a pool, or a partition, by its key value. One list
-/// has one message at most about it.
+/// What stands in an emitted list once: a record, by its id in a pool, or a partition that is sealed, by
+/// its key value.
 #[derive(Drop)]
 pub enum Subject {
-    Row(u32),
+    Row(Id),
     Partition(Record),
 }
 
@@ -22,7 +23,7 @@ impl PartialEq for Subject {
 
     fn eq(&self, other: &Subject) -> bool {
         match (self, other) {
-            (Subject::Row(id), Subject::Row(other)) => id == other,
+            (Subject::Row(id), Subject::Row(other)) => id.number() == other.number(),
             (Subject::Partition(key), Subject::Partition(other)) => key == other,
             (Subject::Row(_), Subject::Partition(_)) | (Subject::Partition(_), Subject::Row(_)) =>
                 false,
@@ -41,7 +42,7 @@ impl Hash for Subject {
 
     fn hash<H: Hasher>(&self, state: &mut H) {
         match self {
-            Subject::Row(id) => state.write_u32(*id),
+            Subject::Row(id) => state.write_u32(id.number()),
             Subject::Partition(key) => state.write_u64(hash_of(key)),
         }
     }

@@ -6,8 +6,8 @@ use Rattle.messages.specs.Lists.{read_list, list_at}
 use Rattle.messages.specs.EmittedCounts.{count_of}
 use Rattle.messages.proofs.lists.Lists.tally_of.Given as goal
 
-abbrev pub invariant-loop-message : goal.invariant-loop-message
-invariant-loop-message l = record {
+abbrev pub invariant-loop-index : goal.invariant-loop-index
+invariant-loop-index l = record {
   columns : l.tally.columns ≡ l.columns;
-  counts : (key : Row) → count_of l.tally.counts key ≡ count_in l.columns (read_list l.self.records (take l.message-index (list_at l.self.lists l.place))) key;
+  counts : (key : Row) → count_of l.tally.counts key ≡ count_in l.columns (read_list l.self.records (take l.index (list_at l.self.lists l.place))) key;
 }

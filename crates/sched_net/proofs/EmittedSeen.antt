@@ -8,7 +8,7 @@ use Rattle.std.proofs.lemmas.Bool.{cases_lt}
 use Rattle.std.proofs.lemmas.List.{length-map, get_or_past, map-append, take_more}
 use Rattle.std.proofs.lemmas.List.Elements.{filter_map-append}
 use Rattle.std.proofs.lemmas.List.Sums.{get_or-le-sum_by}
-use Rattle.std.proofs.lemmas.Option.{slice_get-map, slice_get_past}
+use Rattle.std.proofs.lemmas.Option.{slice_get-map, slice_get_past, slice_get_cases}
 use Rattle.blz_pool.specs.Pool.{IsPool}
 use Rattle.blz_set.specs.RecordSet.{row_limit}
 use Rattle.blz_set.specs.References.{shown}
@@ -75,14 +75,17 @@ rows_more records messages i m within at =
     ∙ filter_map-append row_in (read_list records (take i messages)) (message_with_id records m ∷ [])
 
 -- and what is lent of it
-pub lent_more : (records : List Record) (messages : List IdMessage) (i : ℕ) (m : IdMessage) (refs : List (Bor Record)) (o : Option (Bor Record)) → i < length messages → m ≡ get_or messages i m
-    → option_copied o ≡ row_in (message_with_id records m) → shown refs ≡ rows_in (read_list records (take i messages)) → shown (refs ++ cons_option o []) ≡ rows_in (read_list records (take (i + 1) messages))
-lent_more records messages i m refs o within at lent before =
-    map-append (λ (z : Bor Record). z.now) refs (cons_option o [])
-    ∙ ap (λ l. shown refs ++ l) (copied o)
-    ∙ ap (λ l. l ++ cons_option (option_copied o) []) before
-    ∙ ap (λ r. rows_in (read_list records (take i messages)) ++ cons_option r []) lent
-    ∙ sym (rows_more records messages i m within at)
+pub lent_more : (records : List Record) (messages : List IdMessage) (i : ℕ) (refs : List (Bor Record)) (o : Option (Bor Record)) → i < length messages → option_copied o ≡ option_and_then (λ m. row_in (message_with_id records m)) (slice_get messages i)
+    → shown refs ≡ rows_in (read_list records (take i messages)) → shown (refs ++ cons_option o []) ≡ rows_in (read_list records (take (i + 1) messages))
+lent_more records messages i refs o within lent before = elim (slice_get_cases messages i).1 [
+  | inl some ↦
+      map-append (λ (z : Bor Record). z.now) refs (cons_option o [])
+      ∙ ap (λ l. shown refs ++ l) (copied o)
+      ∙ ap (λ l. l ++ cons_option (option_copied o) []) before
+      ∙ ap (λ r. rows_in (read_list records (take i messages)) ++ cons_option r []) (lent ∙ ap (option_and_then (λ m. row_in (message_with_id records m))) some.2)
+      ∙ sym (rows_more records messages i some.0 within (sym some.3))
+  | inr past ↦ absurd (omega (arith, past.0, within))
+]
   where
     copied : (o : Option (Bor Record)) → shown (cons_option o []) ≡ cons_option (option_copied o) []
     copied None = refl
@@ -160,6 +163,7 @@ module _ (v : View) (given : Data) (steps : List Step) (b : Books) (stand : Book
         ap (λ (l : List Message). length (rows_in l)) found
         ∙ sym (length-set_of-rows (emitted_list (wiring_of v) given (execution_in stand) s r) (no_repeats-emitted_list (wiring_of v) given (execution_in stand) s r))
 
+    -- the record of a message that is found
     pub seen_row : (index : ℕ) → option_and_then (λ m. row_in (message_with_id b.lists.records m)) (slice_get list index) ≡ option_and_then row_in (slice_get (emitted_list (wiring_of v) given (execution_in stand) s r) index)
     seen_row index =
         through (slice_get list index)
@@ -169,9 +173,6 @@ module _ (v : View) (given : Data) (steps : List Step) (b : Books) (stand : Book
         through : (o : Option IdMessage) → option_and_then (λ m. row_in (message_with_id b.lists.records m)) o ≡ option_and_then row_in (option_map (message_with_id b.lists.records) o)
         through None = refl
         through (Some m) = refl
-
-    pub seen_record_in : (index : ℕ) (o : Option IdMessage) → o ≡ slice_get list index → option_and_then (λ m. row_in (message_with_id b.lists.records m)) o ≡ option_and_then row_in (slice_get (emitted_list (wiring_of v) given (execution_in stand) s r) index)
-    seen_record_in index o at = ap (option_and_then (λ m. row_in (message_with_id b.lists.records m))) at ∙ seen_row index
 
     pub seen_contents : (rows : List Record) → rows ≡ rows_in (read_list b.lists.records list) → set_of rows ≡ contents (wiring_of v) given (execution_in stand) s r
     seen_contents rows read = ap set_of read ∙ ap (λ (l : List Message). set_of (rows_in l)) found
@@ -183,11 +184,6 @@ module _ (v : View) (given : Data) (steps : List Step) (b : Books) (stand : Book
     -- so sorted they are their set
     pub seen_sorted : (refs sorted : List (Bor Record)) → shown refs ≡ rows_in (read_list b.lists.records list) → IsPermutation refs sorted → IsSorted (λ x y. record_cmp x.now y.now) sorted → shown sorted ≡ set_of (shown refs)
     seen_sorted refs sorted read moved up = set_of-shown refs sorted moved up (seen_once (shown refs) read)
-
-module _ (v : View) (given : Data) (steps : List Step) (b : Books) (stand : BooksStand v given steps b) (valid : IsValid v) (s r : ℕ) (sends : r < stream_replicas v s) where
-  -- the record of a message that is found
-  pub seen_record : (index : ℕ) (o : Option IdMessage) → o ≡ slice_get (list_seen v b.lists.lists s r) index → option_and_then (λ m. row_in (message_with_id b.lists.records m)) o ≡ option_and_then row_in (slice_get (emitted_list (wiring_of v) given (execution_in stand) s r) index)
-  seen_record index o at = seen_record_in v given steps b stand valid s r sends (list_seen v b.lists.lists s r) refl index o at
 
 -- ---- replicas of Order components
 

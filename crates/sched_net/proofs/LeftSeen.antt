@@ -1,11 +1,12 @@
 -- What a net counts as left is what is left in the execution for which its books stand.
 use Rattle.std.proofs.Common.{◌≡◌, ◌<◌, ◌≤◌, ◌+◌, ◌-◌, ◌==◌, ◌&&◌, ℕ, Bool, true, false, not, Option, None, Some, List, [], length, map, filter, get_or, slice_get, refl, ap, ◌∙◌, sym, subst, inl, inr, arith}
 use Rattle.std.specs.Prelude.{if◌then◌else◌, IsTrue, ◌↔◌}
-use Rattle.std.specs.List.{enumerate_from, flat_map, list_any, sum_by}
+use Rattle.std.specs.List.{All, enumerate_from, flat_map, list_any, sum_by}
+use Rattle.std.specs.Option.{option_and_then, option_map_or}
 use Rattle.std.proofs.lemmas.Bool.{cases_lt, and_parts, and_from, eqb-true, eq-eqb, ne_eqb}
 use Rattle.std.proofs.lemmas.List.{length-map, get_or_default, get_or_past}
 use Rattle.std.proofs.lemmas.List.FromFn.{length-range_with_len}
-use Rattle.std.proofs.lemmas.Option.{slice_get_within}
+use Rattle.std.proofs.lemmas.Option.{none-some, slice_get_within}
 use Rattle.std.proofs.lemmas.List.Sums.{sum_by-le, length-filter, count_by-le-length}
 use Rattle.blz_pool.specs.Pool.{IsPool}
 use Rattle.blz_value.specs.Members.{Has}
@@ -25,6 +26,7 @@ use Rattle.inbox.specs.Completeness.{IsComplete, held_count_at, unheard, undeliv
 use Rattle.inbox.specs.Events.{Step}
 use Rattle.inbox.specs.Executions.{Execution, emitted_list}
 use Rattle.inbox.specs.Growth.{feed_numbered}
+use Rattle.messages.specs.EmittedIds.{id_in}
 use Rattle.messages.specs.Ids.{IsGiven}
 use Rattle.inbox.specs.Instances.{Instance}
 use Rattle.messages.specs.Log.{EntryId, AreGiven, IsLog, is_same_entry_id, entry_with_id, entries_with_ids}
@@ -32,7 +34,7 @@ use Rattle.messages.specs.Messages.{Batch, Entry, Pair, all_pairs, is_same_entry
 use Rattle.inbox.specs.Wiring.{feeds_for, instances_at, instance_at, instance_for, is_sequencer, is_there, wiring_of}
 use Rattle.inbox.specs.declared.inbox.Inbox.{Inbox}
 use Rattle.messages.specs.declared.message.Message.{Message as IdMessage}
-use Rattle.messages.specs.declared.message.Message.TheVariants.{Row}
+use Rattle.messages.specs.declared.message.Message.TheVariants.{Row, Seal}
 use Rattle.inbox.proofs.Executions.Sent.{history_holds}
 use Rattle.messages.proofs.LogLemmas.{any-with_ids, one_id}
 use Rattle.messages.proofs.MessagesLemmas.{is_same_pair-is, is_same_pair-itself, any-from_same, same-from_any}
@@ -51,6 +53,7 @@ use Rattle.sched_net.specs.Code.Remaining.{feed_list, AreWithin, unknown_on, unk
 use Rattle.sched_net.proofs.Counting.{numbers_counted, rows_counted, length-joined, few_entries}
 use Rattle.sched_net.proofs.EmittedSeen.{seen_emitted, seen_length}
 use Rattle.sched_net.proofs.HeldSeen.{component_of_replica, not_there}
+use Rattle.sched_net.proofs.ListPlaces.{row_listed, id_given}
 use Rattle.inbox.proofs.PlacesLemmas.{Has-below, range_has}
 use Rattle.sched_net.proofs.Showing.{is_there-true, emitted_shown, sums_same, sums_numbered}
 
@@ -248,13 +251,18 @@ module _ (v : View) (given : Data) (steps : List Step) (b : Books) (stand : Book
           let shows : ShowsEar v b.lists c r (stand.seats.seats c r) (Takes taken) = subst (ShowsEar v b.lists c r (stand.seats.seats c r)) is (stand.instances.each c r seated there within at).ear in
           untaken_is v given steps b stand valid c there r within taken left shows.0 shows.1 count
 
--- a message by its id is looked up in the log
-pub unlogged-row : (records : List Record) (log : List EntryId) (port id : ℕ) (m : IdMessage) (known : Bool) → m ≡ Row id → IsPool records → IsGiven records m → AreGiven records log → known ≡ list_any (is_same_entry_id (port, id)) log
-    → not known ≡ is_unlogged records log port m
-unlogged-row records log port id m known is pool given logged e =
-    let within : id < length records = subst (IsGiven records) is given in
-    ap not (e ∙ sym (any-with_ids records (port, id) log (one_id records pool id within) logged))
-    ∙ sym (ap (is_unlogged records log port) is)
+-- a record is looked up in the log by its id
+pub unlogged_at : (records : List Record) (log : List EntryId) (port id : ℕ) (list : List IdMessage) (index : ℕ) (known : Bool) → option_and_then id_in (slice_get list index) ≡ Some id → IsPool records → All (IsGiven records) list → AreGiven records log
+    → known ≡ list_any (is_same_entry_id (port, id)) log → not known ≡ option_map_or (is_unlogged records log port) (slice_get list index) false
+unlogged_at records log port id list index known is pool given logged e =
+    ap not (e ∙ sym (any-with_ids records (port, id) log (one_id records pool id (id_given records list index id given is)) logged))
+    ∙ sym (ap (λ (o : Option IdMessage). option_map_or (is_unlogged records log port) o false) (row_listed (slice_get list index) id is))
+
+-- and none is missed where none stands
+pub none_unlogged : (records : List Record) (log : List EntryId) (port : ℕ) (o : Option IdMessage) → option_and_then id_in o ≡ None → false ≡ option_map_or (is_unlogged records log port) o false
+none_unlogged records log port None is = refl
+none_unlogged records log port (Some (Row id)) is = absurd (none-some id (sym is))
+none_unlogged records log port (Some (Seal key count)) is = refl
 
 -- ---- all that is left
 

@@ -22,6 +22,7 @@ pub mod NamesNumbered
 pub mod ForgettingLemmas
 pub mod FirstSeats
 pub mod FirstBooks
+pub mod ListPlaces
 pub mod RecordsCounted
 pub mod SortedRows
 pub mod EmittedSeen

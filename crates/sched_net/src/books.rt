@@ -10,7 +10,7 @@ ghost use Rattle.inbox.specs.Places.{instance_place};
 
 use crate::seated::Seated;
 use inbox::Places;
-use messages::{EventFault, Lists, Log, Message};
+use messages::{EventFault, Lists, Log, MessageList};
 use topo_forms::Valid;
 
 /// The emitted lists over one pool, a log for each component, and the books of each instance, in
@@ -31,16 +31,16 @@ pub struct Books {
 
 impl Books {
     /// The messages of the emitted list of a sending replica of a stream, none where it isn't there.
-    pub fn messages(&self, valid: &Valid, stream: u32, replica: u32) -> &[Message]
+    pub fn messages(&self, valid: &Valid, stream: u32, replica: u32) -> MessageList<'_>
         requires { BooksRun valid.now.view self.now }
-        ensures list { result.now ≡ list_seen valid.now.view self.now.lists.lists stream replica }
-        ensures given { All (IsGiven self.now.lists.records) result.now }
+        ensures list { result ≡ list_seen valid.now.view self.now.lists.lists stream replica }
+        ensures given { All (IsGiven self.now.lists.records) result }
     {
         if stream >= valid.stream_count() {
-            return &[];
+            return MessageList::none();
         }
         if replica >= valid.stream_replicas(stream) {
-            return &[];
+            return MessageList::none();
         }
         let place = self.places.list(valid, stream, replica);
         self.lists.list(place)

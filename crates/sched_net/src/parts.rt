@@ -1,5 +1,5 @@
 //! The parts of an event: which message each is, and on which feed it comes.
-ghost use Rattle.std.specs.Prelude.{◌≡◌, ◌<◌, ◌==◌, ◌&&◌, length, map, option_copied, position, slice_get, IfOk, IfSome};
+ghost use Rattle.std.specs.Prelude.{◌≡◌, ◌<◌, ◌==◌, ◌&&◌, length, map, position, slice_get, IfOk, IfSome};
 ghost use Rattle.std.specs.List.{All};
 ghost use Rattle.topo_forms.specs.View.{replicas_of, stream_replicas};
 ghost use Rattle.inbox.specs.Executions.{feed_of};
@@ -14,7 +14,7 @@ ghost use Rattle.sched_net.specs.Code.Parts.{FeedsRise, PairAnswers, PairsAnswer
 use crate::books::Books;
 use crate::numbered::NumberedPart;
 use inbox::Feed;
-use messages::{EventFault, Lists, Message};
+use messages::{EventFault, Message};
 use std::alloc::{AllocError, Global};
 use topo_forms::Valid;
 
@@ -48,28 +48,6 @@ fn feed_number(feed: usize) -> Result<u32, AllocError>
     }
 }
 
-// An equal message of its own.
-fn copied(message: &Message) -> Result<Message, AllocError>
-    ensures { IfOk result (λ copy. copy ≡ message.now) }
-{
-    match message {
-        Message::Row(id) => Ok(Message::Row(*id)),
-        Message::Seal { key, count } => Ok(Message::Seal {
-            key: key.copy()?,
-            count: *count,
-        }),
-    }
-}
-
-// The message at an index of a list, None past its end.
-fn message_at(lists: &Lists, place: usize, index: u32) -> Option<&Message>
-    requires { place < length lists.now.lists }
-    ensures message { option_copied result ≡ slice_get (list_at lists.now.lists place) index }
-    ensures given { IfSome result (λ message. IsGiven lists.now.records message.now) }
-{
-    lists.list(place).get(index as usize)
-}
-
 impl Books {
     // The number of the feed on which a part comes to an instance, None where there is none.
     fn feed_to(
@@ -88,16 +66,16 @@ impl Books {
         feed_of(self.seats[place].feeds.as_slice(), part)
     }
 
-    // The message of a part that comes on a feed, None past the end of its emitted list.
-    fn message_of(&self, valid: &Valid, part: NumberedPart) -> Option<&Message>
+    // The message of a part that comes on a feed, of its own; None past the end of its emitted list.
+    fn message_of(&self, valid: &Valid, part: NumberedPart) -> Result<Option<Message>, AllocError>
         requires runs { BooksRun valid.now.view self.now }
         requires stream { part.sent.stream < length valid.now.view.streams }
         requires sender { part.sent.replica < stream_replicas valid.now.view part.sent.stream }
-        ensures message { option_copied result ≡ slice_get (list_at self.now.lists.lists (list_place valid.now.view part.sent.stream part.sent.replica)) part.sent.index }
-        ensures given { IfSome result (λ message. IsGiven self.now.lists.records message.now) }
+        ensures message { IfOk result (λ message. message ≡ slice_get (list_at self.now.lists.lists (list_place valid.now.view part.sent.stream part.sent.replica)) part.sent.index) }
+        ensures given { IfOk result (λ message. IfSome message (IsGiven self.now.lists.records)) }
     {
         let place = self.places.list(valid, part.stream, part.replica);
-        message_at(&self.lists, place, part.index)
+        self.lists.list(place).message(part.index as usize)
     }
 
     /// The message of a part and the number of the feed on which it comes to an instance. NoInstance
@@ -121,8 +99,8 @@ impl Books {
         let Some(feed) = self.feed_to(valid, component, replica, part) else {
             return Err(EventFault::NoInstance);
         };
-        match self.message_of(valid, part) {
-            Some(message) => Ok((feed_number(feed)?, copied(message)?)),
+        match self.message_of(valid, part)? {
+            Some(message) => Ok((feed_number(feed)?, message)),
             None => Err(EventFault::NoMessage),
         }
     }

@@ -1,5 +1,5 @@
 //! What is read of a net: its emitted lists, their records, and what is held.
-ghost use Rattle.std.specs.Prelude.{◌≡◌, ◌<◌, ◌≤◌, [], length, slice_get, IfOk, IfSome, Some, None, option_copied};
+ghost use Rattle.std.specs.Prelude.{◌≡◌, ◌<◌, ◌≤◌, [], length, slice_get, IfOk, Some, None, option_copied};
 ghost use Rattle.std.specs.List.{All, count_by};
 ghost use Rattle.std.specs.Option.{option_and_then};
 ghost use Rattle.blz_set.specs.RecordSet.{row_limit};
@@ -16,14 +16,14 @@ ghost use Rattle.messages.specs.Lists.{read_list};
 ghost use Rattle.sched_net.specs.Net.{BooksRun};
 ghost use Rattle.sched_net.specs.Reading.{IsRead, ReadEmitted, ReadInOrder};
 ghost use Rattle.sched_net.specs.Code.Records.{is_record};
-ghost use Rattle.sched_net.specs.Seen.{list_seen, seat_seen, IsHeldBy};
+ghost use Rattle.sched_net.specs.Seen.{seat_seen, IsHeldBy};
 
 use crate::net::Net;
 use crate::seated::{Ear, Seated};
 use blz_pool::Pool;
 use blz_set::{RecordSet, SetFault};
 use blz_value::Record;
-use messages::Message;
+use messages::MessageList;
 use std::alloc::{AllocError, Global};
 
 // Copies of the rows behind references.
@@ -49,19 +49,13 @@ fn set_within(rows: Vec<Record>) -> Result<RecordSet, AllocError>
     }
 }
 
-fn is_record(message: &Message) -> bool
-    ensures { result ≡ is_record message.now }
-{
-    matches!(message, Message::Row(_))
-}
-
 // How many of some messages are records.
-fn count_records(messages: &[Message]) -> usize
+fn count_records(messages: &MessageList<'_>) -> usize
     ensures { result ≡ count_by is_record messages.now }
 {
     let mut count = 0;
-    for message in messages {
-        if is_record(message) {
+    for index in 0..messages.len() {
+        if messages.row(index).is_some() {
             count += 1;
         }
     }
@@ -79,36 +73,25 @@ fn held_by(ear: &Ear) -> u64
 }
 
 impl Net<'_> {
-    // The message at a place of an emitted list, None past its end.
-    fn message_at(&self, stream: u32, replica: u32, index: u32) -> Option<&Message>
-        requires { BooksRun self.now.valid.now.view self.now.books }
-        ensures message { option_copied result ≡ slice_get (list_seen self.now.valid.now.view self.now.books.lists.lists stream replica) index }
-        ensures given { IfSome result (λ message. IsGiven self.now.books.lists.records message.now) }
+    // The record at a place of some messages, None where a seal stands, and past the end.
+    fn row_at(&self, messages: &MessageList<'_>, index: usize) -> Option<&Record>
+        requires { All (IsGiven self.now.books.lists.records) messages.now }
+        ensures { option_copied result ≡ option_and_then (λ m. row_in (message_with_id self.now.books.lists.records m)) (slice_get messages.now index) }
     {
-        self.books
-            .messages(self.valid, stream, replica)
-            .get(index as usize)
-    }
-
-    // The record of a message, None where it is a seal.
-    fn row_of(&self, message: &Message) -> Option<&Record>
-        requires { IsGiven self.now.books.lists.records message.now }
-        ensures { option_copied result ≡ row_in (message_with_id self.now.books.lists.records message.now) }
-    {
-        match message {
-            Message::Row(id) => Some(self.books.lists.pool().get(*id)),
-            Message::Seal { .. } => None,
+        match messages.row(index) {
+            Some(id) => Some(self.books.lists.pool().get(id)),
+            None => None,
         }
     }
 
     // The records of some messages, in their order.
-    fn rows_of(&self, messages: &[Message]) -> Result<Vec<&Record>, AllocError>
+    fn rows_of(&self, messages: &MessageList<'_>) -> Result<Vec<&Record>, AllocError>
         requires { All (IsGiven self.now.books.lists.records) messages.now }
         ensures { IfOk result (λ rows. shown rows.items ≡ rows_in (read_list self.now.books.lists.records messages.now)) }
     {
         let mut rows = Vec::with_capacity(self.alloc, messages.len())?;
-        for message in messages {
-            if let Some(row) = self.row_of(message) {
+        for index in 0..messages.len() {
+            if let Some(row) = self.row_at(messages, index) {
                 rows.push(row)?;
             }
         }
@@ -156,10 +139,8 @@ impl Net<'_> {
         ensures past { stream_replicas self.now.valid.now.view stream ≤ replica → option_copied result ≡ None }
     {
         self.valid.known();
-        match self.message_at(stream, replica, index) {
-            Some(message) => self.row_of(message),
-            None => None,
-        }
+        let messages = self.books.messages(self.valid, stream, replica);
+        self.row_at(&messages, index as usize)
     }
 
     /// The records of the emitted list of a sending replica of a stream, lent, each once and in record
@@ -173,7 +154,7 @@ impl Net<'_> {
         ensures past { stream_replicas self.now.valid.now.view stream ≤ replica → IfOk result (λ rows. shown rows.items ≡ []) }
     {
         self.valid.known();
-        let mut rows = self.rows_of(self.books.messages(self.valid, stream, replica))?;
+        let mut rows = self.rows_of(&self.books.messages(self.valid, stream, replica))?;
         rows.sort_unstable();
         Ok(rows)
     }
@@ -187,7 +168,7 @@ impl Net<'_> {
     {
         self.valid.known();
         self.books.lists.known();
-        let rows = self.rows_of(self.books.messages(self.valid, stream, replica))?;
+        let rows = self.rows_of(&self.books.messages(self.valid, stream, replica))?;
         set_within(copies_of(self.alloc, &rows)?)
     }
 
@@ -199,7 +180,7 @@ impl Net<'_> {
         ensures past { stream_replicas self.now.valid.now.view stream ≤ replica → result ≡ 0 }
     {
         self.valid.known();
-        count_records(self.books.messages(self.valid, stream, replica))
+        count_records(&self.books.messages(self.valid, stream, replica))
     }
 
     /// The pool of the net: exactly the distinct records of all emitted lists, each once.

@@ -3,7 +3,9 @@
 //! An instance keeps how many messages of each feed it heard, so it hasn't heard as many as the feed's
 //! list has more. A log keeps the ids of its records, so each message of a feed's list is looked up
 //! once.
-ghost use Rattle.std.specs.Prelude.{◌≡◌, ◌<◌, ◌≤◌, ◌-◌, ◌*◌, ℕ, length};
+ghost use Rattle.std.specs.Prelude.{◌≡◌, ◌<◌, ◌≤◌, ◌-◌, ◌*◌, ℕ, length, slice_get, false};
+ghost use Rattle.std.specs.List.{All};
+ghost use Rattle.std.specs.Option.{option_map_or};
 ghost use Rattle.topo_forms.specs.Valid.{IsValid};
 ghost use Rattle.topo_forms.specs.View.{component_at, replicas_of};
 ghost use Rattle.inbox.specs.Completeness.{left_at, left_count, left_of, left_out};
@@ -20,7 +22,7 @@ use crate::net::Net;
 use crate::ordering::is_order;
 use crate::seated::Ear;
 use inbox::Feed;
-use messages::{Known, Log, Message};
+use messages::{Known, Log, MessageList};
 
 impl Net<'_> {
     // How many parts there are at most; the call does nothing.
@@ -33,10 +35,10 @@ impl Net<'_> {
     }
 
     // The list of a feed.
-    fn feed_list(&self, feeds: &[Feed], number: u32) -> &[Message]
+    fn feed_list(&self, feeds: &[Feed], number: u32) -> MessageList<'_>
         requires runs { BooksRun self.now.valid.now.view self.now.books }
         requires number { number < length feeds.now }
-        ensures { result.now ≡ feed_list self.now.valid.now.view self.now.books.lists.lists feeds.now number }
+        ensures { result ≡ feed_list self.now.valid.now.view self.now.books.lists.lists feeds.now number }
     {
         let feed = feeds[number as usize];
         self.books.messages(self.valid, feed.stream, feed.sender)
@@ -69,16 +71,16 @@ impl Net<'_> {
         left
     }
 
-    // Whether a message is a record that a log hasn't at a port.
-    fn is_unlogged(&self, log: &Log, port: u32, message: &Message) -> bool
-        requires message { IsGiven self.now.books.lists.records message.now }
+    // Whether a record that a log hasn't at a port stands at a place of some messages.
+    fn is_unlogged(&self, log: &Log, port: u32, messages: &MessageList<'_>, index: usize) -> bool
+        requires messages { All (IsGiven self.now.books.lists.records) messages.now }
         requires log { AreGiven self.now.books.lists.records log.now }
-        ensures { result ≡ is_unlogged self.now.books.lists.records log.now port message.now }
+        ensures { result ≡ option_map_or (is_unlogged self.now.books.lists.records log.now port) (slice_get messages.now index) false }
     {
         self.books.lists.known();
-        match message {
-            Message::Row(id) => !log.knows((port, *id)),
-            Message::Seal { .. } => false,
+        match messages.row(index) {
+            Some(id) => !log.knows((port, id)),
+            None => false,
         }
     }
 
@@ -90,9 +92,10 @@ impl Net<'_> {
         ensures few { result ≤ message_limit }
     {
         self.books.lists.known();
+        let messages = self.books.messages(self.valid, feed.stream, feed.sender);
         let mut left = 0;
-        for message in self.books.messages(self.valid, feed.stream, feed.sender) {
-            if self.is_unlogged(log, feed.port, message) {
+        for index in 0..messages.len() {
+            if self.is_unlogged(log, feed.port, &messages, index) {
                 left += 1;
             }
         }

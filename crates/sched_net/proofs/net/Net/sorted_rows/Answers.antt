@@ -11,16 +11,16 @@ pub returns-clause-contents : goal.returns-clause-contents
 returns-clause-contents g c sends given steps stand =
     let view = c.args.self.now.valid.now.view in
     let books = c.args.self.now.books in
-    seen_sorted view given steps books stand c.known.ensures c.args.stream c.args.replica sends c.messages.result.now c.messages.ensures.list c.in_ok-rows.rows.items c.sort_unstable.new.self.items c.in_ok-rows.ensures c.sort_unstable.ensures.permutation c.sort_unstable.ensures.sorted
-    ∙ seen_contents view given steps books stand c.known.ensures c.args.stream c.args.replica sends c.messages.result.now c.messages.ensures.list (shown c.in_ok-rows.rows.items) c.in_ok-rows.ensures
+    seen_sorted view given steps books stand c.known.ensures c.args.stream c.args.replica sends c.messages.result c.messages.ensures.list c.in_ok-rows.rows.items c.sort_unstable.new.self.items c.in_ok-rows.ensures c.sort_unstable.ensures.permutation c.sort_unstable.ensures.sorted
+    ∙ seen_contents view given steps books stand c.known.ensures c.args.stream c.args.replica sends c.messages.result c.messages.ensures.list (shown c.in_ok-rows.rows.items) c.in_ok-rows.ensures
 
 pub returns-clause-ordered : goal.returns-clause-ordered
 returns-clause-ordered g c component output program ordered given steps stand =
     let view = c.args.self.now.valid.now.view in
     let books = c.args.self.now.books in
     let sends = ordered_sends view given steps books stand c.known.ensures c.args.stream c.args.replica component output program ordered in
-    seen_sorted view given steps books stand c.known.ensures c.args.stream c.args.replica sends c.messages.result.now c.messages.ensures.list c.in_ok-rows.rows.items c.sort_unstable.new.self.items c.in_ok-rows.ensures c.sort_unstable.ensures.permutation c.sort_unstable.ensures.sorted
-    ∙ seen_in_order view given steps books stand c.known.ensures c.args.stream c.args.replica component output program c.messages.result.now (shown c.in_ok-rows.rows.items) ordered c.messages.ensures.list c.in_ok-rows.ensures
+    seen_sorted view given steps books stand c.known.ensures c.args.stream c.args.replica sends c.messages.result c.messages.ensures.list c.in_ok-rows.rows.items c.sort_unstable.new.self.items c.in_ok-rows.ensures c.sort_unstable.ensures.permutation c.sort_unstable.ensures.sorted
+    ∙ seen_in_order view given steps books stand c.known.ensures c.args.stream c.args.replica component output program c.messages.result (shown c.in_ok-rows.rows.items) ordered c.messages.ensures.list c.in_ok-rows.ensures
 
 pub returns-clause-past : goal.returns-clause-past
 returns-clause-past g c past =

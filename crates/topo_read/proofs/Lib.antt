@@ -2,6 +2,7 @@ pub mod Front
 pub mod Keys
 pub mod GivenValues
 pub mod GivenEntries
+pub mod ComponentParts
 mod Filled
 mod ReadBackValues
 mod ReadBackEntries

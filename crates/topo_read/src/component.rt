@@ -1,4 +1,5 @@
 //! Components, each of its table.
+ghost use Rattle.std.specs.Prelude.{◌≡◌};
 ghost use Rattle.toml.specs.View.{table_view};
 ghost use Rattle.topo_read.specs.Component as spec;
 ghost use Rattle.topo_read.specs.Fields as fields;
@@ -11,7 +12,7 @@ use crate::values::{FileName, Format, StockName};
 use blz_value::{Items, Str};
 use std::alloc::Global;
 use toml::Table;
-use topo_forms::{Body, ComponentEntry, ModeName, Side, Stock};
+use topo_forms::{Body, ComponentEntry, Declared, ModeName, Side, Stock};
 
 #[tactic(auto, unfolding(crate::specs::Component::stock_with))]
 fn stock_with(
@@ -145,34 +146,115 @@ fn only_component_keys(alloc: Global, table: &Table) -> Result<(), TopoTextFault
     )
 }
 
+/// The body of a component with its ports and its outputs.
+#[derive(Drop)]
+struct Frame {
+    body: Body,
+    inputs: Items<Side>,
+    outputs: Items<Side>,
+}
+
+#[tactic(auto, unfolding(crate::specs::Component::frame_of))]
+fn frame_of(alloc: Global, table: &Table) -> Result<Frame, TopoTextFault>
+    ensures { Gives (λ frame. frame) result (spec.frame_of (table_view table.now)) }
+{
+    let body = body_of(alloc, table)?;
+    let inputs = sides_of(alloc, &body, table, "inputs")?;
+    let outputs = sides_of(alloc, &body, table, "outputs")?;
+    Ok(Frame {
+        body,
+        inputs,
+        outputs,
+    })
+}
+
+/// How many instances of a component run, and how their inputs are ordered.
+#[derive(Drop)]
+struct Running {
+    replicas: i64,
+    mode: ModeName,
+    key: Items<Str>,
+}
+
+/// The last fields of a component; no key is there but those of a component.
+#[tactic(auto, unfolding(crate::specs::Component::running_of))]
+fn running_of(alloc: Global, table: &Table) -> Result<Running, TopoTextFault>
+    ensures { Gives (λ running. running) result (spec.running_of (table_view table.now)) }
+{
+    let replicas: Option<i64> = optional(alloc, table, "replicas")?;
+    let mode: Option<ModeName> = optional(alloc, table, "mode")?;
+    let mode = mode.unwrap_or(ModeName::Free);
+    let key = key_of(alloc, mode, table)?;
+    only_component_keys(alloc, table)?;
+    Ok(Running {
+        replicas: replicas.unwrap_or(1),
+        mode,
+        key,
+    })
+}
+
+/// The fields of a component that come after its frame.
+#[derive(Drop)]
+struct Rest {
+    notes: Items<Declared>,
+    running: Running,
+}
+
+#[tactic(auto, unfolding(crate::specs::Component::rest_of))]
+fn rest_of(alloc: Global, table: &Table) -> Result<Rest, TopoTextFault>
+    ensures { Gives (λ rest. rest) result (spec.rest_of (table_view table.now)) }
+{
+    let notes = optional_list(alloc, table, "notes")?;
+    let running = running_of(alloc, table)?;
+    Ok(Rest { notes, running })
+}
+
+fn whole_of(name: Str, frame: Frame, rest: Rest) -> ComponentEntry
+    ensures { result ≡ spec.whole_of name frame rest }
+{
+    let Frame {
+        body,
+        inputs,
+        outputs,
+    } = frame;
+    let Rest { notes, running } = rest;
+    let Running {
+        replicas,
+        mode,
+        key,
+    } = running;
+    ComponentEntry {
+        name,
+        body,
+        inputs,
+        outputs,
+        notes,
+        replicas,
+        mode,
+        key,
+    }
+}
+
+/// A component, a part after the other.
+#[tactic(auto, unfolding(crate::specs::Component::by_parts))]
+fn by_parts(alloc: Global, table: &Table) -> Result<ComponentEntry, TopoTextFault>
+    ensures { Gives (λ entry. entry) result (spec.by_parts (table_view table.now)) }
+{
+    let name = required(alloc, table, "name")?;
+    let frame = frame_of(alloc, table)?;
+    let rest = rest_of(alloc, table)?;
+    Ok(whole_of(name, frame, rest))
+}
+
 impl FromTable for ComponentEntry {
     ghost reading = { λ format. spec.component_of };
 
-    #[tactic(auto, unfolding(crate::specs::Component::component_of))]
+    #[tactic(auto, using(crate::proofs::ComponentParts::is_whole))]
     fn from_table(
         alloc: Global,
         _format: Format,
         table: &Table,
     ) -> Result<ComponentEntry, TopoTextFault> {
-        let name = required(alloc, table, "name")?;
-        let body = body_of(alloc, table)?;
-        let inputs = sides_of(alloc, &body, table, "inputs")?;
-        let outputs = sides_of(alloc, &body, table, "outputs")?;
-        let notes = optional_list(alloc, table, "notes")?;
-        let replicas: Option<i64> = optional(alloc, table, "replicas")?;
-        let mode: Option<ModeName> = optional(alloc, table, "mode")?;
-        let mode = mode.unwrap_or(ModeName::Free);
-        let key = key_of(alloc, mode, table)?;
-        only_component_keys(alloc, table)?;
-        Ok(ComponentEntry {
-            name,
-            body,
-            inputs,
-            outputs,
-            notes,
-            replicas: replicas.unwrap_or(1),
-            mode,
-            key,
-        })
+        by_parts(alloc, table)
     }
 }

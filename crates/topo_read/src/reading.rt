@@ -93,24 +93,21 @@ fn entries<T: FromTable>(
     Ok(Items::from_vec(entries))
 }
 
-#[tactic(auto, unfolding(crate::specs::Topology::topology_of))]
-fn topology_in(alloc: Global, top: &Table) -> Result<Topology, TopoTextFault>
-    ensures { Gives (λ topology. topology) result (spec.topology_of (table_view top.now)) }
+/// The topology whose entries these tables are.
+fn from_tables(
+    alloc: Global,
+    format: Format,
+    sources: &[&Table],
+    components: &[&Table],
+    streams: &[&Table],
+    fds: &[&Table],
+) -> Result<Topology, TopoTextFault>
+    ensures { Gives (λ topology. topology) result (spec.from_tables format (map (λ table. table_view table.now) sources.now) (map (λ table. table_view table.now) components.now) (map (λ table. table_view table.now) streams.now) (map (λ table. table_view table.now) fds.now)) }
 {
-    let format: Format = required(alloc, top, "format")?;
-    let sources = tables_at(alloc, top, "source")?;
-    let components = tables_at(alloc, top, "component")?;
-    let streams = tables_at(alloc, top, "stream")?;
-    let fds = tables_at(alloc, top, "fd")?;
-    only_keys(
-        alloc,
-        top,
-        &["format", "source", "component", "stream", "fd"],
-    )?;
-    let sources = entries(alloc, format, "source", &sources)?;
-    let components = entries(alloc, format, "component", &components)?;
-    let streams = entries(alloc, format, "stream", &streams)?;
-    let fds = entries(alloc, format, "fd", &fds)?;
+    let sources = entries(alloc, format, "source", sources)?;
+    let components = entries(alloc, format, "component", components)?;
+    let streams = entries(alloc, format, "stream", streams)?;
+    let fds = entries(alloc, format, "fd", fds)?;
     Ok(Topology {
         format: 2,
         sources,
@@ -118,6 +115,36 @@ fn topology_in(alloc: Global, top: &Table) -> Result<Topology, TopoTextFault>
         streams,
         fds,
     })
+}
+
+/// The topology whose sources and components these tables are.
+fn from_streams(
+    alloc: Global,
+    format: Format,
+    sources: &[&Table],
+    components: &[&Table],
+    top: &Table,
+) -> Result<Topology, TopoTextFault>
+    ensures { Gives (λ topology. topology) result (spec.from_streams format (map (λ table. table_view table.now) sources.now) (map (λ table. table_view table.now) components.now) (table_view top.now)) }
+{
+    let streams = tables_at(alloc, top, "stream")?;
+    let fds = tables_at(alloc, top, "fd")?;
+    only_keys(
+        alloc,
+        top,
+        &["format", "source", "component", "stream", "fd"],
+    )?;
+    from_tables(alloc, format, sources, components, &streams, &fds)
+}
+
+#[tactic(auto, unfolding(crate::specs::Topology::topology_of))]
+fn topology_in(alloc: Global, top: &Table) -> Result<Topology, TopoTextFault>
+    ensures { Gives (λ topology. topology) result (spec.topology_of (table_view top.now)) }
+{
+    let format: Format = required(alloc, top, "format")?;
+    let sources = tables_at(alloc, top, "source")?;
+    let components = tables_at(alloc, top, "component")?;
+    from_streams(alloc, format, &sources, &components, top)
 }
 
 fn text_of(bytes: &[u8]) -> Option<&str>

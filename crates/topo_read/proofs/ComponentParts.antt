@@ -10,7 +10,8 @@ use Rattle.topo_read.specs.Gives.{Gives}
 use Rattle.topo_read.specs.Values.{name_in, mode_in}
 use Rattle.topo_read.specs.Tables.{declared_in}
 use Rattle.topo_read.specs.Fields.{◌>>=◌, Path, required, optional, optional_list, only_keys}
-use Rattle.topo_read.specs.Component.{body_of, sides_of, key_of, or_one, or_free, component_keys, component_of, frame_of, running_of, rest_of, by_parts}
+use Rattle.topo_read.specs.Component.{body_of, sides_of, key_of, or_one, or_free, component_keys, component_of}
+use Rattle.topo_read.specs.Code.ComponentParts.{frame_of, running_of, rest_of, by_parts}
 
 -- the steps of a part are steps of the whole
 inner : {A B C : Type 0} (m : Result A Path) (f : A → Result B Path) (g : B → Result C Path) (h : A → Result C Path) → ((x : A) → (f x >>= g) ≡ h x) → ((m >>= f) >>= g) ≡ (m >>= h)

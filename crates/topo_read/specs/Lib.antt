@@ -10,3 +10,4 @@ pub mod Reading
 pub mod Fill
 pub mod Written
 pub mod Laws
+pub mod Code

@@ -1,6 +1,7 @@
 //! Components, each of its table.
 ghost use Rattle.std.specs.Prelude.{◌≡◌};
 ghost use Rattle.toml.specs.View.{table_view};
+ghost use Rattle.topo_read.specs.Code.ComponentParts as parts;
 ghost use Rattle.topo_read.specs.Component as spec;
 ghost use Rattle.topo_read.specs.Fields as fields;
 ghost use Rattle.topo_read.specs.Gives.{Gives};
@@ -154,9 +155,9 @@ struct Frame {
     outputs: Items<Side>,
 }
 
-#[tactic(auto, unfolding(crate::specs::Component::frame_of))]
+#[tactic(auto, unfolding(crate::specs::Code::ComponentParts::frame_of))]
 fn frame_of(alloc: Global, table: &Table) -> Result<Frame, TopoTextFault>
-    ensures { Gives (λ frame. frame) result (spec.frame_of (table_view table.now)) }
+    ensures { Gives (λ frame. frame) result (parts.frame_of (table_view table.now)) }
 {
     let body = body_of(alloc, table)?;
     let inputs = sides_of(alloc, &body, table, "inputs")?;
@@ -177,9 +178,9 @@ struct Running {
 }
 
 /// The last fields of a component; no key is there but those of a component.
-#[tactic(auto, unfolding(crate::specs::Component::running_of))]
+#[tactic(auto, unfolding(crate::specs::Code::ComponentParts::running_of))]
 fn running_of(alloc: Global, table: &Table) -> Result<Running, TopoTextFault>
-    ensures { Gives (λ running. running) result (spec.running_of (table_view table.now)) }
+    ensures { Gives (λ running. running) result (parts.running_of (table_view table.now)) }
 {
     let replicas: Option<i64> = optional(alloc, table, "replicas")?;
     let mode: Option<ModeName> = optional(alloc, table, "mode")?;
@@ -200,9 +201,9 @@ struct Rest {
     running: Running,
 }
 
-#[tactic(auto, unfolding(crate::specs::Component::rest_of))]
+#[tactic(auto, unfolding(crate::specs::Code::ComponentParts::rest_of))]
 fn rest_of(alloc: Global, table: &Table) -> Result<Rest, TopoTextFault>
-    ensures { Gives (λ rest. rest) result (spec.rest_of (table_view table.now)) }
+    ensures { Gives (λ rest. rest) result (parts.rest_of (table_view table.now)) }
 {
     let notes = optional_list(alloc, table, "notes")?;
     let running = running_of(alloc, table)?;
@@ -210,7 +211,7 @@ fn rest_of(alloc: Global, table: &Table) -> Result<Rest, TopoTextFault>
 }
 
 fn whole_of(name: Str, frame: Frame, rest: Rest) -> ComponentEntry
-    ensures { result ≡ spec.whole_of name frame rest }
+    ensures { result ≡ parts.whole_of name frame rest }
 {
     let Frame {
         body,
@@ -236,9 +237,9 @@ fn whole_of(name: Str, frame: Frame, rest: Rest) -> ComponentEntry
 }
 
 /// A component, a part after the other.
-#[tactic(auto, unfolding(crate::specs::Component::by_parts))]
+#[tactic(auto, unfolding(crate::specs::Code::ComponentParts::by_parts))]
 fn by_parts(alloc: Global, table: &Table) -> Result<ComponentEntry, TopoTextFault>
-    ensures { Gives (λ entry. entry) result (spec.by_parts (table_view table.now)) }
+    ensures { Gives (λ entry. entry) result (parts.by_parts (table_view table.now)) }
 {
     let name = required(alloc, table, "name")?;
     let frame = frame_of(alloc, table)?;

@@ -5,6 +5,7 @@ ghost use Rattle.toml.specs.View.{table_view, items_view};
 ghost use Rattle.topo_read.specs.Document as document;
 ghost use Rattle.topo_read.specs.Gives.{Gives, GivesValue, IsBreakAt, GivesDocument};
 ghost use Rattle.topo_read.specs.Reading.{IsReading};
+ghost use Rattle.topo_read.specs.Code.TopologyParts as parts;
 ghost use Rattle.topo_read.specs.Topology as spec;
 ghost use Rattle.topo_read.specs.Values.{all_in};
 ghost use Rattle.topo_forms.specs.Allowed.{IsAllowed};
@@ -102,7 +103,7 @@ fn from_tables(
     streams: &[&Table],
     fds: &[&Table],
 ) -> Result<Topology, TopoTextFault>
-    ensures { Gives (λ topology. topology) result (spec.from_tables format (map (λ table. table_view table.now) sources.now) (map (λ table. table_view table.now) components.now) (map (λ table. table_view table.now) streams.now) (map (λ table. table_view table.now) fds.now)) }
+    ensures { Gives (λ topology. topology) result (parts.from_tables format (map (λ table. table_view table.now) sources.now) (map (λ table. table_view table.now) components.now) (map (λ table. table_view table.now) streams.now) (map (λ table. table_view table.now) fds.now)) }
 {
     let sources = entries(alloc, format, "source", sources)?;
     let components = entries(alloc, format, "component", components)?;
@@ -125,7 +126,7 @@ fn from_streams(
     components: &[&Table],
     top: &Table,
 ) -> Result<Topology, TopoTextFault>
-    ensures { Gives (λ topology. topology) result (spec.from_streams format (map (λ table. table_view table.now) sources.now) (map (λ table. table_view table.now) components.now) (table_view top.now)) }
+    ensures { Gives (λ topology. topology) result (parts.from_streams format (map (λ table. table_view table.now) sources.now) (map (λ table. table_view table.now) components.now) (table_view top.now)) }
 {
     let streams = tables_at(alloc, top, "stream")?;
     let fds = tables_at(alloc, top, "fd")?;

@@ -1,0 +1,3 @@
+-- What only the clauses of private functions speak of.
+pub mod ComponentParts
+pub mod TopologyParts

@@ -6,7 +6,7 @@ ghost use Rattle.sched_run.specs.declared.lanes.Lane.TheVariants.{Deliver, Order
 
 use crate::lanes::{Lane, Taker};
 use inbox::Feed;
-use messages::{Known, Log, Message};
+use messages::{Known, Log, MessageList};
 use sched_net::{Books, Ear};
 use sched_turns::{OpenPlaces, Stale, Window};
 use std::alloc::AllocError;
@@ -29,20 +29,20 @@ impl OpenPlaces for Unheard<'_> {
 }
 
 // The indexes of a list at which a record stands that a log hasn't at a port.
-#[derive(Clone, Copy)]
+#[derive(Drop)]
 struct Unlogged<'a> {
     log: &'a Log,
     port: u32,
-    messages: &'a [Message],
+    messages: MessageList<'a>,
 }
 
 impl OpenPlaces for Unlogged<'_> {
-    ghost is_open = { λ list index. is_unlogged_at list.log.now list.port list.messages.now index };
+    ghost is_open = { λ list index. is_unlogged_at list.log.now list.port list.messages index };
 
     fn is_open(&self, place: u32) -> bool {
-        match self.messages.get(place as usize) {
-            Some(Message::Row(id)) => !self.log.knows((self.port, *id)),
-            Some(Message::Seal { .. }) | None => false,
+        match self.messages.row(place as usize) {
+            Some(id) => !self.log.knows((self.port, id)),
+            None => false,
         }
     }
 }

@@ -12,6 +12,7 @@ use blz_outside::MemFiles;
 use blz_value::{Record, write_record};
 use data_read::Data;
 use inbox::Message;
+use messages::MessageList;
 use replay_run::{StepRefusal, run};
 use sched_run::{Net, make};
 use sched_text::{Event, print};
@@ -158,21 +159,23 @@ fn stream_shown(
             messages.len() == net.emitted(stream, replica),
             "the list has the length that the net tells",
         );
-        for (index, message) in messages.iter().enumerate() {
+        for index in 0..messages.len() {
             let front = format!(in alloc; "{} {replica} {index} ", name.as_str())?;
             shown.extend_from_slice(front.as_bytes())?;
             let row = match u32::try_from(index) {
                 Ok(index) => net.record_at(stream, replica, index),
                 Err(_) => None,
             };
-            message_shown(alloc, message, row, shown)?;
+            if let Some(message) = messages.message(index)? {
+                message_shown(alloc, &message, row, shown)?;
+            }
         }
     }
     Ok(())
 }
 
 // An emitted list.
-fn list_of<'n>(net: &'n Net<'_>, stream: u32, replica: u32) -> &'n [Message]
+fn list_of<'n>(net: &'n Net<'_>, stream: u32, replica: u32) -> MessageList<'n>
     requires { BooksRun net.now.valid.now.view net.now.books }
 {
     net.books().messages(net.valid(), stream, replica)

@@ -6,8 +6,8 @@ use Rattle.blz_value.specs.NumberSets.{below}
 use Rattle.topo_forms.specs.View.{View}
 use Rattle.inbox.specs.Executions.{Execution}
 use Rattle.label_walk.proofs.Loops.{flat_below_more, map_below_more}
-use Rattle.sched_net.specs.Reading.{IsRead}
-use Rattle.sched_net.specs.declared.books.Books.{Books}
+use Rattle.sched_run.specs.Reading.{IsRead}
+use Rattle.sched_run.specs.declared.books.Books.{Books}
 use Rattle.report_lines.specs.Words.{Text}
 
 -- what is read of the books of one view is so of another that is the same

@@ -17,9 +17,9 @@ use Rattle.sched_turns.specs.Windows.{first_open}
 use Rattle.inbox.specs.Limits.{Limit, too_many_rows, too_many_messages, limit_of_event}
 use Rattle.sched_run.specs.declared.fault.MakeFault.{MakeFault}
 use Rattle.sched_run.specs.declared.fault.MakeFault.TheVariants.{TooManyEvents, TooManyRows, TooManyMessages, NoMemory}
-use Rattle.sched_run.specs.declared.lanes.Lane.{Lane}
-use Rattle.sched_run.specs.declared.lanes.Lane.TheVariants.{Deliver, Order}
-use Rattle.sched_run.specs.declared.lanes.Taker.{Taker}
+use Rattle.sched_run.specs.declared.making.lanes.Lane.{Lane}
+use Rattle.sched_run.specs.declared.making.lanes.Lane.TheVariants.{Deliver, Order}
+use Rattle.sched_run.specs.declared.making.lanes.Taker.{Taker}
 
 -- ---- lanes, on which messages come to an instance or to a log, and takers, which take from a log
 

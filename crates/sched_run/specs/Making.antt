@@ -10,11 +10,11 @@ use Rattle.topo_forms.specs.View.{View}
 use Rattle.inbox.specs.Events.{Event, event}
 use Rattle.inbox.specs.Wiring.{wiring_of}
 use Rattle.sched_run.specs.Made.{made_of, AnswersSo}
-use Rattle.sched_net.specs.Net.{Stands}
-use Rattle.sched_net.specs.Numbered.{numbered}
-use Rattle.sched_net.specs.declared.books.Books.{Books}
+use Rattle.sched_run.specs.Net.{Stands}
+use Rattle.sched_run.specs.Numbered.{numbered}
+use Rattle.sched_run.specs.declared.books.Books.{Books}
 use Rattle.sched_run.specs.declared.fault.MakeFault.{MakeFault}
-use Rattle.sched_net.specs.ScheduleLines.{Line, steps_of, events_of}
+use Rattle.sched_run.specs.ScheduleLines.{Line, steps_of, events_of}
 
 -- the net stands for no step: no event was applied to it, and nothing was forgotten
 pub record RunsFirst (v : View) (loaded : List (Option Program)) (tables : List Sets) (b : Books) : Type 0 where

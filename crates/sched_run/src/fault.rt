@@ -1,9 +1,16 @@
-//! Why no schedule is made.
+//! Why a forget is refused, and why no schedule is made.
 ghost use Rattle.std.specs.Prelude.{◌≡◌};
 ghost use Rattle.sched_run.specs.declared.fault.MakeFault.TheVariants as make_fault;
 
 use std::alloc::{AllocError, AllocFailed};
 use thiserror::Error;
+
+/// Why a forget is refused.
+#[derive(Clone, Copy, Debug, PartialEq, Eq)]
+pub enum ForgetFault {
+    /// The component or the replica isn't there.
+    NoInstance,
+}
 
 /// Why no schedule is made of a seed. Events are counted from 1.
 #[derive(Debug, Drop, Error)]

@@ -3,26 +3,35 @@
 //! The works of a lane are shown by a window, which looks again after a turn that may have changed them,
 //! and only at what that may have made stale and at what is new; a tree of the windows' sizes finds a work
 //! by its number.
-//!
-//! No signature here has a box, so in a clause a word of a shell takes the two parts of its box.
 ghost use Rattle.std.specs.Prelude.{◌≡◌, ◌<◌, ◌++◌, ◌∷◌, [], ℕ, true, map, IfOk, OnOk, length, sum};
 ghost use Rattle.sched_text.specs.Text.{IsPrintable};
 ghost use Rattle.sched_run.specs.Made.{says_again, chosen_events};
 ghost use Rattle.sched_run.specs.Making.{RunsFirst, AnswersMade, LeavesMade, AnswersNumbered, LeavesNumbered, CountFromOne};
-ghost use Rattle.sched_net.specs.ScheduleLines.{events_of};
+ghost use Rattle.sched_run.specs.ScheduleLines.{events_of};
 ghost use Rattle.sched_run.specs.Naming.{CanBeWritten};
-ghost use Rattle.sched_net.specs.Net.{BooksRun};
+ghost use Rattle.sched_run.specs.Net.{BooksRun};
 ghost use Rattle.sched_run.specs.Code.Making.{EndsNet, fault_with, Goes, GoesOn, IsDue, AppliesEvents, IsReady, Turns, StandsMade};
 ghost use Rattle.sched_run.specs.Code.Watch.{IsUntouched, IsWatched, StillShows};
 ghost use Rattle.sched_run.specs.Code.Works.{AreWorksOf, AreShown, HasNames, IsOpenWork, MayLookAt, work_event};
 
+mod groups;
+mod lanes;
+mod limits;
+mod looking;
+mod made;
+mod naming;
+mod stale;
+mod watch;
+mod works;
+
+pub use made::Made;
+
 use crate::fault::MakeFault;
-use crate::limits::MAX_EVENTS;
-use crate::made::Made;
-use crate::watch::Watch;
-use crate::works::Work;
+use crate::making::limits::MAX_EVENTS;
+use crate::making::watch::Watch;
+use crate::making::works::Work;
+use crate::net::Net;
 use messages::EventFault;
-use sched_net::{Net, end_net};
 use sched_text::Schedule;
 use sched_turns::Draws;
 use std::alloc::AllocError;
@@ -59,15 +68,15 @@ fn says_again(number: u64) -> bool
 
 // Applies the event of a work, which is one event more.
 fn apply(net: &mut Net<'_>, made: &mut Made, work: &Work) -> Result<(), MakeFault>
-    requires legal { GoesOn net.old.valid.now.view (map (λ b. program (b.vtable, b.value)) net.old.shells.items) (map (λ b. kept (b.vtable, b.value)) net.old.shells.items) net.old.books made.old (work_event work.now) }
+    requires legal { GoesOn net.old.valid.now.view (map (λ b. program b) net.old.shells.items) (map (λ b. kept b) net.old.shells.items) net.old.books made.old (work_event work.now) }
     requires names { HasNames net.old.valid.now.view work.now }
     requires written { CanBeWritten net.old.valid.now.view made.old }
-    ensures applies { AppliesEvents net.old.valid.now.view (map (λ b. program (b.vtable, b.value)) net.old.shells.items) (map (λ b. kept (b.vtable, b.value)) net.old.shells.items) (map (λ b. kept (b.vtable, b.value)) net.new.shells.items) net.old.books net.new.books made.old made.new (work_event work.now ∷ []) result }
+    ensures applies { AppliesEvents net.old.valid.now.view (map (λ b. program b) net.old.shells.items) (map (λ b. kept b) net.old.shells.items) (map (λ b. kept b) net.new.shells.items) net.old.books net.new.books made.old made.new (work_event work.now ∷ []) result }
     ensures written { OnOk result (CanBeWritten net.old.valid.now.view made.new) }
     ensures events { OnOk result (made.new ≡ made.old ++ work_event work.now ∷ []) }
     ensures valid { net.new.valid ≡ net.old.valid }
-    ensures kinds { map (λ b. kind (b.vtable, b.value)) net.new.shells.items ≡ map (λ b. kind (b.vtable, b.value)) net.old.shells.items }
-    ensures loaded { map (λ b. program (b.vtable, b.value)) net.new.shells.items ≡ map (λ b. program (b.vtable, b.value)) net.old.shells.items }
+    ensures kinds { map (λ b. kind b) net.new.shells.items ≡ map (λ b. kind b) net.old.shells.items }
+    ensures loaded { map (λ b. program b) net.new.shells.items ≡ map (λ b. program b) net.old.shells.items }
 {
     if made.len() >= MAX_EVENTS {
         return Err(MakeFault::TooManyEvents);
@@ -89,15 +98,15 @@ fn apply_chosen(
     number: u64,
     work: &Work,
 ) -> Result<(), MakeFault>
-    requires due { IsDue net.old.valid.now.view (map (λ b. program (b.vtable, b.value)) net.old.shells.items) (map (λ b. kept (b.vtable, b.value)) net.old.shells.items) net.old.books made.old (work_event work.now) }
+    requires due { IsDue net.old.valid.now.view (map (λ b. program b) net.old.shells.items) (map (λ b. kept b) net.old.shells.items) net.old.books made.old (work_event work.now) }
     requires names { HasNames net.old.valid.now.view work.now }
     requires written { CanBeWritten net.old.valid.now.view made.old }
-    ensures applies { AppliesEvents net.old.valid.now.view (map (λ b. program (b.vtable, b.value)) net.old.shells.items) (map (λ b. kept (b.vtable, b.value)) net.old.shells.items) (map (λ b. kept (b.vtable, b.value)) net.new.shells.items) net.old.books net.new.books made.old made.new (chosen_events number (work_event work.now)) result }
+    ensures applies { AppliesEvents net.old.valid.now.view (map (λ b. program b) net.old.shells.items) (map (λ b. kept b) net.old.shells.items) (map (λ b. kept b) net.new.shells.items) net.old.books net.new.books made.old made.new (chosen_events number (work_event work.now)) result }
     ensures written { OnOk result (CanBeWritten net.old.valid.now.view made.new) }
     ensures events { OnOk result (made.new ≡ made.old ++ chosen_events number (work_event work.now)) }
     ensures valid { net.new.valid ≡ net.old.valid }
-    ensures kinds { map (λ b. kind (b.vtable, b.value)) net.new.shells.items ≡ map (λ b. kind (b.vtable, b.value)) net.old.shells.items }
-    ensures loaded { map (λ b. program (b.vtable, b.value)) net.new.shells.items ≡ map (λ b. program (b.vtable, b.value)) net.old.shells.items }
+    ensures kinds { map (λ b. kind b) net.new.shells.items ≡ map (λ b. kind b) net.old.shells.items }
+    ensures loaded { map (λ b. program b) net.new.shells.items ≡ map (λ b. program b) net.old.shells.items }
 {
     net.known();
     apply(net, made, work)?;
@@ -162,15 +171,15 @@ impl Making {
 
     // One turn, where something is open: a draw chooses a work.
     fn turn(&mut self, net: &mut Net<'_>) -> Result<(), MakeFault>
-        requires goes { Goes net.old.valid.now.view (map (λ b. program (b.vtable, b.value)) net.old.shells.items) (map (λ b. kept (b.vtable, b.value)) net.old.shells.items) net.old.books self.old.made }
+        requires goes { Goes net.old.valid.now.view (map (λ b. program b) net.old.shells.items) (map (λ b. kept b) net.old.shells.items) net.old.books self.old.made }
         requires ready { IsReady net.old.valid.now.view net.old.books self.old }
         requires some { 0 < sum self.old.watch.works.sizes }
-        ensures turns { Turns net.old.valid.now.view (map (λ b. program (b.vtable, b.value)) net.old.shells.items) (map (λ b. kept (b.vtable, b.value)) net.old.shells.items) (map (λ b. kept (b.vtable, b.value)) net.new.shells.items) net.old.books net.new.books self.old self.new result }
+        ensures turns { Turns net.old.valid.now.view (map (λ b. program b) net.old.shells.items) (map (λ b. kept b) net.old.shells.items) (map (λ b. kept b) net.new.shells.items) net.old.books net.new.books self.old self.new result }
         ensures ready { OnOk result (IsReady net.old.valid.now.view net.new.books self.new) }
         ensures more { OnOk result (length self.old.made < length self.new.made) }
         ensures valid { net.new.valid ≡ net.old.valid }
-        ensures kinds { map (λ b. kind (b.vtable, b.value)) net.new.shells.items ≡ map (λ b. kind (b.vtable, b.value)) net.old.shells.items }
-        ensures loaded { map (λ b. program (b.vtable, b.value)) net.new.shells.items ≡ map (λ b. program (b.vtable, b.value)) net.old.shells.items }
+        ensures kinds { map (λ b. kind b) net.new.shells.items ≡ map (λ b. kind b) net.old.shells.items }
+        ensures loaded { map (λ b. program b) net.new.shells.items ≡ map (λ b. program b) net.old.shells.items }
     {
         net.known();
         let number = self.draws.next_number();
@@ -184,13 +193,13 @@ impl Making {
 
 // The events of a seed, before a fault ends the net.
 fn made_of(net: &mut Net<'_>, seed: u64) -> Result<Made, MakeFault>
-    requires { RunsFirst net.old.valid.now.view (map (λ b. program (b.vtable, b.value)) net.old.shells.items) (map (λ b. kept (b.vtable, b.value)) net.old.shells.items) net.old.books }
-    ensures made { AnswersNumbered net.old.valid.now.view (map (λ b. program (b.vtable, b.value)) net.old.shells.items) (map (λ b. kept (b.vtable, b.value)) net.old.shells.items) net.old.books seed result }
-    ensures stands { IfOk result (StandsMade net.old.valid.now.view (map (λ b. program (b.vtable, b.value)) net.old.shells.items) (map (λ b. kept (b.vtable, b.value)) net.old.shells.items) (map (λ b. kept (b.vtable, b.value)) net.new.shells.items) net.old.books net.new.books) }
+    requires { RunsFirst net.old.valid.now.view (map (λ b. program b) net.old.shells.items) (map (λ b. kept b) net.old.shells.items) net.old.books }
+    ensures made { AnswersNumbered net.old.valid.now.view (map (λ b. program b) net.old.shells.items) (map (λ b. kept b) net.old.shells.items) net.old.books seed result }
+    ensures stands { IfOk result (StandsMade net.old.valid.now.view (map (λ b. program b) net.old.shells.items) (map (λ b. kept b) net.old.shells.items) (map (λ b. kept b) net.new.shells.items) net.old.books net.new.books) }
     ensures written { IfOk result (CanBeWritten net.old.valid.now.view) }
     ensures valid { net.new.valid ≡ net.old.valid }
-    ensures kinds { map (λ b. kind (b.vtable, b.value)) net.new.shells.items ≡ map (λ b. kind (b.vtable, b.value)) net.old.shells.items }
-    ensures loaded { map (λ b. program (b.vtable, b.value)) net.new.shells.items ≡ map (λ b. program (b.vtable, b.value)) net.old.shells.items }
+    ensures kinds { map (λ b. kind b) net.new.shells.items ≡ map (λ b. kind b) net.old.shells.items }
+    ensures loaded { map (λ b. program b) net.new.shells.items ≡ map (λ b. program b) net.old.shells.items }
 {
     net.known();
     let mut making = Making::of(net, seed)?;
@@ -207,23 +216,23 @@ fn made_of(net: &mut Net<'_>, seed: u64) -> Result<Made, MakeFault>
 /// where an event more than 1,000,000 is due; a fault ends the net. A turn takes as many steps as the
 /// works stand in levels, beside its event and a look at each lane that it may change.
 pub fn make_numbered(net: &mut Net<'_>, seed: u64) -> Result<Made, MakeFault>
-    requires { RunsFirst net.old.valid.now.view (map (λ b. program (b.vtable, b.value)) net.old.shells.items) (map (λ b. kept (b.vtable, b.value)) net.old.shells.items) net.old.books }
+    requires { RunsFirst net.old.valid.now.view (map (λ b. program b) net.old.shells.items) (map (λ b. kept b) net.old.shells.items) net.old.books }
 
     // Of whatever data the net stood for: the events and the causes of faults, and what the net
     // stands for then.
-    ensures made { AnswersNumbered net.old.valid.now.view (map (λ b. program (b.vtable, b.value)) net.old.shells.items) (map (λ b. kept (b.vtable, b.value)) net.old.shells.items) net.old.books seed result }
-    ensures leaves { LeavesNumbered net.old.valid.now.view (map (λ b. program (b.vtable, b.value)) net.old.shells.items) (map (λ b. kept (b.vtable, b.value)) net.old.shells.items) (map (λ b. kept (b.vtable, b.value)) net.new.shells.items) net.old.books net.new.books result }
+    ensures made { AnswersNumbered net.old.valid.now.view (map (λ b. program b) net.old.shells.items) (map (λ b. kept b) net.old.shells.items) net.old.books seed result }
+    ensures leaves { LeavesNumbered net.old.valid.now.view (map (λ b. program b) net.old.shells.items) (map (λ b. kept b) net.old.shells.items) (map (λ b. kept b) net.new.shells.items) net.old.books net.new.books result }
 
     // They can be written with the names of the topology.
     ensures written { IfOk result (CanBeWritten net.old.valid.now.view) }
 
     ensures valid { net.new.valid ≡ net.old.valid }
-    ensures kinds { map (λ b. kind (b.vtable, b.value)) net.new.shells.items ≡ map (λ b. kind (b.vtable, b.value)) net.old.shells.items }
-    ensures loaded { map (λ b. program (b.vtable, b.value)) net.new.shells.items ≡ map (λ b. program (b.vtable, b.value)) net.old.shells.items }
+    ensures kinds { map (λ b. kind b) net.new.shells.items ≡ map (λ b. kind b) net.old.shells.items }
+    ensures loaded { map (λ b. program b) net.new.shells.items ≡ map (λ b. program b) net.old.shells.items }
 {
     let made = made_of(net, seed);
     if made.is_err() {
-        end_net(net);
+        net.end();
     }
     made
 }
@@ -245,25 +254,25 @@ fn schedule_of(net: &Net<'_>, made: &Made) -> Result<Schedule, AllocError>
 /// where an event more than 1,000,000 is due; a fault ends the net. A turn takes as many steps as the
 /// works stand in levels, beside its event and a look at each lane that it may change.
 pub fn make(net: &mut Net<'_>, seed: u64) -> Result<Schedule, MakeFault>
-    requires { RunsFirst net.old.valid.now.view (map (λ b. program (b.vtable, b.value)) net.old.shells.items) (map (λ b. kept (b.vtable, b.value)) net.old.shells.items) net.old.books }
+    requires { RunsFirst net.old.valid.now.view (map (λ b. program b) net.old.shells.items) (map (λ b. kept b) net.old.shells.items) net.old.books }
 
     // Of whatever data the net stood for: the schedule and the causes of faults, and what the net
     // stands for then.
-    ensures made { AnswersMade net.old.valid.now.view (map (λ b. program (b.vtable, b.value)) net.old.shells.items) (map (λ b. kept (b.vtable, b.value)) net.old.shells.items) net.old.books seed result }
-    ensures leaves { LeavesMade net.old.valid.now.view (map (λ b. program (b.vtable, b.value)) net.old.shells.items) (map (λ b. kept (b.vtable, b.value)) net.old.shells.items) (map (λ b. kept (b.vtable, b.value)) net.new.shells.items) net.old.books net.new.books result }
+    ensures made { AnswersMade net.old.valid.now.view (map (λ b. program b) net.old.shells.items) (map (λ b. kept b) net.old.shells.items) net.old.books seed result }
+    ensures leaves { LeavesMade net.old.valid.now.view (map (λ b. program b) net.old.shells.items) (map (λ b. kept b) net.old.shells.items) (map (λ b. kept b) net.new.shells.items) net.old.books net.new.books result }
 
     ensures numbers { IfOk result CountFromOne }
     ensures printable { IfOk result IsPrintable }
 
     ensures valid { net.new.valid ≡ net.old.valid }
-    ensures kinds { map (λ b. kind (b.vtable, b.value)) net.new.shells.items ≡ map (λ b. kind (b.vtable, b.value)) net.old.shells.items }
-    ensures loaded { map (λ b. program (b.vtable, b.value)) net.new.shells.items ≡ map (λ b. program (b.vtable, b.value)) net.old.shells.items }
+    ensures kinds { map (λ b. kind b) net.new.shells.items ≡ map (λ b. kind b) net.old.shells.items }
+    ensures loaded { map (λ b. program b) net.new.shells.items ≡ map (λ b. program b) net.old.shells.items }
 {
     let made = make_numbered(net, seed)?;
     match schedule_of(net, &made) {
         Ok(schedule) => Ok(schedule),
         Err(_) => {
-            end_net(net);
+            net.end();
             Err(MakeFault::NoMemory)
         }
     }

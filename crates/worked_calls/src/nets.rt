@@ -1,6 +1,6 @@
 //! What is shown of a net: the schedule that it makes, how many records it keeps, and what was emitted.
 ghost use Rattle.std.specs.Prelude.{◌≡◌, ◌<◌, OnOk, length, map};
-ghost use Rattle.sched_net.specs.Net.{BooksRun};
+ghost use Rattle.sched_run.specs.Net.{BooksRun};
 ghost use Rattle.sched_run.specs.Making.{RunsFirst};
 ghost use Rattle.topo_forms.specs.Data.{IsData};
 

@@ -13,7 +13,7 @@ use Rattle.inbox.proofs.Lists.SequencerLaw.{sequencer_law}
 use Rattle.inbox.proofs.WiringLemmas.{instance-wired, instance-ports, stream-wired, length-below}
 use Rattle.bloom_forms.specs.HeadRoots.{attribute_roots}
 use Rattle.bloom_forms.specs.Roots.{Roots}
-use Rattle.sched_net.specs.Reading.{IsOrdered}
+use Rattle.sched_run.specs.Reading.{IsOrdered}
 use Rattle.topo_forms.specs.Data.{Data}
 use Rattle.topo_forms.specs.Valid.{IsValid}
 use Rattle.topo_forms.specs.View.{View, component_at, stream_at, stream_of, is_order_mode}

@@ -14,12 +14,12 @@ use Rattle.sched_turns.specs.declared.windows.Stale.{Stale}
 use Rattle.messages.specs.EmittedIds.{id_in}
 use Rattle.messages.specs.Known.{is_known}
 use Rattle.sched_run.specs.Made.{is_open_in, lane_list, can_take}
-use Rattle.sched_net.specs.Net.{BooksStand, execution_in}
-use Rattle.sched_net.specs.Reading.{IsRead}
-use Rattle.sched_net.specs.declared.books.Books.{Books}
-use Rattle.sched_run.specs.declared.lanes.Lane.{Lane}
-use Rattle.sched_run.specs.declared.lanes.Lane.TheVariants.{Deliver, Order}
-use Rattle.sched_run.specs.declared.lanes.Taker.{Taker}
+use Rattle.sched_run.specs.Net.{BooksStand, execution_in}
+use Rattle.sched_run.specs.Reading.{IsRead}
+use Rattle.sched_run.specs.declared.books.Books.{Books}
+use Rattle.sched_run.specs.declared.making.lanes.Lane.{Lane}
+use Rattle.sched_run.specs.declared.making.lanes.Lane.TheVariants.{Deliver, Order}
+use Rattle.sched_run.specs.declared.making.lanes.Taker.{Taker}
 
 -- an index of a list of so many isn't known on a feed
 abbrev pub is_unknown_at : (known : List (List ℕ)) → (feed count index : ℕ) → Bool

@@ -12,10 +12,10 @@ use Rattle.inbox.specs.Wiring.{Wiring, wiring_of}
 use Rattle.inbox.specs.Limits.{Limit, too_many_rows, too_many_messages, limit_of_event}
 use Rattle.sched_run.specs.Made.{event_limit, after_turns, limit_at_place, made_of, open_works, execution_after, AnswersSo}
 use Rattle.sched_run.specs.Naming.{CanBeWritten}
-use Rattle.sched_net.specs.Net.{Stands, execution_in}
+use Rattle.sched_run.specs.Net.{Stands, execution_in}
 use Rattle.sched_run.specs.Code.Watch.{IsWatched}
 use Rattle.sched_run.specs.Code.Works.{AreWorksOf, AreShown}
-use Rattle.sched_net.specs.declared.books.Books.{Books}
+use Rattle.sched_run.specs.declared.books.Books.{Books}
 use Rattle.messages.specs.declared.fault.EventFault.{EventFault}
 use Rattle.messages.specs.declared.fault.EventFault.TheVariants as event_fault
 use Rattle.sched_run.specs.declared.fault.MakeFault.{MakeFault}

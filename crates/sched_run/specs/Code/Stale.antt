@@ -3,10 +3,10 @@ use Rattle.std.specs.Prelude.{ℕ, ◌==◌, ◌&&◌, Bool, if◌then◌else◌
 use Rattle.topo_forms.specs.Feeds.{Feed}
 use Rattle.sched_turns.specs.declared.windows.Stale.{Stale}
 use Rattle.sched_turns.specs.declared.windows.Stale.TheVariants.{Nothing, Place, Everything}
-use Rattle.sched_run.specs.declared.lanes.Lane.{Lane}
-use Rattle.sched_run.specs.declared.lanes.Lane.TheVariants.{Deliver, Order}
-use Rattle.sched_run.specs.declared.works.Work.{Work}
-use Rattle.sched_run.specs.declared.works.Work.TheVariants.{Message, Take}
+use Rattle.sched_run.specs.declared.making.lanes.Lane.{Lane}
+use Rattle.sched_run.specs.declared.making.lanes.Lane.TheVariants.{Deliver, Order}
+use Rattle.sched_run.specs.declared.making.works.Work.{Work}
+use Rattle.sched_run.specs.declared.making.works.Work.TheVariants.{Message, Take}
 
 -- two feeds are of the same stream and sender at the same port
 abbrev pub is_same_feed : Feed → Feed → Bool

@@ -6,19 +6,19 @@ use Rattle.topo_forms.specs.Feeds.{Feed}
 use Rattle.topo_forms.specs.View.{View, End, origin_of}
 use Rattle.inbox.specs.Events.{Step}
 use Rattle.inbox.specs.Places.{instance_place, instance_count}
-use Rattle.sched_net.specs.Net.{BooksStand, execution_in}
-use Rattle.sched_net.specs.declared.books.Books.{Books}
+use Rattle.sched_run.specs.Net.{BooksStand, execution_in}
+use Rattle.sched_run.specs.declared.books.Books.{Books}
 use Rattle.sched_run.specs.Made.{lane_feed}
 use Rattle.sched_run.specs.Code.Looking.{LooksAt}
 use Rattle.sched_run.specs.Code.Stale.{is_same_feed}
 use Rattle.sched_run.specs.Code.Works.{sizes_shown, window_at}
-use Rattle.sched_run.specs.declared.lanes.Lane.{Lane}
-use Rattle.sched_run.specs.declared.lanes.Lane.TheVariants.{Deliver, Order}
-use Rattle.sched_run.specs.declared.lanes.Taker.{Taker}
-use Rattle.sched_run.specs.declared.watch.Watch.{Watch}
-use Rattle.sched_run.specs.declared.works.Work.{Work}
-use Rattle.sched_run.specs.declared.works.Work.TheVariants.{Message, Take}
-use Rattle.sched_run.specs.declared.works.Works.{Works}
+use Rattle.sched_run.specs.declared.making.lanes.Lane.{Lane}
+use Rattle.sched_run.specs.declared.making.lanes.Lane.TheVariants.{Deliver, Order}
+use Rattle.sched_run.specs.declared.making.lanes.Taker.{Taker}
+use Rattle.sched_run.specs.declared.making.watch.Watch.{Watch}
+use Rattle.sched_run.specs.declared.making.works.Work.{Work}
+use Rattle.sched_run.specs.declared.making.works.Work.TheVariants.{Message, Take}
+use Rattle.sched_run.specs.declared.making.works.Works.{Works}
 
 -- ---- what a work changes
 

@@ -9,15 +9,15 @@ use Rattle.inbox.specs.Executions.{Execution}
 use Rattle.inbox.specs.Wiring.{Wiring, wiring_of}
 use Rattle.sched_turns.specs.Windows.{Looked, IsWindow}
 use Rattle.sched_run.specs.Made.{event_in, is_open_in, lane_list, all_lanes, all_takers, can_take, open_works}
-use Rattle.sched_net.specs.Net.{BooksStand, execution_in}
+use Rattle.sched_run.specs.Net.{BooksStand, execution_in}
 use Rattle.sched_run.specs.Code.Looking.{IsLane, IsTaker, MayLook, LooksAt}
 use Rattle.sched_run.specs.Code.Stale.{stale_on}
-use Rattle.sched_net.specs.declared.books.Books.{Books}
-use Rattle.sched_run.specs.declared.lanes.Lane.{Lane}
-use Rattle.sched_run.specs.declared.lanes.Taker.{Taker}
-use Rattle.sched_run.specs.declared.works.Work.{Work}
-use Rattle.sched_run.specs.declared.works.Work.TheVariants.{Message, Take}
-use Rattle.sched_run.specs.declared.works.Works.{Works}
+use Rattle.sched_run.specs.declared.books.Books.{Books}
+use Rattle.sched_run.specs.declared.making.lanes.Lane.{Lane}
+use Rattle.sched_run.specs.declared.making.lanes.Taker.{Taker}
+use Rattle.sched_run.specs.declared.making.works.Work.{Work}
+use Rattle.sched_run.specs.declared.making.works.Work.TheVariants.{Message, Take}
+use Rattle.sched_run.specs.declared.making.works.Works.{Works}
 
 -- ---- one work
 

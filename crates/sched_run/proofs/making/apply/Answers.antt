@@ -1,9 +1,9 @@
 use Rattle.std.proofs.Common.{[], arith, ◌∙◌, ◌++◌, ◌∷◌, ap}
 use Rattle.inbox.specs.Events.{Event}
-use Rattle.sched_net.specs.Numbered.{event_by_numbers}
+use Rattle.sched_run.specs.Numbered.{event_by_numbers}
 use Rattle.sched_run.specs.Code.Works.{work_event}
-use Rattle.sched_run.proofs.MakingApplies.{applies_done, applies_fault, applies_many, applies_none, legal_fault}
-use Rattle.sched_run.proofs.WrittenLemmas.{as_many_events, work_named, written_more}
+use Rattle.sched_run.proofs.Schedules.MakingApplies.{applies_done, applies_fault, applies_many, applies_none, legal_fault}
+use Rattle.sched_run.proofs.Schedules.WrittenLemmas.{as_many_events, work_named, written_more}
 use Rattle.sched_run.proofs.making.apply.Goals as goal
 
 pub returns-then-len-ge-MAX_EVENTS-clause-applies : goal.returns-then-len-ge-MAX_EVENTS-clause-applies

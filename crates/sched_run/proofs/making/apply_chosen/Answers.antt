@@ -1,7 +1,7 @@
 use Rattle.std.proofs.Common.{◌∙◌, ap, sym}
 use Rattle.sched_run.specs.Code.Works.{work_event}
-use Rattle.sched_run.proofs.MakingApplies.{chosen_fails, chosen_there, says_twice}
-use Rattle.sched_run.proofs.MakingWorks.{goes_on, goes_there, takes}
+use Rattle.sched_run.proofs.Schedules.MakingApplies.{chosen_fails, chosen_there, says_twice}
+use Rattle.sched_run.proofs.Schedules.MakingWorks.{goes_on, goes_there, takes}
 use Rattle.sched_run.proofs.making.apply_chosen.Goals as goal
 
 pub apply-requires-clause-legal : goal.apply-requires-clause-legal

@@ -1,9 +1,9 @@
 use Rattle.std.proofs.Common.{ℕ}
 use Rattle.std.specs.Prelude.{OnOk}
-use Rattle.sched_net.specs.Net.{BooksRun}
+use Rattle.sched_run.specs.Net.{BooksRun}
 use Rattle.sched_run.specs.Code.Watch.{IsUntouched, IsWatched, StillShows}
 use Rattle.sched_run.specs.Code.Works.{AreWorksOf, AreShown, HasNames, MayLookAt}
-use Rattle.sched_run.proofs.NetRead.{of_own, of_read}
+use Rattle.sched_run.proofs.Schedules.NetRead.{of_own, of_read}
 use Rattle.sched_run.proofs.making.look_after.Goals as goal
 
 pub look_after-requires-clause-runs : goal.look_after-requires-clause-runs

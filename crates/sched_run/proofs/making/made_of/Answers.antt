@@ -1,6 +1,6 @@
 use Rattle.std.proofs.Common.{◌∙◌, ap}
-use Rattle.sched_run.proofs.MakingTurns.{ready_at, ready_back}
-use Rattle.sched_run.proofs.MakingWhole.{goes_first, made_fault, made_whole, stands_whole, turned_on}
+use Rattle.sched_run.proofs.Schedules.MakingTurns.{ready_at, ready_back}
+use Rattle.sched_run.proofs.Schedules.MakingWhole.{goes_first, made_fault, made_whole, stands_whole, turned_on}
 use Rattle.sched_run.proofs.making.made_of.Goals as goal
 
 pub turn-requires-clause-goes : goal.turn-requires-clause-goes

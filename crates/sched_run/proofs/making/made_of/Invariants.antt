@@ -3,7 +3,7 @@ use Rattle.std.proofs.Common.{◌≡◌, ◌-◌, [], map, length}
 use Rattle.topo_forms.specs.Data.{Data}
 use Rattle.sched_run.specs.Made.{event_limit}
 use Rattle.sched_run.specs.Code.Making.{HasTurned, IsReady}
-use Rattle.sched_net.specs.Net.{Stands}
+use Rattle.sched_run.specs.Net.{Stands}
 use Rattle.sched_run.proofs.making.made_of.Given as goal
 
 abbrev pub invariant-loop-making : goal.invariant-loop-making

@@ -1,6 +1,6 @@
 use Rattle.std.proofs.Common.{[], ap}
-use Rattle.sched_run.proofs.MakingWhole.{fault_answers, fault_leaves, named_answers, named_leaves}
-use Rattle.sched_run.proofs.WrittenLemmas.{written_there}
+use Rattle.sched_run.proofs.Schedules.MakingWhole.{fault_answers, fault_leaves, named_answers, named_leaves}
+use Rattle.sched_run.proofs.Schedules.WrittenLemmas.{written_there}
 use Rattle.sched_run.proofs.making.make.Goals as goal
 
 pub returns-in_err-made-clause-made : goal.returns-in_err-made-clause-made

@@ -1,7 +1,7 @@
 use Rattle.std.proofs.Common.{◌≡◌, subst, sym}
 use Rattle.std.specs.Prelude.{IfOk}
 use Rattle.topo_forms.specs.Valid.{Validated}
-use Rattle.sched_net.specs.ScheduleLines.{events_of}
+use Rattle.sched_run.specs.ScheduleLines.{events_of}
 use Rattle.sched_run.specs.Naming.{CanBeWritten}
 use Rattle.sched_run.proofs.making.schedule_of.Goals as goal
 

@@ -1,8 +1,8 @@
 use Rattle.std.specs.Prelude.{IfOk}
-use Rattle.sched_net.specs.Net.{BooksRun}
+use Rattle.sched_run.specs.Net.{BooksRun}
 use Rattle.sched_run.specs.Code.Watch.{IsWatched}
 use Rattle.sched_run.specs.Code.Works.{AreWorksOf, AreShown}
-use Rattle.sched_run.proofs.NetRead.{of_own, of_read}
+use Rattle.sched_run.proofs.Schedules.NetRead.{of_own, of_read}
 use Rattle.sched_run.proofs.making.watch_of.Goals as goal
 
 pub of-requires : goal.of-requires

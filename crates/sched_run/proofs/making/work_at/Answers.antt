@@ -1,6 +1,6 @@
-use Rattle.sched_net.specs.Net.{BooksRun}
+use Rattle.sched_run.specs.Net.{BooksRun}
 use Rattle.sched_run.specs.Code.Works.{AreWorksOf, AreShown, HasNames, IsOpenWork}
-use Rattle.sched_run.proofs.NetRead.{of_own, of_read}
+use Rattle.sched_run.proofs.Schedules.NetRead.{of_own, of_read}
 use Rattle.sched_run.proofs.making.work_at.Goals as goal
 
 pub find-work-requires-clause-runs : goal.find-work-requires-clause-runs

@@ -1,7 +1,7 @@
 use Rattle.std.proofs.Common.{ap, refl}
 use Rattle.sched_run.specs.Code.Works.{work_event}
-use Rattle.sched_run.proofs.MakingTurns.{chosen_is, longer_made, ready_on, turn_fails, turn_made}
-use Rattle.sched_run.proofs.MakingWorks.{books_run, due_found, may_look_on, shows_still_on}
+use Rattle.sched_run.proofs.Schedules.MakingTurns.{chosen_is, longer_made, ready_on, turn_fails, turn_made}
+use Rattle.sched_run.proofs.Schedules.MakingWorks.{books_run, due_found, may_look_on, shows_still_on}
 use Rattle.sched_run.proofs.making.Making.turn.Goals as goal
 
 pub apply_chosen-requires-clause-due : goal.apply_chosen-requires-clause-due

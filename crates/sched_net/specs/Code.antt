@@ -1,7 +1,0 @@
-pub mod Stepping
-pub mod Parts
-pub mod Taking
-pub mod Hearing
-pub mod First
-pub mod Remaining
-pub mod Records

@@ -1,0 +1,26 @@
+-- Lemmas for the schedule that is made of a seed.
+pub mod MadeEnds
+pub mod PrintableNames
+pub mod WrittenSoFar
+pub mod WrittenLemmas
+pub mod MakingRuns
+pub mod MakingApplies
+pub mod MakingTurns
+pub mod MakingWorks
+pub mod MakingWhole
+pub mod LanesLemmas
+pub mod LanesThere
+pub mod LookingLemmas
+pub mod NamesLemmas
+pub mod PartsLemmas
+pub mod WorksLemmas
+pub mod SameBooks
+pub mod Untouched
+pub mod WatchLemmas
+pub mod TurnsLemmas
+pub mod FrontsLemmas
+pub mod NetRead
+pub mod LanesKnown
+pub mod OpenWorksLegal
+pub mod OpenBefore
+pub mod StayOpen

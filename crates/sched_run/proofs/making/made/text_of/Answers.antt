@@ -1,0 +1,20 @@
+use Rattle.std.proofs.Common.{subst, sym}
+use Rattle.sched_run.specs.Numbered.{event_by_numbers}
+use Rattle.sched_run.specs.Naming.{HasEventNames}
+use Rattle.sched_run.proofs.Schedules.WrittenLemmas.{text_first, text_more, text_whole}
+use Rattle.sched_run.proofs.making.made.text_of.Goals as goal
+
+pub loop-event-init : goal.loop-event-init
+loop-event-init c = text_first _ _ _ c.new-text.ensures.items
+
+pub named-requires : goal.named-requires
+named-requires c =
+    subst (λ event. HasEventNames c.args.valid.now.view (event_by_numbers event)) (sym c.event-item.is) (c.requires.named c.loop-event.event-index c.event-item.result c.loop-event-test.true)
+
+pub loop-event-preserved : goal.loop-event-preserved
+loop-event-preserved c =
+    text_more c.args.valid.now.view c.args.events.now c.loop-event.event-index c.loop-event.text.items c.loop-event.invariant _ c.event-item.result c.in_ok-line.line c.requires.few c.loop-event-test.true c.event-item.is c.in_ok-line.ensures.event c.in_ok-line.ensures.printable
+    c.in_ok-push_line.ensures.small c.in_ok-push_line.ensures.text
+
+pub returns : goal.returns
+returns c = text_whole c.args.valid.now.view c.args.events.now c.loop-event.event-index c.loop-event.text.items c.loop-event.invariant c.loop-event-test.false

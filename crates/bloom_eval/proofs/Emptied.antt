@@ -1,6 +1,5 @@
 -- Sets that are emptied one after another.
-use Rattle.std.proofs.Common.{◌≡◌, ◌<◌, ℕ, zero, suc, List, [], ◌∷◌, ◌++◌, length, map, take, drop, slice_set, refl, arith, ap}
-use Rattle.blz_value.specs.Record.{Row}
+use Rattle.std.proofs.Common.{◌≡◌, ◌<◌, ℕ, zero, suc, [], ◌∷◌, ◌++◌, length, map, take, drop, slice_set, refl, arith, ap}
 use Rattle.bloom_forms.specs.Step.{Sets}
 
 -- the first so many sets are empty, the others as they were
@@ -11,7 +10,3 @@ pub one_more : (sets : Sets) (count : ℕ) → count < length sets → slice_set
 one_more [] count lt = absurd (omega (arith, lt))
 one_more (rows ∷ sets) zero lt = refl
 one_more (rows ∷ sets) (suc count) lt = ap (λ (later : Sets). [] ∷ later) (one_more sets count (omega (arith, lt)))
-
-pub all_emptied : (sets : Sets) → emptied (length sets) sets ≡ map (λ (rows : List Row). []) sets
-all_emptied [] = refl
-all_emptied (rows ∷ sets) = ap (λ (later : Sets). [] ∷ later) (all_emptied sets)

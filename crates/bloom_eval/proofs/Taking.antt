@@ -114,9 +114,6 @@ module _ (a : Accepted) (runnable : IsRunnable a) (start sets : Sets) (h : ℕ) 
   pub head_within : h < length a.form.collections
   head_within = get-within a.form.collections h derived.collection derived.stands
 
-  own_rules : List RuleForm
-  own_rules = rules_at a.form.collections a.form.rules h
-
   -- what the rules read is what it was, and what it is at the end
   reads_now : (rule : RuleForm) → Has rule (rules_at a.form.collections a.form.rules h) → (n : Name) → Has n (names_of rule.1) → rows_named a.form.collections (slice_set sets h []) n ≡ rows_named a.form.collections sets n
   reads_now rule stands n names = get_or-set_other sets h (collection_number a.form.collections n) [] [] (λ e. names_none a.form h left at.order rule n stands names (inl (sym e)))

@@ -42,7 +42,3 @@ module _ (pairs : Pairs) (lo ln ld ro rn rd : List Row) (el : Extends lo ln ld) 
       let new : set_of (join_rows pairs ln rn) ≡ set_of (kept ++ set) = join_new pairs lo ln ld ro rn rd el er ∙ ap (λ (l : List Row). set_of (l ++ set_of (set_of (join_rows pairs ld ro) ++ turned_rows pairs ln rd))) (sym k) ∙ ap (λ (l : List Row). set_of (kept ++ l)) (sym s) in
       subst (λ (l : List Row). row_limit < length l) (sym new) takes
   takes_fresh kept set after (Err NoMemory) k s takes = tt
-
-pub grows_fault : (pairs : Pairs) (ld ln ro rd rn old after : List Row) (fault : SetFault) → MakesFresh pairs ld ln ro rd rn (Err fault) → GrowsTo old (set_of (join_rows pairs ln rn)) after (Err fault)
-grows_fault pairs ld ln ro rd rn old after TooManyRows h = h
-grows_fault pairs ld ln ro rd rn old after NoMemory h = tt

@@ -18,7 +18,6 @@ use Rattle.bloom_forms.specs.declared.numbered.NumberedRule.{NumberedRule}
 use Rattle.bloom_forms.specs.Form.{RuleForm, Accepted}
 use Rattle.bloom_forms.specs.Lookup.{declared}
 use Rattle.bloom_forms.specs.Numbered.{AreNumbered}
-use Rattle.bloom_forms.specs.Query.{Name}
 use Rattle.bloom_forms.specs.Step.{Sets, rows_named, rules_at}
 use Rattle.bloom_eval.specs.Code.Counted.{AddsRows, Adds}
 use Rattle.bloom_eval.specs.Code.NumberedRows.{numbered_rows, numbered_sets}
@@ -69,8 +68,6 @@ later_same {X = X} first now after i put later k le = ap (λ (l : List X). slice
 -- ---- what one rule adds
 
 module _ (X : Type 0) (cs : List Collection) (forms : List RuleForm) (rules : List NumberedRule) (numbered : AreNumbered cs forms rules) (sets : Sets) (head i : ℕ) (rule : NumberedRule) (lt : i < length rules) (is : rule ≡ get_or rules i rule) where
-  abbrev env : Name → List Row
-  env = rows_named cs sets
 
   at : IsFormAt cs forms i rule
   at = form_at cs forms rules i rule numbered lt is

@@ -98,18 +98,3 @@ module _ (body : NumberedExpr) (m after : Memo) (held : List Change) (ready : Is
       go : (d : SetFault) → Evaluates body m after1 held ready (Err d) → AddsBody body m after held ready set new (Err d)
       go TooManyRows over = record { rows = over.rows; stands = inr over.stands; over = over.over }
       go NoMemory h = tt
-
-  -- the body itself has too many rows, which it hasn't
-  pub add_taken : (kept took more : List Row) → set_of (kept ++ more) ≡ numbered_rows ready.new body → length (numbered_rows ready.new body) ≤ row_limit → Takes kept more took (Err fault) → AddsBody body m after held ready set new r
-  add_taken kept took more whole few h = subst (AddsBody body m after held ready set new) (sym (handed_on (Unit {0}) r fault is)) (go fault h)
-    where
-      go : (d : SetFault) → Takes kept more took (Err d) → AddsBody body m after held ready set new (Err d)
-      go TooManyRows over = absurd (omega (arith, over, few, ap (length {A = Row}) whole))
-      go NoMemory h = tt
-
-  pub add_over : (added all : List Row) → added ≡ numbered_rows ready.new body → Becomes {X = Unit {0}} set (set_of (set ++ added)) all (Err fault) → AddsBody body m after held ready set new r
-  add_over added all same h = subst (AddsBody body m after held ready set new) (sym (handed_on (Unit {0}) r fault is)) (go fault h)
-    where
-      go : (d : SetFault) → Becomes {X = Unit {0}} set (set_of (set ++ added)) all (Err d) → AddsBody body m after held ready set new (Err d)
-      go TooManyRows over = record { rows = set_of (set ++ numbered_rows ready.new body); stands = inl refl; over = subst (λ (l : List Row). row_limit < length (set_of (set ++ l))) same over.1 }
-      go NoMemory h = tt

@@ -1,6 +1,6 @@
 -- The rows of an expression that grows never become fewer.
 use Rattle.std.proofs.Common.{◌≡◌, ℕ, ◌≤◌, Bool, true, List, length, Option, None, Some, ◌∙◌, sym, arith}
-use Rattle.std.specs.Prelude.{nat_le, slice_get}
+use Rattle.std.specs.Prelude.{nat_le}
 use Rattle.std.specs.Ordering.{eq_by_cmp}
 use Rattle.std.proofs.lemmas.Bool.{true≢false, and_parts}
 use Rattle.std.proofs.lemmas.Bool.Decides.{nat_tests}
@@ -19,7 +19,7 @@ use Rattle.bloom_forms.specs.Step.{Sets, set_at}
 use Rattle.bloom_eval.specs.Code.NumberedRows.{numbered_rows}
 use Rattle.bloom_index.specs.declared.change.Change.{Change}
 use Rattle.bloom_growth.specs.Growth.{Extends}
-use Rattle.bloom_index.specs.Code.Evaluation.{HasTurnedAt, HaveTurned}
+use Rattle.bloom_index.specs.Code.Evaluation.{HasTurnedAt}
 use Rattle.bloom_index.specs.Code.Growth.{grows_at, grows}
 use Rattle.bloom_index.specs.Code.Turns.{rows_in}
 use Rattle.bloom_growth.proofs.Extending.{old_is_in}
@@ -37,9 +37,6 @@ grown_change grow old new None g t = absurd (true≢false (sym g ∙ t.1))
 grown_change grow old new (Some change) g t =
     let e : Extends old new (rows_in change.rows) = extends_of old new change t.1 (t.0 ∙ g) in
     record { old_sorted = e.sorted; new_sorted = t.1.sorted; within = old_is_in old new (rows_in change.rows) e }
-
-pub grown_at : (growing : List Bool) (old new : Sets) (held : List Change) → HaveTurned growing old new held → (k : ℕ) → grows_at growing k ≡ true → IsGrown (set_at old k) (set_at new k)
-grown_at growing old new held turned k g = grown_change (grows_at growing k) (set_at old k) (set_at new k) (slice_get held k) g (turned k)
 
 more_often : (keys : List ℕ) (bound : ℕ) (old new : List Row) → IsGrown old new → (key : Row) → nat_le bound (length (with_key keys key old)) ≡ true → nat_le bound (length (with_key keys key new)) ≡ true
 more_often keys bound old new g key t =

@@ -3,7 +3,7 @@ use Rattle.std.proofs.Common.{◌≡◌, ◌∙◌, ◌<◌, ◌≤◌, ◌+◌,
 use Rattle.std.specs.List.{AllZip, flat_map}
 use Rattle.std.specs.declared.ops.ControlFlow.{ControlFlow}
 use Rattle.std.specs.declared.ops.ControlFlow.TheVariants.{Continue, Break}
-use Rattle.std.proofs.lemmas.List.{append-nil, take_more, take_all, take-append-drop, drop_more, length-append, get_or_default}
+use Rattle.std.proofs.lemmas.List.{append-nil, take_more, take-append-drop, drop_more, length-append, get_or_default}
 use Rattle.std.proofs.lemmas.List.Concat.{flat_map-append}
 use Rattle.std.proofs.lemmas.Slice.Zip.{AllZip-long}
 use Rattle.bloom_forms.specs.declared.numbered.NumberedExpr.{NumberedExpr}
@@ -61,9 +61,6 @@ module _ (growing : List Bool) (rules : List NumberedRule) where
   side_of_all sets i rule left number side lt is passed at =
       subst (λ (sides : List NumberedSide). IsSideAt sets sides number side) (sym (sides_split i rule lt is))
       (at_after (HasRowsOf sets side) (rules_sides growing (take i rules)) (own rule ++ rules_sides growing (drop (i + 1) rules)) left number passed (at_before (HasRowsOf sets side) (own rule) (rules_sides growing (drop (i + 1) rules)) left at))
-
-  pub sides_all : (i : ℕ) → length rules ≤ i → rules_sides growing (take i rules) ≡ rules_sides growing rules
-  sides_all i le = ap (λ (l : List NumberedRule). flat_map own l) (take_all i rules le)
 
 -- ---- one part after the other
 

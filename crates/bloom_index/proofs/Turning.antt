@@ -58,9 +58,6 @@ few_projected columns rows few = omega (arith, length-set_of-le (project_rows co
 pub extends_of : (old new : List Row) (part : Change) → Turns old new part → part.fresh ≡ true → Extends old new (rows_in part.rows)
 extends_of old new part t is = subst (λ (b : Bool). HasTurned b old new (rows_in part.rows)) is t.rows
 
-pub whole_of : (old new : List Row) (part : Change) → Turns old new part → part.fresh ≡ false → rows_in part.rows ≡ new
-whole_of old new part t is = subst (λ (b : Bool). HasTurned b old new (rows_in part.rows)) is t.rows
-
 module _ (old new kept set after fresh : List Row) (is_old : kept ≡ old) (is_new : new ≡ set_of (kept ++ set)) (takes : Takes kept set after (Ok fresh)) where
   -- rows that a set takes which grows
   pub taken_kept : after ≡ new

@@ -7,11 +7,6 @@ use Rattle.bloom_forms.specs.StockSteps.{latest_kept, number_kept}
 use Rattle.bloom_forms.specs.Widths.{AreWide, AreSetsOf}
 use Rattle.bloom_forms.proofs.Ends.StockWidths.{latest_kept-wide, number_kept-wide}
 
--- the first of some sets
-pub first_wide : (names : List Name) (columns : List (List Name)) (sets : Sets) → AreSetsOf (names ∷ columns) sets → AreWide (length names) (set_at sets 0)
-first_wide names columns [] all = absurd all
-first_wide names columns (rows ∷ sets) all = all.0
-
 -- the first of some sets as code reads it
 pub first_set : (sets : Sets) (first : List Row) → 0 < length sets → first ≡ get_or sets 0 first → first ≡ set_at sets 0
 first_set [] first lt is = absurd (omega (arith, lt))

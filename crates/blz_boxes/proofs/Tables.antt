@@ -1,5 +1,5 @@
 -- Empty sets for the tables of a module.
-use Rattle.std.proofs.Common.{◌≡◌, ◌<◌, ℕ, zero, suc, if◌then◌else◌, inl, inr, Option, Some, List, [], ◌∷◌, ◌++◌, length, map, take, get_or, slice_index_or, All, refl, sym, subst, arith, ap, ◌∙◌}
+use Rattle.std.proofs.Common.{◌≡◌, ◌<◌, ℕ, suc, if◌then◌else◌, inl, inr, Option, Some, List, [], ◌∷◌, ◌++◌, length, map, slice_index_or, All, refl, sym, subst, arith, ap, ◌∙◌}
 use Rattle.std.proofs.lemmas.Bool.{cases_Bool}
 use Rattle.blz_value.specs.Record.{Row}
 use Rattle.bloom_forms.specs.declared.module.Kind.{Kind}
@@ -24,17 +24,6 @@ empties cs = map (λ columns. []) (columns_of_kind Table cs)
 -- one for a collection that is a table
 abbrev pub empty_if : Kind → Sets
 empty_if kind = if same_kind Table kind then [] ∷ [] else []
-
-pub one_collection : (c : Collection) (cs : List Collection) → empties (c ∷ cs) ≡ empty_if c.kind ++ empties cs
-one_collection c cs = elim (cases_Bool (same_kind Table c.kind)) [ inl e ↦ rw e refl | inr e ↦ rw e refl ]
-
-pub one_more : (cs : List Collection) (at : ℕ) (c : Collection) → at < length cs → empties (take (suc at) cs) ≡ empties (take at cs) ++ empty_if (get_or cs at c).kind
-one_more [] at c lt = absurd (omega (arith, lt))
-one_more (d ∷ cs) zero c lt = elim (cases_Bool (same_kind Table d.kind)) [ inl e ↦ rw e refl | inr e ↦ rw e refl ]
-one_more (d ∷ cs) (suc at) c lt = elim (cases_Bool (same_kind Table d.kind)) [
-  | inl e ↦ rw e (ap (λ (sets : Sets). [] ∷ sets) (one_more cs at c (omega (arith, lt))))
-  | inr e ↦ rw e (one_more cs at c (omega (arith, lt)))
-]
 
 -- empty sets have every width
 pub empties_wide : (columns : List (List Name)) → AreSetsOf columns (map (λ names. []) columns)

@@ -1,6 +1,5 @@
 -- Records and their numbers in a pool.
 use Rattle.std.proofs.Common.{◌≡◌, ◌≢◌, ◌<◌, ◌+◌, ℕ, Bool, true, false, Option, None, Some, List, [], ◌∷◌, ◌++◌, length, get_or, slice_get, refl, ap, ◌∙◌, subst, arith, length-append, inl, inr}
-use Rattle.std.specs.Option.{IsSome}
 use Rattle.std.specs.List.{position, position_from, list_any}
 use Rattle.std.specs.Ordering.{is_eq, eq_by_cmp, ordering_reverse}
 use Rattle.std.specs.declared.cmp.Ordering.{Ordering}
@@ -41,13 +40,6 @@ number_of-none records row none stands =
     let other : eq_by_cmp record_cmp row row ≡ false = position_from-none (λ held. eq_by_cmp record_cmp held row) 0 records row none stands in
     let same : eq_by_cmp record_cmp row row ≡ true = same-self row in
     let bad : true ≡ false = cc in cc
-
-pub number_of-has : (records : List Row) (row : Row) → Has row records → IsSome (number_of records row)
-number_of-has records row stands = go (number_of records row) refl
-  where
-    go : (o : Option ℕ) → number_of records row ≡ o → IsSome o
-    go None e = absurd (number_of-none records row e stands)
-    go (Some number) e = refl
 
 pub number_of-lacks : (records : List Row) (row : Row) → (Has row records → ⊥) → number_of records row ≡ None
 number_of-lacks records row lacks = go (number_of records row) refl

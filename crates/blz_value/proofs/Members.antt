@@ -1,5 +1,5 @@
 -- Members of sets. The number n, below 64, is in the set s where `meets (bit_of n) s`.
-use Rattle.std.proofs.Common.{◌≡◌, ◌≢◌, ◌<◌, ◌*◌, ◌^◌, ◌%◌, ℕ, nat_lt, nat_eq, not, ◌||◌, true, false, refl, rules, arith, ◌⊎◌, inl, inr, bit_and, bit_or, ap, ◌∙◌, sym, subst}
+use Rattle.std.proofs.Common.{◌≡◌, ◌≢◌, ◌<◌, ◌*◌, ◌^◌, ◌%◌, ℕ, nat_lt, nat_eq, not, ◌||◌, true, false, refl, rules, arith, ◌⊎◌, inl, inr, bit_and, bit_or, ◌∙◌, sym, subst}
 use Rattle.std.specs.Int.{bit_at, IsBitSet}
 use Rattle.std.proofs.Math.Bool.{or-false}
 use Rattle.std.proofs.lemmas.Bool.{cases_Bool, cases_eq, false_from_ne_true, true≢false}
@@ -116,9 +116,6 @@ in-bit_other n m s lt lm other =
 
 pub or-empty : (s : ℕ) → bit_or s 0 ≡ s
 or-empty s = same_from_bits (bit_or s 0) s (λ k. omega (arith, bit_at_or s 0 k, bit_at-zero k))
-
-pub in-none : (n s : ℕ) → meets (bit_of n) (bit_or s 0) ≡ meets (bit_of n) s
-in-none n s = ap (meets (bit_of n)) (or-empty s)
 
 -- a number is in the set of itself
 pub own-in : (n : ℕ) → n < 64 → meets (bit_of n) (bit_of n) ≡ true

@@ -1,16 +1,15 @@
 -- The three ways in which the read of a file ends.
-use Rattle.std.proofs.Common.{◌≡◌, ◌<◌, ◌≤◌, ◌+◌, inl, inr, ℕ, Bool, if◌then◌else◌, length, replicate, Option, Some, None, Ok, IfSome, IfNone, IsErr, IsSome, IsTrue, refl, sym, subst, arith}
-use Rattle.std.proofs.lemmas.Bool.{le-ltb, lt-ltb}
+use Rattle.std.proofs.Common.{◌≡◌, ◌<◌, ◌≤◌, ◌+◌, inr, ℕ, Bool, if◌then◌else◌, length, replicate, Option, Some, None, Ok, IfSome, IfNone, IsErr, IsSome, IsTrue, refl, sym, subst, arith}
+use Rattle.std.proofs.lemmas.Bool.{lt-ltb}
 use Rattle.std.proofs.lemmas.List.{length-replicate}
-use Rattle.blz_outside.specs.Counts.{Rose}
 use Rattle.blz_outside.specs.Files.{OnMore, told_bytes}
 use Rattle.blz_outside.specs.declared.files.End.{End}
 use Rattle.blz_outside.specs.declared.files.End.TheVariants.{More}
 use Rattle.blz_outside.specs.declared.files.ReadFail.{ReadFail}
 use Rattle.command_checks.specs.Script.{Bytes, Ending}
 use Rattle.command_checks.specs.Script.Script.{gives, refuses}
-use Rattle.command_checks.specs.Script.Ending.{gave, refused, failed}
-use Rattle.command_checks.specs.Ends.{Told, Source, files_states, Came, Ends, MayGive, MayFail}
+use Rattle.command_checks.specs.Script.Ending.{refused}
+use Rattle.command_checks.specs.Ends.{Told, Source, files_states, Came, Ends}
 use Rattle.report_lines.specs.declared.refusal.Refusal.TheVariants.{TooLong}
 use Rattle.report_lines.specs.Refusals.{refusal_line}
 use Rattle.command_checks.specs.FileChecks.{file}
@@ -25,15 +24,6 @@ too_long name = refusal_line (TooLong name)
 -- what follows on bytes that are or aren't too long
 abbrev LengthEnds : Told → Bytes → Bytes → Ending Bytes → Bool → Type 0
 LengthEnds files name bytes e longer = Ends files (if longer then refuses (too_long name) else gives bytes) e
-
--- a file within the limit
-pub file_whole : (a b : Source) (most : ℕ) (name bytes : Bytes) → b.told ≡ a.told → b.faults ≡ a.faults
-    → MayGive a.told name bytes → length bytes ≤ most → Came (files_states a b) (file most name) (gave bytes)
-file_whole a b most name bytes kept quiet may within = record {
-  kept = kept;
-  ends = inr (bytes, may, subst (LengthEnds a.told name bytes (gave bytes)) (sym (le-ltb most (length bytes) within)) refl);
-  counts = quiet;
-}
 
 -- bytes that a read may have given: those that are told, else a run of zeros
 longer_bytes : (o : Option Bytes) (steady : Bool) (most : ℕ) → IfSome o (λ bytes. most < length bytes) → (IsTrue steady → IsSome o)
@@ -75,8 +65,3 @@ told_after (Some bytes) end bad = refl
 -- the bytes that are told of a longer file
 pub more_told : (o : Option Bytes) (most : ℕ) (end : End) → end ≡ More → OnMore (Ok end) (IfSome o (λ bytes. most < length bytes)) → IfSome o (λ bytes. most < length bytes)
 more_told o most end is longer = subst (λ end. OnMore (Ok end) (IfSome o (λ bytes. most < length bytes))) is longer
-
--- a file whose read fails
-pub file_failed : (a b : Source) (most : ℕ) (name : Bytes) → b.told ≡ a.told → Rose a.faults b.faults
-    → MayFail a.told name → Came (files_states a b) (file most name) (failed name)
-file_failed a b most name kept rose may = record { kept = kept; ends = inl (refl, may); counts = rose }

@@ -73,9 +73,6 @@ module _ (v : View) (c p : ℕ) where
   abbrev into : List ℕ
   into = streams_to v c p
 
-  abbrev with_all : Attrs → Option Attrs
-  with_all key = if list_all (carries_key v key.bits) into then Some key else None
-
   -- without a stream there is none
   pub no_stream_key : find (goes_to v c p) (stream_numbers v) ≡ None → port_key v c p ≡ None
   no_stream_key e = ap (common_key v) (find_none (goes_to v c p) (stream_numbers v) e)

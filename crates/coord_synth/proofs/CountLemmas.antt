@@ -41,7 +41,3 @@ module _ (steps : Steps) where
 
   pub at_count : (v : View) (c : ℕ) → HasCount v (plan_at steps v c)
   at_count v c = either v (is_in_cycle v c) (plan_cycle steps v (region_set v c)) (plan_component steps v c) (cycle_count v (region_set v c)) (component_count v c)
-
-  pub planned_count : (v : View) (cs : List ℕ) → HasCount v (fold (plan_at steps) v cs)
-  planned_count v [] = refl
-  planned_count v (c ∷ cs) = planned_count (plan_at steps v c) cs ∙ at_count v c

@@ -1,5 +1,5 @@
 -- Each region has a first member, and the plan goes by it.
-use Rattle.std.proofs.Common.{◌≡◌, ◌<◌, ◌+◌, ℕ, zero, suc, Bool, true, false, if◌then◌else◌, List, [], ◌∷◌, ◌++◌, length, get_or, fold, take, refl, arith, ap, sym, subst, ◌∙◌}
+use Rattle.std.proofs.Common.{◌≡◌, ◌<◌, ◌+◌, ℕ, zero, suc, Bool, true, if◌then◌else◌, List, [], ◌∷◌, ◌++◌, length, get_or, fold, take, refl, arith, ap, sym, subst, ◌∙◌}
 use Rattle.blz_value.specs.Members.{Has}
 use Rattle.blz_value.proofs.Membership.{Has-get_or}
 use Rattle.blz_value.proofs.MembersInOrder.{from_members, in_members}
@@ -50,16 +50,7 @@ module _ (steps : Steps) (v : View) (c : ℕ) where
   pub at_cycle : (set : ℕ) → is_in_cycle v c ≡ true → set ≡ region_set v c → plan_cycle steps v set ≡ plan_at steps v c
   at_cycle set cyclic is = ap (plan_cycle steps v) is ∙ ap (λ (b : Bool). if b then plan_cycle steps v (region_set v c) else plan_component steps v c) (sym cyclic)
 
-  pub at_component : is_in_cycle v c ≡ false → plan_component steps v c ≡ plan_at steps v c
-  at_component outside = ap (λ (b : Bool). if b then plan_cycle steps v (region_set v c) else plan_component steps v c) (sym outside)
-
 -- ---- one member more
-
-pub last_at : (P : ℕ → ℕ → Type 0) (xs : List ℕ) (x : ℕ) → ((r : ℕ) → r < length xs → P r (get_or xs r 0)) → P (length xs) x → (r : ℕ) → r < length (xs ++ (x ∷ [])) → P r (get_or (xs ++ (x ∷ [])) r 0)
-last_at P [] x each last zero lt = last
-last_at P [] x each last (suc r) lt = absurd (omega arith)
-last_at P (y ∷ xs) x each last zero lt = each 0 (omega arith)
-last_at P (y ∷ xs) x each last (suc r) lt = last_at (λ k n. P (suc k) n) xs x (λ k low. each (suc k) (omega (arith, low))) last r (omega arith)
 
 pub fold_more : {X : Type 0} (f : X → ℕ → X) (a : X) (xs : List ℕ) (i : ℕ) → i < length xs → f (fold f a (take i xs)) (get_or xs i 0) ≡ fold f a (take (i + 1) xs)
 fold_more f a [] i lt = absurd (omega arith)

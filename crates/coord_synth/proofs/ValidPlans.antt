@@ -33,9 +33,6 @@ set_past (y ∷ xs) (suc i) x past = ap (λ ys. y ∷ ys) (set_past xs i x (omeg
 
 -- ---- where a plan begins
 
-free_or_order : Mode → Mode
-free_or_order m = if is_order_mode m then Order else Free
-
 module _ (v : View) (valid : IsValid v) where
   freed_at : (d : ℕ) → get_or (map freed_component v.components) d no_component ≡ freed_component (component_at v d)
   freed_at d = get_or-map freed_component v.components d no_component
@@ -67,9 +64,6 @@ module _ (start : View) (valid : IsValid start) where
   record Kept (now : View) : Type 0 where
     remoded : AreRemoded start now.components
     rest : with_components start now.components ≡ now
-
-  kept_order : (now : View) → Kept now → (c : ℕ) → is_order start c ≡ true → is_order now c ≡ true
-  kept_order now k c e = k.remoded.ordered c e
 
   set_mode : (now : View) → Kept now → (c : ℕ) (mode : Mode) → (is_order now c ≡ true → is_order_mode mode ≡ true) → (c < length start.components → is_in_cycle start c ≡ true → mode_key mode ≡ None) → Kept (with_mode now c mode)
   set_mode now k c mode order_ok key_ok = elim (cases_Bool (nat_lt c (length now.components))) [

@@ -152,10 +152,6 @@ module _ (program : Program) (i : Instance) (runs : i.program ≡ Some program) 
   pub standing_is_emitted : (log : List Entry) (lives : Lives) → StandingIsEmitted program (kept_after i log lives)
   standing_is_emitted log lives = standing-lives log (nothing_emitted i) (all_lives lives) (standing-first (nothing_emitted i).lists)
 
-  -- and within what is set off, after some of its timesteps
-  pub standing_within : (log : List Entry) (lives : Lives) (nows : List Sets) → StandingIsEmitted program (fold (emit_step program) (kept_after i log lives) nows)
-  standing_within log lives nows = standing-steps program (kept_after i log lives) nows still (standing_is_emitted log lives)
-
 -- ---- changes
 
 -- changes append what the whole output appends

@@ -1,7 +1,7 @@
 -- Emission one by one: an outlet more.
 use Rattle.std.proofs.Common.{◌≡◌, ◌<◌, ◌≤◌, ◌+◌, ◌⊎◌, ℕ, None, Some, List, [], ◌∷◌, length, take, drop, set, get_or, refl, ap, ◌∙◌, sym, subst, inl, inr, arith, drop-cons, add-one, slice_get}
 use Rattle.std.specs.List.{All}
-use Rattle.std.proofs.lemmas.List.{set-get_or, length-set, take-append-drop, get_or_past}
+use Rattle.std.proofs.lemmas.List.{length-set, take-append-drop, get_or_past}
 use Rattle.std.proofs.lemmas.Option.{slice_get_cases}
 use Rattle.blz_value.specs.Members.{Has}
 use Rattle.blz_value.specs.Record.{Row}
@@ -38,14 +38,6 @@ emitted_more outlets index o outs lists next last within at before is =
     ∙ sym (ap (λ l. emit_outlets l outs lists) (rest_is outlets index o within at))
     ∙ before
 
--- an outlet whose output isn't put out
-pub emitted_none : (outlets : List Outlet) (index : ℕ) (o : Outlet) (outs : Sets) (lists last : List (List Message)) → index < length outlets → o ≡ get_or outlets index o
-    → emit_outlets (drop index outlets) outs lists ≡ last → set_at outs o.output ≡ []
-    → emit_outlets (drop (index + 1) outlets) outs lists ≡ last
-emitted_none outlets index o outs lists last within at before none =
-    emitted_more outlets index o outs lists lists last within at before
-    (sym (ap (λ rows. set lists o.place (with_rows (list_at lists o.place) rows)) none ∙ set-get_or lists o.place []))
-
 pub emitted_over : (outlets : List Outlet) (index : ℕ) (o : Outlet) (outs : Sets) (lists last : List (List Message)) → index < length outlets → o ≡ get_or outlets index o
     → ((p : Outlet) → Has p outlets → p.place < length lists)
     → emit_outlets (drop index outlets) outs lists ≡ last → message_limit < total (set lists o.place (with_rows (list_at lists o.place) (set_at outs o.output)))
@@ -65,14 +57,6 @@ sealed_more outlets index o keys lists next last within at before is =
     ap (seal_outlets (drop (index + 1) outlets) keys) is
     ∙ sym (ap (λ l. seal_outlets l keys lists) (rest_is outlets index o within at))
     ∙ before
-
--- an outlet whose stream carries no key
-pub sealed_none : (outlets : List Outlet) (index : ℕ) (o : Outlet) (keys : List Row) (lists last : List (List Message)) → index < length outlets → o ≡ get_or outlets index o
-    → seal_outlets (drop index outlets) keys lists ≡ last → o.key ≡ None
-    → seal_outlets (drop (index + 1) outlets) keys lists ≡ last
-sealed_none outlets index o keys lists last within at before none =
-    sealed_more outlets index o keys lists lists last within at before
-    (sym (ap (λ k. set lists o.place (with_seals k (list_at lists o.place) keys)) none ∙ set-get_or lists o.place []))
 
 pub sealed_over : (outlets : List Outlet) (index : ℕ) (o : Outlet) (keys : List Row) (lists last : List (List Message)) → index < length outlets → o ≡ get_or outlets index o
     → ((p : Outlet) → Has p outlets → p.place < length lists)

@@ -4,7 +4,7 @@ use Rattle.std.specs.List.{sum_by}
 use Rattle.std.proofs.lemmas.Bool.{cases_eq, cases_lt}
 use Rattle.std.proofs.lemmas.List.{length-set, length-replicate, get_or-replicate, get_or_past, get_or-set_same, get_or-set_other, set-set}
 use Rattle.std.proofs.lemmas.List.Folds.{sum_by-replicate}
-use Rattle.std.proofs.lemmas.List.Sums.{sum_by-set, sum_by_more, sum_by-take-le}
+use Rattle.std.proofs.lemmas.List.Sums.{sum_by-set, sum_by_more}
 use Rattle.blz_value.specs.Record.{Row}
 use Rattle.topo_forms.specs.Data.{Data, IsData, no_data, source_data}
 use Rattle.topo_forms.specs.Messages.{Message, row, distinct_rows, emitted_of_source}
@@ -27,10 +27,6 @@ use Rattle.inbox.proofs.SourceMessages.{all_rows, few_rows, few_messages}
 module _ (old new : Listed) (place : ℕ) (list : List Message) (within : place < length old.lists) (becomes : OneListBecomes old new place list) where
   there : place < length (read_lists old)
   there = subst (λ n. place < n) (sym (length-read_lists old)) within
-
-  -- what stands there
-  pub became : list_at (read_lists new) place ≡ list
-  became = ap (λ l. list_at l place) becomes.lists ∙ get_or-set_same (read_lists old) place list [] there
 
   -- the size of all, where it was empty
   pub grown : list_at (read_lists old) place ≡ [] → total new.lists ≡ total old.lists + length list
@@ -120,9 +116,6 @@ module _ (v : View) (valid : IsValid v) (given : Data) (s : ℕ) (below : s < so
   module _ (fits : IsData v given) (few : AreFew given) where
     data_more : sum_by count_of (take (s + 1) given) ≡ sum_by count_of (take s given) + count_of (source_data given s)
     data_more = sum_by_more count_of given s no_data (omega (arith, below, fits.each))
-
-    pub room_there : (l : Listed) → total l.lists ≤ 2 * sum_by count_of (take s given) → total l.lists + 2 * count_of (source_data given s) ≤ message_limit
-    room_there l held = omega (arith, held, data_more, sum_by-take-le count_of given (s + 1), few)
 
     pub room_more : (old new : Listed) → SourcesEmitted v given s (read_lists old) → total old.lists ≤ 2 * sum_by count_of (take s given)
         → OneListBecomes old new (list_place v s 0) (emitted_of_source v given s) → total new.lists ≤ 2 * sum_by count_of (take (s + 1) given)

@@ -96,10 +96,6 @@ all_messages_are line d key columns keys own at are =
 pub keys_are : (columns : List ℕ) (rows parts keys : List Row) (d : SourceData) → rows ≡ d.rows → parts ≡ d.parts → keys ≡ set_of (map (cells columns) rows ++ parts) → keys ≡ set_of (map (cells columns) d.rows ++ d.parts)
 keys_are columns rows parts keys d same_rows same_parts are = are ∙ ap (λ (l : List Row). set_of (map (cells columns) l ++ parts)) same_rows ∙ ap (λ (l : List Row). set_of (map (cells columns) d.rows ++ l)) same_parts
 
--- a source without a key has no seals
-pub all_messages_none : (line : Stream) (d : SourceData) → line.key ≡ None → map row (distinct_rows d.rows) ≡ source_messages line d
-all_messages_none line d none = sym (append-nil (map row (distinct_rows d.rows))) ∙ ap (λ o. map row (distinct_rows d.rows) ++ source_seals line.columns o d) (sym none)
-
 -- ---- sizes
 
 pub few_rows : (rows : List Row) → length (map row (distinct_rows rows)) ≤ length rows

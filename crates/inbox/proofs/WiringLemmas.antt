@@ -1,21 +1,17 @@
 -- The wiring of a topology has its streams, its instances, and feeds in range.
-use Rattle.std.proofs.Common.{◌≡◌, ap, sym, subst, ◌∙◌, ℕ, ◌+◌, ◌<◌, nat_lt, Bool, true, false, List, [], length, map, get_or, arith, inl, inr, Some, slice_get, zero, suc}
+use Rattle.std.proofs.Common.{◌≡◌, ap, subst, ◌∙◌, ℕ, ◌+◌, ◌<◌, nat_lt, Bool, true, false, List, [], length, map, get_or, arith, inl, inr, Some, slice_get, zero, suc}
 use Rattle.std.specs.Prelude.{if◌then◌else◌}
 use Rattle.std.specs.List.{range_with_len, flat_map}
 use Rattle.std.specs.Option.{option_map_or}
 use Rattle.std.proofs.lemmas.List.FromFn.{get_or-map-range_with_len, length-map-range_with_len}
 use Rattle.std.proofs.lemmas.Option.{slice_get-get_or}
 use Rattle.blz_value.specs.Members.{Has}
-use Rattle.blz_value.proofs.Membership.{Has-get_or, Has-from_map, Has-from_flat_map, Has-from_filter}
+use Rattle.blz_value.proofs.Membership.{Has-from_map, Has-from_flat_map, Has-from_filter}
 use Rattle.topo_forms.specs.View.{View, no_stream, replicas_of, port_numbers, streams_to, stream_replicas, component_at, goes_to, is_order, mode_of, mode_key, stream_at, stream_numbers}
 use Rattle.topo_forms.specs.Feeds.{Feed, no_feed, feeds, log_feeds, feeds_at, feeds_from, paired_senders}
 use Rattle.blz_value.specs.NumberSets.{below}
-use Rattle.topo_forms.specs.Messages.{row}
-use Rattle.messages.specs.Messages.{Pair, Batch, all_pairs}
 use Rattle.inbox.specs.Instances.{Instance, port_of_feed}
 use Rattle.inbox.specs.Growth.{feed_numbered}
-use Rattle.inbox.proofs.TimestepLemmas.Held.{ComesAtPorts}
-use Rattle.inbox.proofs.TimestepLemmas.Entries.{heard_entry}
 use Rattle.inbox.specs.Wiring.{nobody, instances_at, instance_at, is_there, port_for, instance_for, wiring_of}
 
 pub get_or-below : {X : Type 0} (f : ℕ → X) (count n : ℕ) (d : X) → n < count → get_or (map f (below count)) n d ≡ f n
@@ -91,14 +87,3 @@ instance-ports v c j = length-below (λ p. port_for v c p (mode_key (mode_of v c
 
 pub port_of-feed : (i : Instance) (n : ℕ) → n < length i.feeds → port_of_feed i n ≡ (feed_numbered i n).port
 port_of-feed i n within = ap (λ o. option_map_or (λ f. f.port) o (length i.ports)) (slice_get-get_or i.feeds n no_feed within)
-
--- so what is held can be told by partitions alone
-pub comes_at_ports : (v : View) (c j : ℕ) (batches : List Batch) → ((batch : Batch) (pair : Pair) → Has batch batches → Has pair batch → pair.0 < length (instance_for v c j).feeds) → ComesAtPorts (instance_for v c j) batches
-comes_at_ports v c j batches of_feeds entry h =
-    let i = instance_for v c j in
-    let e = heard_entry i (all_pairs batches) entry h in
-    let b = Has-from_flat_map (λ batch. batch) (e.feed, row entry.1) batches e.there in
-    let within = of_feeds b.0 (e.feed, row entry.1) b.1 b.2 in
-    let into = instance-feeds v c j (feed_numbered i e.feed) (Has-get_or i.feeds e.feed no_feed within) in
-    let port : (feed_numbered i e.feed).port ≡ entry.0 = sym (port_of-feed i e.feed within) ∙ e.port in
-    subst (λ n. n < length i.ports) port (subst (λ n. (feed_numbered i e.feed).port < n) (sym (instance-ports v c j)) into.port)

@@ -1,13 +1,9 @@
 -- No more records of a partition are counted on a feed than ids are known there.
-use Rattle.std.proofs.Common.{◌≡◌, ◌+◌, ◌≤◌, ◌==◌, ℕ, Bool, true, false, cond, List, sym, arith}
+use Rattle.std.proofs.Common.{◌≡◌, ◌+◌, ◌≤◌, ◌==◌, ℕ, Bool, true, false, cond, List, arith}
 use Rattle.std.specs.Prelude.{Result, Ok, Err, OnOk, OnErr}
 use Rattle.messages.specs.Numbers.{has_number, HasAlso, IsCountOf}
-use Rattle.messages.proofs.CountingLemmas.{one_counted, same_counted}
+use Rattle.messages.proofs.CountingLemmas.{one_counted}
 use Rattle.messages.proofs.NumbersLemmas.{one_count}
-
--- the ids are the same
-pub few_same : (old new : List ℕ) (have : ℕ) → ((count : ℕ) → IsCountOf (has_number old) count → have ≤ count) → ((k : ℕ) → has_number new k ≡ has_number old k) → (count : ℕ) → IsCountOf (has_number new) count → have ≤ count
-few_same old new have few same count is = few count (same_counted (has_number new) (has_number old) count (λ k. sym (same k)) is)
 
 -- one id is new, and at most one record more is counted
 pub few_more : (old new : List ℕ) (id heard have more : ℕ) → have ≤ heard → more ≤ have + 1 → IsCountOf (has_number old) heard → has_number old id ≡ false → HasAlso id old new → (count : ℕ) → IsCountOf (has_number new) count → more ≤ count

@@ -105,9 +105,6 @@ known-more known new entries entry number kept absent same also = record {
     or_last false true = refl
     or_last false false = refl
 
-pub known-same : (known new : List (List ℕ)) (entries : List EntryId) → IsKept known entries → ((n k : ℕ) → is_known new n k ≡ is_known known n k) → IsKept new entries
-known-same known new entries kept same = record { once = kept.once; knows = λ q. same q.0 q.1 ∙ kept.knows q }
-
 pub none-kept : IsKept [] []
 none-kept = record { once = search rules; knows = λ q. none_set q.1 }
 

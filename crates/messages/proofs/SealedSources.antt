@@ -1,7 +1,7 @@
 -- Seals behind a list, one partition after the other.
 use Rattle.std.proofs.Common.{◌≡◌, ◌<◌, ◌≤◌, ◌+◌, ℕ, List, [], ◌∷◌, ◌++◌, length, map, filter, set, refl, ap, ◌∙◌, sym, subst, inl, inr, arith, append-nil, append_assoc, length-append}
 use Rattle.std.proofs.lemmas.Bool.{cases_eq}
-use Rattle.std.proofs.lemmas.List.{map-append, map-set, set-set, set-get_or, get_or-set_same, get_or-set_other}
+use Rattle.std.proofs.lemmas.List.{map-append, map-set, set-set, get_or-set_same, get_or-set_other}
 use Rattle.std.proofs.lemmas.List.Sums.{sum_by-set}
 use Rattle.blz_value.specs.Members.{Has}
 use Rattle.blz_value.specs.Operators.{cells}
@@ -69,19 +69,6 @@ pub record IsSealedBy (old now : Listed) (place : ℕ) (columns : List ℕ) (res
   pub within : place < length now.lists
   pub room : total now.lists + length rest ≤ message_limit
 
-pub sealed_none : (old : Listed) (place : ℕ) (columns : List ℕ) (keys : List Record) → place < length old.lists → IsExact old → total old.lists + length keys ≤ message_limit → IsSealedBy old old place columns keys keys
-sealed_none old place columns keys within exact room = record {
-  done = [];
-  all = refl;
-  becomes = record {
-    records = continues_itself old.records;
-    lists = sym (ap (set (read_lists old) place) (append-nil (list_at (read_lists old) place)) ∙ set-get_or (read_lists old) place []);
-  };
-  exact = exact;
-  within = within;
-  room = room;
-}
-
 pub sealed_next : (old now new : Listed) (place : ℕ) (columns : List ℕ) (key : Record) (rest keys : List Record) (count : ℕ) → place < length old.lists → IsSealedBy old now place columns (key ∷ rest) keys
     → count ≡ count_in columns (list_at (read_lists old) place) key → new.records ≡ now.records → new.lists ≡ set now.lists place (list_at now.lists place ++ Seal key count ∷ [])
     → IsSealedBy old new place columns rest keys
@@ -126,8 +113,3 @@ count_stays old now place columns key rest keys within s =
     (rows_in-append list (seals_of columns list s.done)
     ∙ ap (λ rows. rows_in list ++ rows) (rows_of_seals (λ k. count_in columns list k) s.done)
     ∙ append-nil (rows_in list))
-
--- at the end
-pub sealed_all : (old now : Listed) (place : ℕ) (columns : List ℕ) (keys : List Record) → IsSealedBy old now place columns [] keys → OneListBecomes old now place (list_at (read_lists old) place ++ seals_of columns (list_at (read_lists old) place) keys)
-sealed_all old now place columns keys s =
-    subst (λ done. OneListBecomes old now place (list_at (read_lists old) place ++ seals_of columns (list_at (read_lists old) place) done)) (sym (append-nil s.done) ∙ s.all) s.becomes

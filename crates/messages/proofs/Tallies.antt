@@ -101,10 +101,6 @@ module _ (records : List Record) (tallies : List (Option Tally)) (lists : List (
       room_left tally (list_at (map (read_list records) lists) place) (tally_at tally is)
       (omega (arith, ap length (read-at records lists place), length-map (list_at lists place) (message_with_id records), get_or-le-sum_by length lists place [] within, few))
 
-  -- without the tally
-  pub without : (taken : List (Option Tally)) → taken ≡ set tallies place None → AreTallied taken (map (read_list records) lists)
-  without taken is = subst (λ ts. AreTallied ts (map (read_list records) lists)) (sym is) (tallied_taken tallies (map (read_list records) lists) place all inside there)
-
   -- with one put back
   pub with_back : (taken : List (Option Tally)) (tally : Option Tally) → taken ≡ set tallies place None → IsTallied tally (list_at (map (read_list records) lists) place) → AreTallied (set taken place tally) (map (read_list records) lists)
   with_back taken tally is counted = subst (λ ts. AreTallied (set ts place tally) (map (read_list records) lists)) (sym is) (tallied_back tallies (map (read_list records) lists) place tally all inside there counted)

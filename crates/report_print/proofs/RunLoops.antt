@@ -10,10 +10,6 @@ use Rattle.sched_run.specs.Reading.{IsRead}
 use Rattle.sched_run.specs.declared.books.Books.{Books}
 use Rattle.report_lines.specs.Words.{Text}
 
--- what is read of the books of one view is so of another that is the same
-pub read_same : {X : Type 0} (v w : View) (b : Books) (of : View → Data → Execution → X) (answer : X) → w ≡ v → IsRead w b (of w) answer → IsRead v b (of v) answer
-read_same v w b of answer same read = subst (λ u. IsRead u b (of u) answer) same read
-
 module _ (v : View) (b : Books) (of : Data → Execution → ℕ → Text) (first : Text) where
   -- the text so far, of the numbers below one
   abbrev pub IsSoFar : (n : ℕ) → Text → Type 0

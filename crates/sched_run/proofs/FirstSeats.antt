@@ -50,9 +50,6 @@ found_last (z ∷ xs) x y (suc n) at = elim (found_last xs x y n at) [
   | inr new ↦ inr (ap suc new.0, new.1)
 ]
 
-pub no_seats : (v : View) → AreFirst v []
-no_seats v = record { each = λ c r b there sends at. cc }
-
 pub seats_more : (v : View) (seats : List Seated) (b : Seated) (c r : ℕ) → AreFirst v seats → r < replicas_of v c → length seats ≡ instance_place v c r → IsFirst v c r b → AreFirst v (seats ++ b ∷ [])
 seats_more v seats b c r before within count first = record {
   each = λ d q s there inside at. elim (found_last seats b s (instance_place v d q) at) [

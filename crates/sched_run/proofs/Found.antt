@@ -1,20 +1,18 @@
 -- The books of a net have the emitted list of each sending replica and the books of each instance at their places.
-use Rattle.std.proofs.Common.{◌≡◌, ◌<◌, ◌≤◌, ◌+◌, ◌-◌, ◌&&◌, ℕ, zero, suc, Bool, true, false, None, List, [], length, slice_get, refl, ap, ◌∙◌, sym, inl, inr, arith, nat_lt, unwrap_or}
+use Rattle.std.proofs.Common.{◌≡◌, ◌<◌, ◌≤◌, ◌+◌, ◌-◌, ◌&&◌, ℕ, zero, suc, true, false, None, List, [], length, slice_get, ap, ◌∙◌, sym, inl, inr, arith, nat_lt, unwrap_or}
 use Rattle.std.specs.Prelude.{if◌then◌else◌}
-use Rattle.std.specs.List.{All}
 use Rattle.std.proofs.lemmas.Bool.{cases_lt, and_from}
 use Rattle.std.proofs.lemmas.Bool.Decides.{nat_tests}
 use Rattle.std.proofs.lemmas.List.{get_or_past}
 use Rattle.bloom_forms.specs.Query.{Name}
 use Rattle.topo_forms.specs.View.{View, Component, Port, no_component, number_named, replicas_of, stream_replicas}
-use Rattle.messages.specs.Ids.{IsGiven}
-use Rattle.messages.specs.Lists.{Listed, list_at, AllAreGiven}
+use Rattle.messages.specs.Lists.{list_at}
 use Rattle.sched_run.specs.Net.{BooksRun}
 use Rattle.sched_run.specs.Numbered.{port_number}
 use Rattle.inbox.specs.Places.{places_before, instance_place, list_place}
 use Rattle.sched_run.specs.declared.books.Books.{Books}
 use Rattle.sched_run.specs.Seen.{list_seen, seat_seen}
-use Rattle.messages.proofs.ListsLemmas.{given-list, length-read_lists}
+use Rattle.messages.proofs.ListsLemmas.{length-read_lists}
 use Rattle.inbox.proofs.PlacesLemmas.{before-more, place-before}
 
 -- ---- tests of numbers
@@ -33,15 +31,6 @@ module _ {X : Type 0} (v : View) (lists : List (List X)) (s r : ℕ) where
 
   pub no_stream_there : length v.streams ≤ s → list_seen v lists s r ≡ []
   no_stream_there past = ap (λ t. if t && nat_lt r (stream_replicas v s) then list_at lists (list_place v s r) else []) (lt-not s (length v.streams) past)
-
-  pub no_sender_there : stream_replicas v s ≤ r → list_seen v lists s r ≡ []
-  no_sender_there past =
-      ap (λ t. if nat_lt s (length v.streams) && t then list_at lists (list_place v s r) else []) (lt-not r (stream_replicas v s) past)
-      ∙ both (nat_lt s (length v.streams))
-    where
-      both : (b : Bool) → (if b && false then list_at lists (list_place v s r) else []) ≡ []
-      both true = refl
-      both false = refl
 
 module _ {X : Type 0} (v : View) (seats : List X) (c r : ℕ) where
   pub seat_there : r < replicas_of v c → seat_seen v seats c r ≡ slice_get seats (instance_place v c r)
@@ -75,11 +64,3 @@ number_of_place size (suc n) place less = elim (cases_lt place (places_before si
       let more : places_before size (suc n) ≡ places_before size n + size n = ap (places_before size) (sym next) ∙ before-more size n in
       (n, place - places_before size n, omega arith, omega (arith, less, more, after), omega (arith, after))
 ]
-
--- the ids of the list that is found are given
-pub seen_given : (v : View) (l : Listed) (s r : ℕ) → AllAreGiven l → All (IsGiven l.records) (list_seen v l.lists s r)
-seen_given v l s r given = by_test (nat_lt s (length v.streams) && nat_lt r (stream_replicas v s))
-  where
-    by_test : (b : Bool) → All (IsGiven l.records) (if b then list_at l.lists (list_place v s r) else [])
-    by_test true = given-list l (list_place v s r) given
-    by_test false = λ k d within. absurd (omega (arith, within))

@@ -35,9 +35,6 @@ module _ (v : View) (c r : ℕ) (loaded : List (Option Program)) (tables : List 
   answers_none none e of given steps stands memory =
       sym (ap (λ a. answer_to a (limit_of_event (wiring_of v) given e (execution_in stands.books))) (of.after (wiring_of v) given (execution_in stands.books) ∙ after_none v given c r parts (execution_in stands.books) none))
 
-  pub leaves_none : HearingLeaves v loaded tables tables old old parts c r (Err NoInstance)
-  leaves_none e of given steps stands = stands
-
   answers_refusal : (refusal : Refusal) → is_hearing (wiring_of v) c r parts ≡ true
       → ((given : Data) (steps : List Step) (stands : Stands v given steps loaded tables old) → pairs_of (wiring_of v) given (execution_in stands.books) (instance_at (wiring_of v) c r) parts ≡ Err refusal)
       → HearingAnswers v loaded tables old parts c r (Err (fault_of refusal))
@@ -73,14 +70,6 @@ module _ (v : View) (c r : ℕ) (loaded : List (Option Program)) (tables : List 
   leaves_refused fault new (inr same) = subst (λ b. HearingLeaves v loaded tables tables old b parts c r (Err fault)) (sym same) (leaves_same fault)
 
   -- ---- limits
-
-  pub leaves_limit : (fault : EventFault) (next : List Sets) (new : Books) → IsLegal {X = Unit {0}} (Err fault) → HearingLeaves v loaded tables next old new parts c r (Err fault)
-  leaves_limit NoInstance next new legal e of given steps stands = absurd legal
-  leaves_limit NoMessage next new legal e of given steps stands = absurd legal
-  leaves_limit NothingToTake next new legal e of given steps stands = absurd legal
-  leaves_limit TooManyRows next new legal e of given steps stands = tt
-  leaves_limit TooManyMessages next new legal e of given steps stands = tt
-  leaves_limit NoMemory next new legal e of given steps stands = tt
 
   -- a fault that is a limit answers as the limit does
   pub answers_limits : (fault : EventFault) → IsLegal {X = Unit {0}} (Err fault) → (fault ≡ TooManyRows → HearingAnswers v loaded tables old parts c r (Err TooManyRows)) → (fault ≡ TooManyMessages → HearingAnswers v loaded tables old parts c r (Err TooManyMessages))

@@ -19,9 +19,6 @@ to_test : (pair : ℕ × ℕ) (feed index : ℕ) → pair ≡ (feed, index) → 
 to_test pair feed index same =
     and_from (feed == pair.0) (index == pair.1) (eq-eqb feed pair.0 (sym (ap (λ (p : ℕ × ℕ). p.0) same))) (eq-eqb index pair.1 (sym (ap (λ (p : ℕ × ℕ). p.1) same)))
 
-pub knows_none : (known : List (List ℕ)) (indexes : List (ℕ × ℕ)) → KnowsMore known (take 0 indexes) known
-knows_none known indexes feed index = (λ h. inl h, λ h. elim h [ inl old ↦ old | inr none ↦ absurd none ])
-
 pub knows_one : (old mid new : List (List ℕ)) (indexes : List (ℕ × ℕ)) (k : ℕ) (d : ℕ × ℕ) → k < length indexes → KnowsAlso (get_or indexes k d).0 (get_or indexes k d).1 mid new → KnowsMore old (take k indexes) mid → KnowsMore old (take (k + 1) indexes) new
 knows_one old mid new indexes k d less also before feed index =
     let pair : ℕ × ℕ = get_or indexes k d in

@@ -96,14 +96,6 @@ logging_refused v loaded tables b c part TooManyRows valid on answers given step
 logging_refused v loaded tables b c part TooManyMessages valid on answers given steps stands = absurd (answers given steps stands.books)
 logging_refused v loaded tables b c part NoMemory valid on answers given steps stands = λ other. absurd (other refl)
 
-pub refused_leaves : (v : View) (loaded : List (Option Program)) (tables : List Sets) (b : Books) (c : ℕ) (part : Part) (fault : EventFault) → PairAnswers v b c 0 part (Err fault) → EventLeavesOpen v loaded tables tables b b (order part c) (Err fault)
-refused_leaves v loaded tables b c part NoInstance answers given steps stands = stands
-refused_leaves v loaded tables b c part NoMessage answers given steps stands = stands
-refused_leaves v loaded tables b c part NothingToTake answers given steps stands = stands
-refused_leaves v loaded tables b c part TooManyRows answers given steps stands = tt
-refused_leaves v loaded tables b c part TooManyMessages answers given steps stands = tt
-refused_leaves v loaded tables b c part NoMemory answers given steps stands = tt
-
 -- ---- where it is done
 
 -- a log with a message at its end reads as that of the execution
@@ -149,9 +141,6 @@ module _ (v : View) (given : Data) (steps : List Step) (loaded : List (Option Pr
 
   legal : after_event (wiring_of v) given (order part c) x ≡ Ok (with_logged c part.port message x)
   legal = logging v given c part x (Ok (feed, message)) valid on (answers given steps stands.books)
-
-  pub logging_answers : after_event (wiring_of v) given (order part c) (execution_in stands.books) ≡ Ok (with_logged c part.port (message_with_id b.lists.records m) (execution_in stands.books))
-  logging_answers = legal
 
   given_if : IsGiven b.lists.records m → (n : ℕ) → n < length v.components → (own : Bool) → AreGiven b.lists.records (if own then log_with part.port m (list_at b.logs.items n) else list_at b.logs.items n)
   given_if here n there true = given_with b.lists.records part.port m (list_at b.logs.items n) (stands.books.logs.given n there) here

@@ -83,9 +83,6 @@ module _ (v : View) (c r : ℕ) (part : Part) (n : ℕ) (found : feed_of (instan
   into : IsFeedInto v c (feed_numbered (instance_for v c r) n)
   into = instance-feeds v c r (feed_numbered (instance_for v c r) n) (Has-get_or (instance_for v c r).feeds n no_feed is_feed.within)
 
-  pub feed_within : n < length (feeds_for v c r)
-  feed_within = is_feed.within
-
   pub stream_there : part.sent.stream < length v.streams
   stream_there = subst (λ s. s < length v.streams) is_feed.stream into.stream
 

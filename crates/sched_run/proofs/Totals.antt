@@ -1,19 +1,12 @@
 -- The messages of all lists are counted stream by stream and sender by sender.
 use Rattle.std.proofs.Common.{◌≡◌, ◌≤◌, ◌+◌, ℕ, zero, suc, List, [], ◌∷◌, length, take, refl, ap, ◌∙◌, sym, subst, arith}
-use Rattle.std.specs.List.{sum_by, fold}
+use Rattle.std.specs.List.{sum_by}
 use Rattle.std.proofs.lemmas.List.{take_all}
 use Rattle.std.proofs.lemmas.List.Sums.{sum_by_more, sum_by-append}
 use Rattle.blz_value.specs.NumberSets.{below}
 use Rattle.messages.specs.Lists.{list_at, total}
 use Rattle.inbox.specs.Places.{places_before}
 use Rattle.inbox.proofs.PlacesLemmas.{below_more, before-more}
-
-same_sums : {X : Type 0} (f g : X → ℕ) (xs : List X) → ((x : X) → f x ≡ g x) → sum_by f xs ≡ sum_by g xs
-same_sums f g xs same = go 0 xs
-  where
-    go : (n : ℕ) (ys : List _) → fold (λ a x. a + f x) n ys ≡ fold (λ a x. a + g x) n ys
-    go n [] = refl
-    go n (y ∷ ys) = ap (λ k. fold (λ a x. a + f x) (n + k) ys) (same y) ∙ go (n + g y) ys
 
 module _ {X : Type 0} (size : ℕ → ℕ) (lists : List (List X)) where
   -- the messages of a stream's lists

@@ -24,13 +24,12 @@ mod stale;
 mod watch;
 mod works;
 
-pub use made::Made;
-
 use crate::fault::MakeFault;
 use crate::making::limits::MAX_EVENTS;
 use crate::making::watch::Watch;
 use crate::making::works::Work;
 use crate::net::Net;
+pub use made::Made;
 use messages::EventFault;
 use sched_text::Schedule;
 use sched_turns::Draws;

@@ -81,13 +81,6 @@ pub record AreRead (fields : List Field) (parts : List Part) (rest : List Field)
   pub read : parts_of fields ≡ option_map (λ more. parts ++ more) (parts_of rest)
   pub left : 0 < length parts → is_empty rest ≡ false
 
-pub none_read : (fields : List Field) → AreRead fields [] fields
-none_read fields = record { read = whole (parts_of fields); left = λ some. absurd (omega arith) }
-  where
-    whole : (parts : Option (List Part)) → parts ≡ option_map (λ more. more) parts
-    whole None = refl
-    whole (Some more) = refl
-
 option_map-map : {X Y Z : Type 0} (f : Y → Z) (g : X → Y) (x : Option X) → option_map f (option_map g x) ≡ option_map (λ y. f (g y)) x
 option_map-map f g None = refl
 option_map-map f g (Some x) = refl

@@ -96,9 +96,6 @@ dot_place (byte ∷ name) rest e =
     let more : position_or_len is_dot (name ++ 46 ∷ rest) ≡ length name = dot_place name rest (second_so (is_name_byte byte) (list_all is_name_byte name) e) in
     rw (other, more) (omega arith)
 
-spot_field : List ℕ → List ℕ → Field
-spot_field component port = component ++ 46 ∷ port
-
 module _ (component port : List ℕ) (names : (is_name component && is_name port) ≡ true) where
   first_name : is_name component ≡ true
   first_name = first_so (is_name component) (is_name port) names

@@ -1,11 +1,10 @@
 -- The lines of a text, read one after another.
-use Rattle.std.proofs.Common.{◌≡◌, ℕ, ◌+◌, ◌<◌, ◌≤◌, Bool, true, false, ◌||◌, Some, List, [], ◌∷◌, ◌++◌, refl, ap, ◌∙◌, sym, arith, append_assoc}
+use Rattle.std.proofs.Common.{◌≡◌, ℕ, ◌+◌, ◌<◌, ◌≤◌, Bool, true, false, ◌||◌, Some, List, [], ◌∷◌, ◌++◌, refl, ap, ◌∙◌}
 use Rattle.std.specs.Prelude.{nat_lt}
-use Rattle.std.proofs.lemmas.Bool.{lt-ltb, le-ltb}
-use Rattle.std.proofs.lemmas.List.{append-nil}
+use Rattle.std.proofs.lemmas.Bool.{le-ltb}
 use Rattle.blz_value.specs.FirstPlace.{first_place}
-use Rattle.sched_text.specs.Lines.{Line, lines_of}
-use Rattle.sched_text.specs.Reading.{LineReading, passed_over, stands_for, bad, is_bad, line_limit, bad_line, entries_from, entries_of, with_entry, ReadsAs}
+use Rattle.sched_text.specs.Lines.{Line}
+use Rattle.sched_text.specs.Reading.{LineReading, is_bad, line_limit, bad_line, entries_from, entries_of, with_entry}
 
 module _ {X : Type 0} (reading : Line → LineReading X) where
   -- a line is none of a schedule, or past the limit
@@ -18,45 +17,17 @@ module _ {X : Type 0} (reading : Line → LineReading X) where
     pub bad_so : bad_line reading text ≡ first_place is_fault (number + 1) rest
     pub few : number ≤ line_limit
 
-  pub none_read_yet : (text : List ℕ) → AreReadLines text [] 0 (lines_of text)
-  none_read_yet text = record { entries_so = refl; bad_so = refl; few = omega arith }
-
   module _ (text : List ℕ) (entries : List (ℕ × X)) (number : ℕ) (rest : List Line) (read : AreReadLines text entries number rest) where
-    pub all_read_lines : rest ≡ [] → ReadsAs reading text entries
-    all_read_lines e = (
-      read.bad_so ∙ ap (first_place is_fault (number + 1)) e,
-      sym (read.entries_so ∙ ap (λ (lines : List Line). entries ++ entries_from reading (number + 1) lines) e ∙ append-nil entries),
-    )
 
     module _ (line : Line) (others : List Line) (first : rest ≡ line ∷ others) where
       fault_first : is_fault (number + 1) line ≡ true → bad_line reading text ≡ Some (number + 1)
       fault_first e = read.bad_so ∙ ap (first_place is_fault (number + 1)) first ∙ rw e refl
 
-      pub past_last : line_limit < number + 1 → bad_line reading text ≡ Some (number + 1)
-      past_last past = fault_first (rw (lt-ltb line_limit (number + 1) past) refl)
-
       within : number + 1 ≤ line_limit → (b : Bool) → is_bad (reading line) ≡ b → is_fault (number + 1) line ≡ b
       within low b e = rw (le-ltb line_limit (number + 1) low, e) refl
-
-      pub bad_first : number + 1 ≤ line_limit → reading line ≡ bad → bad_line reading text ≡ Some (number + 1)
-      bad_first low e = fault_first (within low true (ap is_bad e))
 
       bad_behind : is_fault (number + 1) line ≡ false → bad_line reading text ≡ first_place is_fault (number + 1 + 1) others
       bad_behind e = read.bad_so ∙ ap (first_place is_fault (number + 1)) first ∙ rw e refl
 
       entries_behind : (r : LineReading X) → reading line ≡ r → entries_of reading text ≡ entries ++ with_entry (number + 1) r (entries_from reading (number + 1 + 1) others)
       entries_behind r e = read.entries_so ∙ ap (λ (lines : List Line). entries ++ entries_from reading (number + 1) lines) first ∙ ap (λ (x : LineReading X). entries ++ with_entry (number + 1) x (entries_from reading (number + 1 + 1) others)) e
-
-      pub entry_first : number + 1 ≤ line_limit → (x : X) → reading line ≡ stands_for x → AreReadLines text (entries ++ (number + 1, x) ∷ []) (number + 1) others
-      entry_first low x e = record {
-        entries_so = entries_behind (stands_for x) e ∙ sym (append_assoc entries ((number + 1, x) ∷ []) (entries_from reading (number + 1 + 1) others));
-        bad_so = bad_behind (within low false (ap is_bad e));
-        few = low;
-      }
-
-      pub passed_first : number + 1 ≤ line_limit → reading line ≡ passed_over → AreReadLines text entries (number + 1) others
-      passed_first low e = record {
-        entries_so = entries_behind passed_over e;
-        bad_so = bad_behind (within low false (ap is_bad e));
-        few = low;
-      }

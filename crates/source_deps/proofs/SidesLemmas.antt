@@ -2,16 +2,11 @@
 use Rattle.std.proofs.Common.{◌≡◌, ◌≢◌, ℕ, zero, suc, ◌+◌, ◌<◌, Bool, true, false, cond, not, ◌&&◌, None, Some, List, [], ◌∷◌, ◌++◌, map, length, get_or, take, drop, refl, ap, sym, ◌∙◌, inl, inr, arith, if◌then◌else◌}
 use Rattle.std.specs.Hash.{HashWrites}
 use Rattle.std.specs.List.{list_any, fold, position_from, position_or_len}
-use Rattle.std.specs.Ordering.{eq_by_cmp}
-use Rattle.std.specs.declared.cmp.Ordering.{Ordering}
-use Rattle.std.specs.declared.cmp.Ordering.TheVariants.{Less, Equal, Greater}
-use Rattle.std.proofs.Math.Seq.{drop-cons}
 use Rattle.std.proofs.lemmas.Bool.{cases_Bool}
 use Rattle.std.proofs.lemmas.Grind.{flat_map-append, fold-append}
 use Rattle.std.proofs.lemmas.List.{append-nil, length-map, map-append, take_more}
 use Rattle.blz_value.specs.Record.{Row}
 use Rattle.blz_value.specs.Test.{cell}
-use Rattle.blz_value.specs.Value.{value_cmp}
 use Rattle.blz_value.specs.Hash.{record_writes, value_writes}
 use Rattle.indexmap.specs.IndexSet.{insert_key}
 use Rattle.source_deps.specs.declared.sides.Side.{Side}
@@ -31,22 +26,6 @@ other_length a b apart = go (same (values_of a) (values_of b)) refl
     go : (t : Bool) → same (values_of a) (values_of b) ≡ t → false ≡ t
     go false e = refl
     go true e = absurd (apart (sym (length-map a.places.now (cell a.row.now)) ∙ ap length (same-is (values_of a) (values_of b) e) ∙ length-map b.places.now (cell b.row.now)))
-
-pub same_step : (a b : Side) (k p q : ℕ) → k < length a.places.now → k < length b.places.now → p ≡ get_or a.places.now k p → q ≡ get_or b.places.now k q
-    → same (values_from a k) (values_from b k) ≡ (eq_by_cmp value_cmp (cell a.row.now p) (cell b.row.now q) && same (values_from a (k + 1)) (values_from b (k + 1)))
-same_step a b k p q lt_a lt_b at_a at_b =
-    let next : suc k ≡ k + 1 = omega arith in
-    let cons_a : drop k a.places.now ≡ p ∷ drop (k + 1) a.places.now = drop-cons a.places.now k p lt_a ∙ ap (λ (x : ℕ). x ∷ drop (suc k) a.places.now) (sym at_a) ∙ ap (λ (n : ℕ). p ∷ drop n a.places.now) next in
-    let cons_b : drop k b.places.now ≡ q ∷ drop (k + 1) b.places.now = drop-cons b.places.now k q lt_b ∙ ap (λ (x : ℕ). x ∷ drop (suc k) b.places.now) (sym at_b) ∙ ap (λ (n : ℕ). q ∷ drop n b.places.now) next in
-    ap (λ (xs : List ℕ). same (map (cell a.row.now) xs) (values_from b k)) cons_a
-    ∙ ap (λ (ys : List ℕ). same (cell a.row.now p ∷ values_from a (k + 1)) (map (cell b.row.now) ys)) cons_b
-    ∙ both (value_cmp (cell a.row.now p) (cell b.row.now q)) refl
-  where
-    both : (o : Ordering) → value_cmp (cell a.row.now p) (cell b.row.now q) ≡ o
-        → same (cell a.row.now p ∷ values_from a (k + 1)) (cell b.row.now q ∷ values_from b (k + 1)) ≡ (eq_by_cmp value_cmp (cell a.row.now p) (cell b.row.now q) && same (values_from a (k + 1)) (values_from b (k + 1)))
-    both Less e = rw e refl
-    both Equal e = rw e refl
-    both Greater e = rw e refl
 
 same_at : (sides : List Side) (n : ℕ) (d e : Side) → n < length sides → get_or sides n d ≡ get_or sides n e
 same_at [] n d e lt = absurd (omega arith)

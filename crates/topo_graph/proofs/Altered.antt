@@ -57,11 +57,6 @@ module _ {X : Type 0} (f : X → X) where
     at-same (suc n) zero (x ∷ xs) d = refl
     at-same (suc n) (suc i) (x ∷ xs) d = at-same n i xs d
 
-    pub map-same : (n : ℕ) (xs : List X) → map h (altered n xs) ≡ map h xs
-    map-same n [] = refl
-    map-same zero (x ∷ xs) = ap (λ (y : Y). y ∷ map h xs) (same x)
-    map-same (suc n) (x ∷ xs) = ap (λ (ys : List Y). h x ∷ ys) (map-same n xs)
-
   pub flat_map-same : {Y : Type 0} (h : X → List Y) → ((x : X) → h (f x) ≡ h x) → (n : ℕ) (xs : List X) → flat_map h (altered n xs) ≡ flat_map h xs
   flat_map-same h same n [] = refl
   flat_map-same {Y = Y} h same zero (x ∷ xs) = ap (λ (ys : List Y). ys ++ flat_map h xs) (same x)

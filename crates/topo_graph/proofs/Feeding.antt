@@ -25,9 +25,6 @@ pub not_true : (b : Bool) → not b ≡ true → b ≡ false
 not_true true e = absurd (true≢false (sym e))
 not_true false e = refl
 
-pub false_not : (b : Bool) → b ≡ false → not b ≡ true
-false_not b e = ap not e
-
 pub own_number : (a : ℕ) → nat_eq a a ≡ true
 own_number a = grind (arith, nat_tests)
 

@@ -67,9 +67,6 @@ module _ (names : List Name) (few : length names ≤ 64) (apart : AllPairs (λ (
         absurd (omega (arith, none, one))
   ]
 
-  name_at : ℕ → Name
-  name_at n = get_or names n []
-
   same_place : (n k : ℕ) → n < length names → k < length names → get_or names n [] ≡ get_or names k [] → n ≡ k
   same_place n k ln lk same = elim (cases_eq n k) [
     | inl e ↦ e

@@ -43,10 +43,6 @@ use Rattle.topo_read.proofs.ReadBackEntries.{next, takes, maybe, list, none, onl
 
 -- ---- lists that are empty
 
-empty_is : {X : Type 0} (xs : List X) → is_empty xs ≡ true → xs ≡ []
-empty_is [] e = refl
-empty_is (x ∷ xs) e = absurd (true≢false (sym e))
-
 unwritten : {X : Type 0} (m : Members) (key : List ℕ) (write : X → Data) (xs : List X) → is_empty xs ≡ true → get_member key m ≡ unless_empty write xs → empty_at {X = X} key m ≡ Ok xs
 unwritten m key write [] e is = next _ (none m key is) refl
 unwritten m key write (x ∷ xs) e is = absurd (true≢false (sym e))

@@ -1,5 +1,5 @@
 -- Lists by numbers that are read of a net grow number by number, of whatever data and steps its books stand for.
-use Rattle.std.proofs.Common.{◌≡◌, ◌+◌, ◌<◌, ℕ, List, [], ◌∷◌, ◌++◌, map, length, length-append, refl, ap, ◌∙◌, sym, subst, arith}
+use Rattle.std.proofs.Common.{◌≡◌, ◌+◌, ◌<◌, ℕ, List, [], ◌∷◌, ◌++◌, map, length, length-append, ap, ◌∙◌, sym, subst, arith}
 use Rattle.std.proofs.lemmas.List.FromFn.{map-range_with_len_more}
 use Rattle.blz_value.specs.Record.{Row}
 use Rattle.topo_forms.specs.Data.{Data}
@@ -19,9 +19,6 @@ module _ {X : Type 0} (v : View) (b : Books) (of : Data → Execution → ℕ �
     pub read : IsRead v b (λ given x. map (of given x) (below n)) list
     pub count : length list ≡ n
 
-  pub none_yet : HasSoFar 0 []
-  none_yet = record { read = λ given steps stand. refl; count = refl }
-
   pub one_more : (n : ℕ) (old new : List X) (item : X) → new ≡ old ++ item ∷ [] → IsRead v b (λ given x. of given x n) item → HasSoFar n old → HasSoFar (n + 1) new
   one_more n old new item grown is so_far = record {
     read = λ given steps stand.
@@ -39,8 +36,6 @@ module _ {X : Type 0} (v : View) (b : Books) (of : Data → Execution → ℕ �
 -- ---- a net of this topology
 
 module _ (v own : View) (b : Books) (same : own ≡ v) where
-  pub runs_too : BooksRun v b → BooksRun own b
-  runs_too runs = subst (λ w. BooksRun w b) (sym same) runs
 
   -- what is read of the contents of a sending replica
   pub contents_read : (stream replica : ℕ) (set : List Row) → replica < stream_replicas v stream

@@ -31,7 +31,6 @@ use Rattle.command_checks.specs.Script.{Script, ◌>>=◌}
 use Rattle.command_checks.specs.Script.Script.{gives}
 use Rattle.command_checks.specs.Script.Ending.{gave}
 use Rattle.command_checks.specs.declared.stop.Stop.{Stop}
-use Rattle.command_checks.specs.declared.stop.Stop.TheVariants.{NoMemory}
 use Rattle.command_checks.proofs.ScriptLemmas.{came_at_once, came_checked, came_then, gives_ran, stop_handed, stop_then, then_ran, then_stop}
 use Rattle.blazes_commands.specs.Finds.Checks as check
 use Rattle.blazes_commands.specs.Finds.Code.Looked.{IsLookedIn, wanted_shown}
@@ -127,10 +126,6 @@ module _ (kinds : List ProgramKind) (v : View) (given : Data) (lines : List Line
   opening_looks result stop is stopped s =
       stop_handed wanted_shown (files_states s s) (looking kinds v given lines words) result stop is
       (stop_then (files_states s s) stop (run_of kinds v given lines) on_run (opening_stops First kinds v given lines s stop stopped))
-
-  -- where memory runs out
-  pub memory_looks : (result : Result Wanted Stop) → IsErrAnd result (λ stop. stop ≡ NoMemory) → RanAtOnce wanted_shown result (looking kinds v given lines words)
-  memory_looks result is s = stop_handed wanted_shown (files_states s s) (looking kinds v given lines words) result NoMemory is tt
 
   -- where it is, and its lines are applied or one is refused
   pub net_looks : (loaded : List (Option Program)) (next : List Sets) (new : Books) (applied : Result (Unit {0}) StepRefusal) (outcome : Result Wanted Stop) → check.opened v (fault_of_opening v (λ k. k) kinds) ≡ Ok tt

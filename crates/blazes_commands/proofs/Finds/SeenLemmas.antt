@@ -19,7 +19,6 @@ use Rattle.command_checks.specs.Ends.{files_states}
 use Rattle.command_checks.specs.Ran.{Stopped, StopsAs}
 use Rattle.command_checks.specs.Script.{Script}
 use Rattle.command_checks.specs.declared.stop.Stop.{Stop}
-use Rattle.command_checks.specs.declared.stop.Stop.TheVariants.{NoMemory}
 use Rattle.command_checks.proofs.ScriptLemmas.{memory_stops}
 use Rattle.blazes_commands.specs.Finds.Checks as check
 use Rattle.blazes_commands.specs.Finds.Code.Seen.{IsSeenOf, Sees, run_in}
@@ -35,10 +34,6 @@ module _ (which : Which) (kinds : List ProgramKind) (v : View) (given : Data) (l
   -- where the net isn't opened
   pub opening_sees : (result : Result Seen Stop) (stop : Stop) → IsErrAnd result (λ given. given ≡ stop) → StopsAs stop (check.opened v (fault_of_opening v (λ k. k) kinds)) → Sees v given (run_in which kinds v given lines) result
   opening_sees result stop is gives = stop_sees v given (run_in which kinds v given lines) result stop is (λ s. opening_stops which kinds v given lines s stop gives)
-
-  -- where memory runs out
-  pub memory_sees : (result : Result Seen Stop) → IsErrAnd result (λ stop. stop ≡ NoMemory) → Sees v given (run_in which kinds v given lines) result
-  memory_sees result is = stop_sees v given (run_in which kinds v given lines) result NoMemory is (λ s. tt)
 
   -- where it is, and its lines are applied or one is refused
   pub net_sees : (loaded : List (Option Program)) (next : List Sets) (new : Books) (applied : Result (Unit {0}) StepRefusal) (outcome : Result Seen Stop) → check.opened v (fault_of_opening v (λ k. k) kinds) ≡ Ok tt

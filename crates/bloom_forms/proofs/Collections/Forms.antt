@@ -1,14 +1,10 @@
 -- Lists of rules and of their forms.
-use Rattle.std.proofs.Common.{◌≡◌, ◌<◌, ◌+◌, ℕ, suc, List, [], ◌∷◌, ◌++◌, map, length, take, get_or, refl, ap, ◌∙◌, sym, subst}
+use Rattle.std.proofs.Common.{◌≡◌, ◌<◌, ◌+◌, ℕ, suc, List, [], ◌∷◌, ◌++◌, length, take, get_or, refl, ap, ◌∙◌, sym, subst}
 use Rattle.std.proofs.lemmas.List.{map_more}
 use Rattle.blz_value.specs.Members.{Has}
 use Rattle.blz_value.proofs.Membership.{Has-map, Has-get_or}
 use Rattle.bloom_forms.specs.declared.module.Rule.{Rule}
-use Rattle.bloom_forms.specs.Form.{RuleForm, rule_form, rule_forms}
-
-pub map_rule_forms : {Y : Type 0} (f : RuleForm → Y) (rules : List Rule) → map f (rule_forms rules) ≡ map (λ r. f (rule_form r)) rules
-map_rule_forms f [] = refl
-map_rule_forms {Y} f (r ∷ rules) = ap (λ (ys : List Y). f (rule_form r) ∷ ys) (map_rule_forms f rules)
+use Rattle.bloom_forms.specs.Form.{rule_form, rule_forms}
 
 pub length_rule_forms : (rules : List Rule) → length (rule_forms rules) ≡ length rules
 length_rule_forms [] = refl

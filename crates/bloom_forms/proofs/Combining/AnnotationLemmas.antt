@@ -1,8 +1,8 @@
 -- Each note of a program stands at its port and output.
 use Rattle.std.specs.Prelude.{IfOk}
-use Rattle.std.proofs.Common.{◌≡◌, ◌<◌, ℕ, List, [], Option, None, Result, Ok, Err, length, map, get_or, slice_index_or, ap, ◌∙◌, arith}
+use Rattle.std.proofs.Common.{◌≡◌, ◌<◌, ℕ, List, [], Option, None, Result, Ok, Err, length, map, get_or, ap, ◌∙◌, arith}
 use Rattle.std.specs.List.{range_with_len}
-use Rattle.std.proofs.lemmas.List.FromFn.{get_or-map-range_with_len, length-map-range_with_len}
+use Rattle.std.proofs.lemmas.List.FromFn.{get_or-map-range_with_len}
 use Rattle.bloom_forms.specs.declared.program.Program.{Program}
 use Rattle.bloom_forms.specs.Program.{port_columns, output_columns}
 use Rattle.bloom_forms.specs.Query.{Name}
@@ -25,14 +25,3 @@ each_note E names program (Err e) is = tt
 -- the notes of one port
 abbrev port_notes : (names : List Name) → Program → ℕ → List (Option Note)
 port_notes names program port = map (note_of names program port) (range_with_len 0 (length (output_columns program)))
-
--- a port is a place among the notes
-pub within_ports : (names : List Name) (program : Program) (notes : List (List (Option Note))) (port : ℕ) → notes ≡ notes_of names program → port < length (port_columns program) → port < length notes
-within_ports names program notes port is below = omega (arith, ap length is, length-map-range_with_len (port_notes names program) 0 (length (port_columns program)))
-
--- an output is a place among the notes of a port
-pub within_outputs : (names : List Name) (program : Program) (notes : List (List (Option Note))) (port output : ℕ) → notes ≡ notes_of names program → port < length (port_columns program) → output < length (output_columns program) → output < length (slice_index_or notes port [])
-within_outputs names program notes port output is below within =
-    let here = ap (λ (all : List (List (Option Note))). length (get_or all port [])) is in
-    let same = ap length (get_or-map-range_with_len (port_notes names program) 0 (length (port_columns program)) port port [] below (omega arith)) in
-    omega (arith, here, same, length-map-range_with_len (note_of names program port) 0 (length (output_columns program)))

@@ -85,12 +85,6 @@ abbrev pub Up : (ℕ → ℕ) → List ℕ → Type 0
 Up key_of [] = Unit {0}
 Up key_of (h ∷ heads) = ((g : ℕ) → Has g heads → key_of h ≤ key_of g) × Up key_of heads
 
-input_is : (k : Kind) → is_input k ≡ true → k ≡ Input
-input_is Input e = refl
-input_is Output e = cc
-input_is Table e = cc
-input_is Scratch e = cc
-
 not_input : (k : Kind) → k ≢ Input → is_input k ≡ false
 not_input Input n = absurd (n refl)
 not_input Output n = refl

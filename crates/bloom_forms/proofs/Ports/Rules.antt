@@ -124,29 +124,6 @@ w_some : (given : Option Note) → is_w given ≡ true → is_some given ≡ tru
 w_some None h = h
 w_some (Some note) h = refl
 
--- one timestep with records is as good as it alone
-pub alone : (program : Program) (given : ℕ → Option Note) (over : List Sets → List Row)
-    → SeesItsPorts program given over → (earlier later : List Sets) (now : Sets)
-    → AreSilentAt program (λ port. is_some (given port)) earlier
-    → AreSilentAt program (λ port. is_some (given port)) later → over (earlier ++ now ∷ later) ≡ over (now ∷ [])
-alone program given over sees earlier later now early late =
-    let all = earlier ++ now ∷ later in
-    let once = at_once program all in
-    let same : AreSameAt program (λ port. is_some (given port)) once now = λ port lt t.
-    let u = at_once_union program all port lt in (
-      λ row h.
-          let s = u.some row h in
-          elim (Has-append_cases s.0.0 earlier (now ∷ later) s.0.1) [
-            | inl e ↦ absurd (subst (λ (x : List Row). Has row x) (early s.0.0 e port lt t) s.1)
-            | inr rest ↦ elim rest [
-              | inl e ↦ subst (λ (x : Sets). Has row (set_at x port)) (sym e) s.1
-              | inr l ↦ absurd (subst (λ (x : List Row). Has row x) (late s.0.0 l port lt t) s.1)
-            ]
-          ],
-      λ row h. u.inside (now, Has-append_right now earlier (now ∷ later) (inl refl)) row h,
-    ) in
-    sees.partition earlier later now early (λ arriving came port lt t. late arriving came port lt (w_some (given port) t)) ∙ sees.only (once ∷ []) (now ∷ []) (same, tt)
-
 -- ---- a rule
 
 module _ (names : List Name) (a : Accepted) (checked : IsChecked a.form a.heads) (rule : RuleForm) (stands : Has rule a.form.rules) where

@@ -131,9 +131,6 @@ module _ (a : Accepted) (checked : IsChecked a.form a.heads) (set : ℕ) (closed
     abbrev second : Env
     second = end_env a other_kept other_arriving
 
-    TablesSame : Name → Type 0
-    TablesSame n = IsInSet n → kind_at cs (number_of a checked n) ≡ Some Table → first n ≡ second n
-
     rule_linear_same : (rule : RuleForm) → Has rule a.form.rules → ReadsSet rule → ((n : Name) → IsIn a checked rule.1 n → kind_at cs (number_of a checked n) ≡ Some Table → first n ≡ second n) → IsLinear a checked {J = Unit {0}} (λ j. first) second rule.1
     rule_linear_same rule stands inside tables = rule_linear a checked rule stands {J = Unit {0}} (λ j. first) second (λ j. is_end a checked kept arriving) (is_end a checked other_kept other_arriving)
         (λ n h is.

@@ -165,7 +165,3 @@ pub many_ended : {X : Type 0} (starts : List Terminal → Bool) (one : List Term
     → with_front front (many_at starts one (len - n) ts) ≡ Ok (front, ts)
 unfolding many_at
 many_ended starts one front n len ts le = ap (λ t. with_front front (many_at starts one t ts)) (let e : len - n ≡ zero = omega (arith, le) in e) ∙ ap (λ ys. Ok (ys, ts)) (append-nil front)
-
-pub with_none : {X : Type 0} (r : Result (List X × List Terminal) ℕ) → with_front [] r ≡ r
-with_none (Ok x) = refl
-with_none (Err n) = refl

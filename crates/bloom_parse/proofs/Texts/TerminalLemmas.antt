@@ -17,7 +17,7 @@ use Rattle.bloom_forms.specs.Literals.{TermLiterals, FormulaLiterals, HasLiteral
 use Rattle.bloom_forms.specs.Query.{Name, Formula, Query}
 use Rattle.bloom_forms.specs.Query.Formula.{compare, both, either, not_so}
 use Rattle.bloom_forms.specs.Query.Query.{base, select, project, join, notin, group, at_least}
-use Rattle.bloom_forms.specs.Reserved.{is_own_name, is_reserved, reserved_words, term_names, formula_names, pair_names, aggregate_names, query_names}
+use Rattle.bloom_forms.specs.Reserved.{is_own_name, is_reserved, term_names, formula_names, pair_names, aggregate_names, query_names}
 use Rattle.bloom_forms.proofs.Faults.Levels.{neither}
 use Rattle.bloom_parse.specs.declared.lexing.terminal.Terminal.{Terminal}
 use Rattle.bloom_parse.specs.declared.lexing.terminal.Terminal.TheVariants as terminals
@@ -31,10 +31,6 @@ use Rattle.bloom_parse.specs.Trees.{term_token, unit_text, ands_text, ors_text, 
 use Rattle.bloom_parse.proofs.Printed.BoundsLemmas.{both_true, short_parts}
 
 -- ---- names
-
--- the words are the same in both places
-same_words : reserved_words ≡ map word_bytes all_words
-same_words = refl
 
 other_way : (a b : Name) → bytes_eq a b ≡ false → bytes_eq b a ≡ false
 other_way a b e = grind (arith, common_steps, bytes_eq-Decides a b, bytes_eq-Decides b a, e)

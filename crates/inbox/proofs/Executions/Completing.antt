@@ -7,19 +7,18 @@ use Rattle.std.proofs.lemmas.List.{get_or_past}
 use Rattle.std.proofs.lemmas.List.Sums.{sum_by-cons}
 use Rattle.std.proofs.lemmas.List.FromFn.{get_or-enumerate_from, length-enumerate_from}
 use Rattle.blz_value.specs.Members.{Has}
-use Rattle.blz_value.specs.Record.{Row}
 use Rattle.blz_value.proofs.Membership.{Has-get_or, Has-filter}
 use Rattle.blz_value.proofs.MembersInOrder.{in_range}
 use Rattle.topo_forms.specs.Data.{Data}
-use Rattle.topo_forms.specs.Feeds.{Feed, no_feed}
+use Rattle.topo_forms.specs.Feeds.{no_feed}
 use Rattle.topo_forms.specs.View.{is_order_mode}
-use Rattle.topo_forms.specs.Messages.{Message, rows_in}
-use Rattle.messages.specs.Messages.{Pair, is_same_pair, is_same_entry, all_pairs}
-use Rattle.inbox.specs.Wiring.{Wiring, instances_at, instance_at, is_there, is_sequencer}
+use Rattle.topo_forms.specs.Messages.{Message}
+use Rattle.messages.specs.Messages.{Pair, is_same_pair, all_pairs}
+use Rattle.inbox.specs.Wiring.{Wiring, instances_at, instance_at, is_there}
 use Rattle.inbox.specs.Executions.{Execution, emitted_list}
-use Rattle.inbox.specs.Completeness.{unheard, undelivered, unordered, untaken, left_of, left_out, left_at, IsComplete}
+use Rattle.inbox.specs.Completeness.{unheard, undelivered, untaken, left_of, left_at, IsComplete}
 use Rattle.inbox.specs.Growth.{feed_numbered}
-use Rattle.messages.proofs.MessagesLemmas.{is_same_pair-is, is_same_pair-itself, is_same_entry-is, is_same_entry-itself, same-from_any}
+use Rattle.messages.proofs.MessagesLemmas.{is_same_pair-is, is_same_pair-itself, same-from_any}
 
 -- ---- sums that are 0
 
@@ -91,19 +90,6 @@ module _ (w : Wiring) (given : Data) (x : Execution) (complete : IsComplete w gi
       sum_none (λ place. length (unheard heard place.0 (emitted_list w given x place.1.stream place.1.sender))) (feed, feed_numbered i feed) (enumerate_from 0 i.feeds) none (Has-enumerate i.feeds feed no_feed within) in
       same-from_any is_same_pair is_same_pair-is is_same_pair-itself (feed, message) heard
       (not_not (list_any (is_same_pair (feed, message)) heard) (none_left (λ m. not (list_any (is_same_pair (feed, m)) heard)) message (emitted_list w given x (feed_numbered i feed).stream (feed_numbered i feed).sender) here sent))
-
-  -- the log of an Order component has all records of its feeds
-  pub all_ordered : (component replica : ℕ) (feed : Feed) (r : Row) → is_there w component replica ≡ true → is_sequencer w component ≡ true
-      → Has feed (instance_at w component 0).feeds → Has r (rows_in (emitted_list w given x feed.stream feed.sender)) → Has (feed.port, r) (x.logs component)
-  all_ordered component replica feed r there order of_feed sent =
-      let e = nothing_at component replica there in
-      let out : left_out w given x component ≡ 0 = omega (arith, e) in
-      let none : unordered w given x component ≡ 0 = sym (ap (λ b. if b then unordered w given x component else 0) order) ∙ out in
-      let test : Row → Bool = λ q. not (list_any (is_same_entry (feed.port, q)) (x.logs component)) in
-      let here : length (filter test (rows_in (emitted_list w given x feed.stream feed.sender))) ≡ 0 =
-      sum_none (λ f. length (filter (λ q. not (list_any (is_same_entry (f.port, q)) (x.logs component))) (rows_in (emitted_list w given x f.stream f.sender)))) feed (instance_at w component 0).feeds none of_feed in
-      same-from_any is_same_entry is_same_entry-is is_same_entry-itself (feed.port, r) (x.logs component)
-      (not_not (list_any (is_same_entry (feed.port, r)) (x.logs component)) (none_left test r (rows_in (emitted_list w given x feed.stream feed.sender)) here sent))
 
   -- a replica of an Order component took its whole log in its last life
   pub all_taken : (component replica : ℕ) → is_there w component replica ≡ true → is_order_mode (instance_at w component replica).mode ≡ true → length (x.logs component) ≤ (x.lives component replica).last.taken

@@ -1,6 +1,6 @@
 -- What holds at the beginning and is kept by each legal step holds of every history; and a legal step is of one of four kinds.
 use Rattle.std.proofs.Common.{◌≡◌, refl, subst, ℕ, ◌&&◌, nat_lt, true, List, [], ◌∷◌, length}
-use Rattle.std.specs.Prelude.{Result, Ok, Err}
+use Rattle.std.specs.Prelude.{Result, Ok}
 use Rattle.std.specs.List.{fold}
 use Rattle.topo_forms.specs.Data.{Data}
 use Rattle.messages.specs.Messages.{Pair}
@@ -12,10 +12,6 @@ use Rattle.inbox.specs.Events.{Part, Event, deliver, batch, order, take_one, Ste
 use Rattle.inbox.proofs.Executions.Results.{Ok_same, if_Ok, and_then_Ok}
 
 -- ---- induction over histories
-
-after_refusal : (w : Wiring) (given : Data) (steps : List Step) (refusal : Refusal) (y : Execution) → fold (λ result step. result_and_then result (after_step w given step)) (Err refusal) steps ≡ Ok y → ⊥
-after_refusal w given [] refusal y e = cc
-after_refusal w given (step ∷ steps) refusal y e = after_refusal w given steps refusal y e
 
 going_on : (w : Wiring) (given : Data) (P : Execution → Type 0) → ((x y : Execution) (step : Step) → P x → after_step w given step x ≡ Ok y → P y)
     → (steps : List Step) (r : Result Execution Refusal) (y : Execution) → ((x : Execution) → r ≡ Ok x → P x) → fold (λ result step. result_and_then result (after_step w given step)) r steps ≡ Ok y → P y

@@ -68,9 +68,6 @@ id_given records f (pair ∷ batch) given e h = by pair.1 (given pair (inl refl)
     by (Row id) g later (inr rest) = later rest
     by (Seal key count) g later rest = later rest
 
-pub ids_given : (records : List Record) (f : FeedsView) (batch : List (ℕ × IdMessage)) → ((pair : ℕ × IdMessage) → Has pair batch → IsGiven records pair.1) → AreGiven records (entry_ids_of f batch)
-ids_given = id_given
-
 -- ---- modes
 
 sealing_steps : (m : Mode) (i : Instance) (heard : List Pair) (batch : Batch) → is_sealing m ≡ true → steps_in m i heard batch ≡ first_part i (newly_whole i heard batch) (entries_of i (heard ++ batch)) ++ second_part i heard batch

@@ -26,8 +26,6 @@ use Rattle.label_walk.proofs.Labelling.Computed.{from_computed}
 use Rattle.label_walk.proofs.Labelling.OneLabelling.{Feeds, Agree, same_by}
 
 module _ (v : View) (valid : IsValid v) where
-  abbrev count : ℕ
-  count = length v.components
 
   few : length v.components ≤ 64
   few = omega (arith, valid.numbered.few_components)

@@ -67,12 +67,6 @@ behind_same {X} front before after items are e = are ∙ ap (λ (l : List X). fr
 
 -- ---- one end more
 
-pub ends_more : {X : Type 0} (f : End → List X) (ends : List End) (n : ℕ) (end : End) → n < length ends → end ≡ get_or ends n (0, 0) → flat_map f (take (n + 1) ends) ≡ flat_map f (take n ends) ++ f end
-ends_more {X} f ends n end within at =
-    ap (flat_map f) (take_more ends n (0, 0) within)
-    ∙ flat_map-append f (take n ends) (get_or ends n (0, 0) ∷ [])
-    ∙ ap (λ (l : List X). flat_map f (take n ends) ++ l) (append-nil (f (get_or ends n (0, 0))) ∙ ap f (sym at))
-
 -- a component to which a stream goes is there
 pub end_there : (v : View) (s n c p : ℕ) → IsValid v → s < length v.streams → n < length (ends_of v s) → (c, p) ≡ get_or (ends_of v s) n (0, 0) → c < length v.components
 end_there v s n c p valid there within at =

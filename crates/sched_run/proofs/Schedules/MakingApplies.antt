@@ -78,11 +78,6 @@ module _ (v : View) (loaded : List (Option Program)) (tables next : List Sets) (
   chosen_fails late called r fault applies is handed given run =
       handed_fault (λ q. AppliedSo v given loaded next new events late (chosen_events number e) q) r fault handed (first_fails given called (applies given run) fault is)
 
-  -- the first is done, and is all
-  pub chosen_done : (called : Result (Unit {0}) MakeFault) (x : Unit {0}) → AppliesEvents v loaded tables next old new events after (e ∷ []) called → called ≡ Ok x
-      → AppliesEvents v loaded tables next old new events after (chosen_events number e) (Ok tt)
-  chosen_done called x applies is given run = subst (λ q. AppliedSo v given loaded next new events after (e ∷ []) q) is (applies given run)
-
   -- and once more
   pub chosen_again : (last : List Sets) (newest : Books) (late : List Event) (called again : Result (Unit {0}) MakeFault) (x : Unit {0}) → AppliesEvents v loaded tables next old new events after (e ∷ []) called → called ≡ Ok x
       → after ≡ events ++ e ∷ [] → chosen_events number e ≡ e ∷ e ∷ []

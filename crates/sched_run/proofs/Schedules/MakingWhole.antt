@@ -10,12 +10,11 @@ use Rattle.inbox.specs.Wiring.{wiring_of}
 use Rattle.sched_run.specs.Made.{made_of, open_works, AnswersSo}
 use Rattle.sched_run.specs.Making.{RunsFirst, AnswersMade, AnswersNumbered, HasMade, HasMadeNumbered, LeavesMade, LeavesNumbered, events_in}
 use Rattle.sched_run.specs.ScheduleLines.{events_of, Line, steps_of}
-use Rattle.sched_run.specs.Net.{BooksRun, Stands, execution_in}
+use Rattle.sched_run.specs.Net.{Stands, execution_in}
 use Rattle.sched_run.specs.Numbered.{numbered}
-use Rattle.sched_run.specs.Code.Making.{Goes, HasTurned, IsReady, MeetNone, StandsMade, TurnedSo, Turns}
+use Rattle.sched_run.specs.Code.Making.{Goes, HasTurned, IsReady, StandsMade, TurnedSo, Turns}
 use Rattle.sched_run.specs.declared.books.Books.{Books}
 use Rattle.sched_run.specs.declared.fault.MakeFault.{MakeFault}
-use Rattle.sched_run.specs.declared.fault.MakeFault.TheVariants.{NoMemory}
 use Rattle.sched_run.specs.declared.making.Making.{Making}
 use Rattle.sched_run.proofs.Schedules.MadeEnds.{nothing_left}
 use Rattle.sched_run.proofs.Schedules.MakingApplies.{handed_fault}
@@ -23,21 +22,6 @@ use Rattle.sched_run.proofs.Schedules.MakingTurns.{ends_so}
 use Rattle.sched_run.proofs.Schedules.WorksLemmas.{total_is}
 
 -- ---- no turn yet
-
-pub turned_first : (v : View) (given : Data) (seed : ℕ) (loaded : List (Option Program)) (tables : List Sets) (b : Books) (m : Making) → m.draws ≡ seed → m.made ≡ [] → Stands v given [] loaded tables b
-    → HasTurned v given seed loaded tables b m
-turned_first v given seed loaded tables b m drawn none stands = record {
-  run = record {
-    stands = subst (λ (l : List Event). Stands v given (map event l) loaded tables b) (sym none) stands;
-    unmet = subst (MeetNone (wiring_of v) given) (sym none) (λ place low. absurd (omega arith));
-  };
-  turns = 0;
-  course = ap (λ s. record { state = s; events = [] }) (sym drawn) ∙ ap (λ (l : List Event). record { state = m.draws; events = l }) (sym none);
-  few = omega arith;
-}
-
-pub first_runs : (v : View) (loaded : List (Option Program)) (tables : List Sets) (b : Books) → RunsFirst v loaded tables b → BooksRun v b
-first_runs v loaded tables b first = record { given = first.given; steps = []; stand = first.stands.books }
 
 -- ---- turns of the same topology
 
@@ -86,10 +70,6 @@ module _ (v also : View) (same : also ≡ v) (seed : ℕ) (loaded running : List
 
   pub stands_whole : StandsMade v loaded tables now first b m.made
   stands_whole given stands = (turned given stands).run.stands
-
--- where memory runs out
-pub made_none : (v : View) (seed : ℕ) (loaded : List (Option Program)) (tables : List Sets) (first : Books) (r : Result (List Event) MakeFault) → IsErrAnd r (λ d. d ≡ NoMemory) → AnswersNumbered v loaded tables first seed r
-made_none v seed loaded tables first r none given stands = handed_fault (λ q. AnswersSo (wiring_of v) given (made_of (wiring_of v) given seed) q) r NoMemory none tt
 
 -- ---- the schedule of events that were made
 

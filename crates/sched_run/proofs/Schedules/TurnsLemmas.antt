@@ -8,7 +8,6 @@ use Rattle.std.specs.List.{cons_option, filter_map, range_with_len}
 use Rattle.std.specs.Option.{option_map, option_and_then}
 use Rattle.std.proofs.lemmas.Bool.{cases_lt, le-ltb, lt-ltb}
 use Rattle.std.proofs.lemmas.List.{take_all, take-append-le, take-append-drop, length-take}
-use Rattle.std.proofs.lemmas.Option.{get_or_from_slice_get}
 use Rattle.std.proofs.Math.Seq.{take-append_seam}
 use Rattle.topo_forms.specs.Data.{Data}
 use Rattle.inbox.specs.Events.{Event}
@@ -27,13 +26,6 @@ use Rattle.sched_run.proofs.Schedules.FrontsLemmas.{append_get, front_length}
 next_get : {X : Type 0} (xs : List X) (x : X) → slice_get (xs ++ x ∷ []) (length xs) ≡ Some x
 next_get [] x = refl
 next_get (y ∷ xs) x = next_get xs x
-
-take_front : {X : Type 0} (xs : List X) (n m : ℕ) → n ≤ m → take n (take m xs) ≡ take n xs
-take_front xs zero m le = refl
-take_front [] (suc n) zero le = refl
-take_front [] (suc n) (suc m) le = refl
-take_front (x ∷ xs) (suc n) zero le = absurd (omega arith)
-take_front {X} (x ∷ xs) (suc n) (suc m) le = ap (λ (l : List X). x ∷ l) (take_front xs n m (omega arith))
 
 -- where a function gives nothing of the numbers of a range
 none_found : {Y : Type 0} (f : ℕ → Option Y) (a n : ℕ) → ((i : ℕ) → a ≤ i → i < a + n → f i ≡ None) → filter_map f (range_with_len a n) ≡ []
@@ -102,22 +94,6 @@ module _ (w : Wiring) (given : Data) where
   abbrev pub choice : Course → (e : Event) → (works : List Event) → Event
   choice course e works = slice_index_or (e ∷ works) (drawn_number (next_state course.state) % length (e ∷ works)) e
 
-  pub turn_events : (course : Course) (e : Event) (works : List Event) → open_works w given (execution_after w given course.events) ≡ e ∷ works
-      → (turn w given course).events ≡ course.events ++ chosen_events (drawn_number (next_state course.state)) (choice course e works)
-  turn_events course e works are = ap (λ (c : Course). c.events) (turn_chooses course e works are)
-
-  pub turn_state : (course : Course) (e : Event) (works : List Event) → open_works w given (execution_after w given course.events) ≡ e ∷ works → (turn w given course).state ≡ next_state course.state
-  turn_state course e works are = ap (λ (c : Course). c.state) (turn_chooses course e works are)
-
-  -- by the work that the draw chooses
-  pub turn_next : (course : Course) (works : List Event) (e : Event) → open_works w given (execution_after w given course.events) ≡ works → slice_get works (drawn_number (next_state course.state) % length works) ≡ Some e
-      → turn w given course ≡ record { state = next_state course.state; events = course.events ++ chosen_events (drawn_number (next_state course.state)) e }
-  turn_next course [] e are at = cc
-  turn_next course (d ∷ works) e are at =
-      let number : ℕ = drawn_number (next_state course.state) in
-      let next : Event → Course = λ c. record { state = next_state course.state; events = course.events ++ chosen_events number c } in
-      turn_chooses course d works are ∙ ap next (get_or_from_slice_get (d ∷ works) (number % length (d ∷ works)) e d at)
-
   among_continues : (course : Course) (works : List Event) → Continues course.events (turn_among course works).events
   among_continues course [] = continues_itself course.events
   among_continues course (e ∷ works) = continues_with course.events (chosen_events (drawn_number (next_state course.state)) (choice course e works))
@@ -157,15 +133,6 @@ module _ (w : Wiring) (given : Data) where
     pub turns_front : (k m : ℕ) → k ≤ m → Continues (after_turns w given seed k).events (after_turns w given seed m).events
     turns_front k m le =
         subst (λ n. Continues (after_turns w given seed k).events (after_turns w given seed n).events) (let e : k + (m - k) ≡ m = omega arith in e) (turns_continue k (m - k))
-
-    -- while something is open there are at least as many events as turns
-    pub turns_long : (k : ℕ) → ((i : ℕ) → i < k → (e : Event) × (works : List Event) × (open_works w given (execution_after w given (after_turns w given seed i).events) ≡ e ∷ works)) → k ≤ length (after_turns w given seed k).events
-    turns_long zero some = omega arith
-    turns_long (suc k) some =
-        let before : k ≤ length (after_turns w given seed k).events = turns_long k (λ i lt. some i (omega arith)) in
-        let work = some k (omega arith) in
-        let longer = turn_longer (after_turns w given seed k) work.0 work.1 work.2 in
-        omega (arith, before, longer)
 
   -- ---- limits
 
@@ -216,9 +183,6 @@ module _ (w : Wiring) (given : Data) where
       no_fault : (o : Option Limit) → option_map (fault_by (suc place)) o ≡ None → o ≡ None
       no_fault None e = refl
       no_fault (Some limit) e = cc
-
-  pub faults_more : (events : List Event) (e : Event) → faults_in w given events ≡ [] → limit_of_event w given e (execution_after w given events) ≡ None → faults_in w given (events ++ e ∷ []) ≡ []
-  faults_more events e none last = faults_none (events ++ e ∷ []) (none_more events e (none_meets events none) last)
 
   -- the first fault is that of the first event that meets a limit
   faults_first : (events : List Event) (place : ℕ) (limit : Limit) → place < length events → ((before : ℕ) → before < place → limit_at_place w given events before ≡ None) → limit_at_place w given events place ≡ Some limit
@@ -315,14 +279,3 @@ module _ (w : Wiring) (given : Data) (seed most : ℕ) where
 pub made_of_within : (w : Wiring) (given : Data) (seed : ℕ) → made_of w given seed ≡ made_within w given seed event_limit
 unfolding made_of
 made_of_within w given seed = refl
-
-module _ (w : Wiring) (given : Data) (seed : ℕ) where
-  pub made_of_ends : (k : ℕ) (events : List Event) → (after_turns w given seed k).events ≡ events → k ≤ suc event_limit → open_works w given (execution_after w given events) ≡ [] → length events ≤ event_limit → faults_in w given events ≡ [] → made_of w given seed ≡ Ok events
-  made_of_ends k events are le idle few none = made_of_within w given seed ∙ ends_at w given seed event_limit k events are le idle few none
-
-  pub made_of_stops : (k : ℕ) (before : List Event) (e : Event) (later : List Event) (limit : Limit) → (after_turns w given seed k).events ≡ before ++ e ∷ later → k ≤ suc event_limit → length before < event_limit → faults_in w given before ≡ []
-      → limit_of_event w given e (execution_after w given before) ≡ Some limit → made_of w given seed ≡ Err (fault_by (suc (length before)) limit)
-  made_of_stops k before e later limit split le few none meets = made_of_within w given seed ∙ stops_at w given seed event_limit k before e later limit split le few none meets
-
-  pub made_of_overflows : (k : ℕ) (before : List Event) (e : Event) (later : List Event) → (after_turns w given seed k).events ≡ before ++ e ∷ later → k ≤ suc event_limit → length before ≡ event_limit → faults_in w given before ≡ [] → made_of w given seed ≡ Err TooManyEvents
-  made_of_overflows k before e later split le many none = made_of_within w given seed ∙ overflows_at w given seed event_limit k before e later split le many none

@@ -96,16 +96,6 @@ none_heard zero streams i s p h = h
 none_heard (suc instances) streams zero s p h = none_has streams s p h
 none_heard (suc instances) streams (suc i) s p h = none_heard instances streams i s p h
 
-pub heard_none : (v : View) (lanes : List Lane) (instances streams : ℕ) (heard : List (List (List ℕ))) → heard ≡ replicate instances (replicate streams []) → instances ≡ instance_count v → streams ≡ length v.streams → AreHeardBelow v lanes 0 heard
-heard_none v lanes instances streams heard are many all = record {
-  count = record {
-    instances = ap (λ (l : List (List (List ℕ))). length l) are ∙ many_replicated instances (replicate streams []) ∙ many;
-    streams = λ i less. ap (λ (l : List (List (List ℕ))). length (get_or l i [])) are ∙ ap (λ (l : List (List ℕ)). length l) (replicated instances i (replicate streams []) [] (omega (arith, less, many))) ∙ many_replicated streams [] ∙ all;
-  };
-  within = λ i s p h. absurd (none_heard instances streams i s p (subst (λ (l : List (List (List ℕ))). Has p (heard_at l i s)) are h));
-  each = λ p c r n feed less at. absurd (omega (arith, less));
-}
-
 module _ (v : View) (lanes : List Lane) (i : ℕ) (old : List (List (List ℕ))) (so : AreHeardBelow v lanes i old) (lane : Lane) (at : slice_get lanes i ≡ Some lane) where
   pub heard_pass : (c : ℕ) (feed : Feed) → lane ≡ Order c feed → AreHeardBelow v lanes (i + 1) old
   heard_pass c feed is = record {
@@ -178,13 +168,6 @@ heard_on v heard work lane index c r n feed places is on are = are ∙ sym (ap (
 
 -- ---- those at which messages of instances come in
 
-pub readers_none : (v : View) (lanes : List Lane) (count : ℕ) (groups : List (List ℕ)) → groups ≡ replicate count [] → length groups ≡ instance_count v → AreReadersBelow v lanes 0 groups
-readers_none v lanes count groups are many = record {
-  count = many;
-  within = λ m p h. absurd (none_has count m p (subst (λ (l : List (List ℕ)). Has p (get_or l m [])) are h));
-  each = λ p lane spot less at origin. absurd (omega (arith, less));
-}
-
 module _ (v : View) (lanes : List Lane) (i : ℕ) (old : List (List ℕ)) (so : AreReadersBelow v lanes i old) (lane : Lane) (at : slice_get lanes i ≡ Some lane) where
   own : (p : ℕ) (other : Lane) → p ≡ i → slice_get lanes p ≡ Some other → lane ≡ other
   own p other same here = (let one : Some lane ≡ Some other = sym at ∙ ap (slice_get lanes) (sym same) ∙ here in let is : lane ≡ other = cc in is)
@@ -224,13 +207,6 @@ module _ (v : View) (lanes : List Lane) (i : ℕ) (old : List (List ℕ)) (so : 
       first_of a b e = (let same : a ≡ b = cc in ap (λ (spot : End). spot.0) same)
 
 -- ---- the lanes of logs
-
-pub log_lanes_none : (v : View) (lanes : List Lane) (count : ℕ) (groups : List (List ℕ)) → groups ≡ replicate count [] → length groups ≡ length v.components → AreLanesBelow v lanes 0 groups
-log_lanes_none v lanes count groups are many = record {
-  count = many;
-  within = λ m p h. absurd (none_has count m p (subst (λ (l : List (List ℕ)). Has p (get_or l m [])) are h));
-  each = λ p c feed less at. absurd (omega (arith, less));
-}
 
 module _ (v : View) (lanes : List Lane) (i : ℕ) (old : List (List ℕ)) (so : AreLanesBelow v lanes i old) (lane : Lane) (at : slice_get lanes i ≡ Some lane) where
   pub log_lanes_pass : (c r n : ℕ) (feed : Feed) → lane ≡ Deliver c r n feed → AreLanesBelow v lanes (i + 1) old
@@ -281,9 +257,6 @@ takers_more before takers i first old new taker so at there becomes = record {
     | inr differ ↦ added_stays old new taker.component (before + i) there becomes other.component (before + n) (so.each n other (omega (arith, less, differ)) here)
   ];
 }
-
-pub takers_all : (before : ℕ) (takers : List Taker) (i : ℕ) (first groups : List (List ℕ)) → AreTakersBelow before takers i first groups → i ≡ length takers → AreTakersBelow before takers (length takers) first groups
-takers_all before takers i first groups so all = subst (λ n. AreTakersBelow before takers n first groups) all so
 
 -- lanes and takers together
 pub logs_are : (v : View) (k : Works) (old groups : List (List ℕ)) → AreWorksOf v k → AreLanesBelow v k.lanes.items (length k.lanes.items) old → AreTakersBelow (length k.lanes.items) k.takers.items (length k.takers.items) old groups → AreLogs v k groups

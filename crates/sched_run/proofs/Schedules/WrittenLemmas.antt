@@ -49,10 +49,6 @@ work_named v (Message (Deliver component replica number feed) index) is = record
 work_named v (Message (Order component feed) index) is = record { there = is.is.there; port = is.is.port; stream = is.is.stream }
 work_named v (Take taker) is = is.there
 
--- no event
-pub no_events : (v : View) (events : List Event) → events ≡ [] → CanBeWritten v events
-no_events v events none = subst (CanBeWritten v) (sym none) (record { few = few_none event_limit; named = All-nil (HasEventNames v) })
-
 -- one more
 pub written_more : (v : View) (events after : List Event) (e : Event) → CanBeWritten v events → length events < event_limit → HasEventNames v e → after ≡ events ++ e ∷ [] → CanBeWritten v after
 written_more v events after e can low named are =

@@ -1,5 +1,5 @@
 -- One more name in an index of names.
-use Rattle.std.proofs.Common.{◌≡◌, ◌<◌, ◌+◌, inl, inr, ℕ, zero, suc, Bool, true, false, cond, if◌then◌else◌, is_some, Bor, Option, None, Some, List, [], ◌∷◌, ◌++◌, map, length, take, get_or, refl, arith, ap, sym, subst, ◌∙◌}
+use Rattle.std.proofs.Common.{◌≡◌, ◌<◌, ◌+◌, inl, inr, ℕ, suc, Bool, true, false, cond, if◌then◌else◌, is_some, Bor, Option, None, Some, List, [], ◌∷◌, ◌++◌, map, length, take, get_or, refl, arith, ap, sym, subst, ◌∙◌}
 use Rattle.std.specs.BTreeMap.{BTreeMap, get, is_at}
 use Rattle.std.specs.List.{position_from}
 use Rattle.std.specs.Option.{option_or}
@@ -82,13 +82,6 @@ module _ (all : List (Bor Name)) (at : ℕ) (d : Bor Name) (lt : at < length all
   place_grows m n before absent updates = subst (λ (names : List Name). Places names n) (sym shown_more) (grows (shown (take at all)) (get_or all at d).now m before n at (sym length_shown) absent updates)
 
 -- ---- components
-
--- what holds at each place holds at one more
-pub all_more : {X : Type 0} (P : ℕ → X → Type 0) (xs : List X) (x : X) → ((k : ℕ) (d : X) → k < length xs → P k (get_or xs k d)) → P (length xs) x → (k : ℕ) (d : X) → k < length (xs ++ x ∷ []) → P k (get_or (xs ++ x ∷ []) k d)
-all_more P [] x before last zero d lt = last
-all_more P [] x before last (suc k) d lt = absurd (omega (arith, lt))
-all_more P (y ∷ ys) x before last zero d lt = before zero d (omega arith)
-all_more P (y ∷ ys) x before last (suc k) d lt = all_more (λ n. P (suc n)) ys x (λ n e within. before (suc n) e (omega (arith, within))) last k d (omega (arith, lt))
 
 position-map : {X Y : Type 0} (f : X → Y) (test : Y → Bool) (at : ℕ) (xs : List X) → position_from test at (map f xs) ≡ position_from (λ x. test (f x)) at xs
 position-map f test at [] = refl

@@ -1,7 +1,6 @@
 -- What a validation knows once no fault of size or of names is found.
 use Rattle.std.proofs.Common.{◌≡◌, ◌≤◌, ℕ, inl, inr, refl, Option, None, Some, Result, Err, Bool, List, length, map, arith, ap, sym, subst, ◌∙◌}
 use Rattle.std.specs.List.{All}
-use Rattle.std.specs.Option.{option_or}
 use Rattle.std.proofs.lemmas.List.{length-map}
 use Rattle.std.proofs.lemmas.List.FromFn.{length-range_with_len}
 use Rattle.bloom_forms.specs.Form.{Accepted}
@@ -21,8 +20,7 @@ use Rattle.topo_forms.specs.declared.fault.ValidFault.TheVariants.{Bad, NoMemory
 use Rattle.topo_forms.specs.Regions.{is_in_cycle}
 use Rattle.topo_forms.specs.Valid.{Validated}
 use Rattle.topo_forms.specs.Validation.{Validates}
-use Rattle.topo_types.specs.Code.Named.{of_names, sized}
-use Rattle.topo_forms.specs.Validity.{AreFew, fault_of, kind_fault, fault_in, kinds_of_names}
+use Rattle.topo_forms.specs.Validity.{AreFew, fault_of}
 use Rattle.topo_forms.specs.View.{View, component_numbers}
 use Rattle.topo_forms.specs.ViewOf.{view_of, view_with, component_view}
 use Rattle.topo_types.proofs.Faults.EarlyEnds.{early_ends}
@@ -30,13 +28,6 @@ use Rattle.topo_types.proofs.Faults.KnownNotes.{known_notes}
 use Rattle.topo_types.proofs.Faults.EarlyKinds.{all_built}
 use Rattle.topo_types.proofs.Faults.FaultParts.{early_is, first_understated, late_is, no_size, no_name}
 use Rattle.topo_forms.proofs.Faults.NoFault.{length_sites}
-
--- what is found of names once nothing is found of size
-pub found_early : (t : Topology) (sites : List Site) (names : List Name) (size late : Option TopoFault) → names ≡ attributes_in t.sources sites → size ≡ kind_fault kind.TooMany (sized t sites) → late ≡ fault_in kinds_of_names (of_names t sites names)
-    → option_or size late ≡ early_fault t sites
-found_early t sites names size late are of_size of_names_only =
-    ap (λ o. option_or o late) of_size
-    ∙ ap (option_or (kind_fault kind.TooMany (sized t sites))) (of_names_only ∙ ap (λ ns. fault_in kinds_of_names (of_names t sites ns)) are)
 
 -- as many components as are written
 pub as_many : (components : List ComponentEntry) (modules : List Accepted) (sites : List held.Site) → sites_seen sites ≡ sites_of components modules → length sites ≡ length components

@@ -3,6 +3,7 @@ use Rattle.std.proofs.Common.{◌≡◌, ◌≤◌, ◌<◌, ◌+◌, ◌||◌, 
 use Rattle.blz_value.specs.FirstPlace.{first_place}
 use Rattle.blz_value.specs.Members.{Has}
 use Rattle.blz_value.proofs.FirstPlace.{none_bad, none_has, place-below, place-at_most}
+use Rattle.blz_value.proofs.Booleans.{neither}
 use Rattle.bloom_forms.specs.declared.fault.ModuleFault.{ModuleFault}
 use Rattle.bloom_forms.specs.declared.fault.ModuleKind.{ModuleKind}
 use Rattle.bloom_forms.specs.declared.fault.ModuleKind.TheVariants as kind
@@ -12,7 +13,6 @@ use Rattle.bloom_forms.specs.Bounds.{passes_bounds}
 use Rattle.bloom_forms.specs.Faults.{bad_collection, bad_rule, kind_fault}
 use Rattle.bloom_forms.specs.Form.{RuleForm}
 use Rattle.bloom_forms.proofs.Faults.Firsts.{none_of, are_few, bad_at}
-use Rattle.bloom_forms.proofs.Faults.Levels.{neither}
 use Rattle.bloom_ast.specs.Code.Checking.{AreFew}
 
 -- places are small

@@ -4,11 +4,11 @@ use Rattle.std.specs.List.{list_any}
 use Rattle.std.proofs.lemmas.Bool.{cases_Bool}
 use Rattle.std.proofs.lemmas.List.Folds.{list_any-append}
 use Rattle.std.proofs.lemmas.Grind.{common_steps}
+use Rattle.blz_value.proofs.Booleans.{neither}
 use Rattle.bloom_forms.specs.Bounds.{within, levels, comparisons, is_either, is_joined, formula_height, height, query_levels, formulas_of, is_long, passes_bounds}
 use Rattle.bloom_forms.specs.Query.{Formula, Query}
 use Rattle.bloom_forms.specs.Query.Formula.{compare, both, either, not_so}
 use Rattle.bloom_forms.specs.Query.Query.{base, select, project, join, notin, group, at_least}
-use Rattle.bloom_forms.proofs.Faults.Levels.{neither}
 
 -- a bound, one level down
 

@@ -17,6 +17,7 @@ use Rattle.blz_value.proofs.OperatorsLemmas.{sorted_filter, length-within}
 use Rattle.blz_value.proofs.RowSets.{same_set_of, length-set_of-append_left}
 use Rattle.blz_value.proofs.SetLaws.{sorted_set_of, Has-set_of, Has-from_set_of}
 use Rattle.blz_value.proofs.SetLemmas.{below_not_in}
+use Rattle.blz_value.proofs.Lists.{same-self as own_key}
 use Rattle.blz_set.specs.Answers.{Gives}
 use Rattle.blz_set.specs.RecordSet.{row_limit}
 use Rattle.blz_set.specs.declared.fault.SetFault.{SetFault}
@@ -28,7 +29,7 @@ use Rattle.bloom_growth.specs.Running.{IsRunning}
 use Rattle.bloom_growth.specs.Groups.{IsRunningAt, AreRunning, grouped}
 use Rattle.bloom_growth.proofs.GrowSets.{set_more}
 use Rattle.bloom_growth.proofs.RunningLemmas.{reorder, length_more}
-use Rattle.bloom_growth.proofs.SidesLemmas.{own_key, with_own_key, with_other_key}
+use Rattle.bloom_growth.proofs.SidesLemmas.{with_own_key, with_other_key}
 
 module _ (columns : List ℕ) (agg : Agg) (row : Row) (rows : List Row) (sorted : IsRowSet rows) (few : length rows < row_limit) (lacks : ¬ Has row rows) where
   -- the map with the aggregate of the row's key in the place of the old one

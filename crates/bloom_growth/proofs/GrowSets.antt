@@ -1,5 +1,5 @@
 -- A set that takes rows: what it becomes, and which of them are new.
-use Rattle.std.proofs.Common.{◌≡◌, ℕ, ◌+◌, ◌<◌, ◌≤◌, Bool, true, false, not, List, [], ◌∷◌, ◌++◌, length, get_or, take, Ok, Err, refl, ap, ◌∙◌, sym, subst, arith, append_assoc, length-append}
+use Rattle.std.proofs.Common.{◌≡◌, ℕ, ◌+◌, ◌<◌, ◌≤◌, not, List, [], ◌∷◌, ◌++◌, length, get_or, take, Ok, Err, refl, ap, ◌∙◌, sym, subst, arith, append_assoc, length-append}
 use Rattle.std.specs.BTreeSet.{insert_key}
 use Rattle.std.proofs.lemmas.List.{take_more, length-take}
 use Rattle.std.proofs.lemmas.List.Kept.{IsStrictlySortedBy-filter}
@@ -14,6 +14,7 @@ use Rattle.blz_set.specs.Code.Missing.{has_row, missing_from}
 use Rattle.blz_set.specs.declared.fault.SetFault.{SetFault}
 use Rattle.blz_set.specs.declared.fault.SetFault.TheVariants.{TooManyRows, NoMemory}
 use Rattle.blz_value.proofs.Membership.{Has-from_filter}
+use Rattle.blz_value.proofs.OperatorsLemmas.{not_any}
 use Rattle.blz_set.proofs.RecordSets.{has_row-from_Has}
 use Rattle.blz_set.proofs.Unions.{union_missing, length_union}
 use Rattle.bloom_growth.specs.Growth.{Takes}
@@ -33,13 +34,9 @@ put_few old rows set i e = omega (arith, ap length e, length-set_of-le (old ++ t
 missing_sorted : (old rows : List Row) → IsRowSet rows → IsRowSet (missing_from old rows)
 missing_sorted old rows sorted = IsStrictlySortedBy-filter record_cmp _ rows sorted
 
-not_both : (b : Bool) → not b ≡ true → b ≡ true → ⊥
-not_both true e t = cc
-not_both false e t = cc
-
 -- none of the missing rows is there
 missing_apart : (old rows : List Row) (row : Row) → Has row old → ¬ Has row (missing_from old rows)
-missing_apart old rows row held m = not_both (has_row old row) (Has-from_filter (λ (r : Row). not (has_row old r)) row rows m).1 (has_row-from_Has old row held)
+missing_apart old rows row held m = not_any (has_row old row) (Has-from_filter (λ (r : Row). not (has_row old r)) row rows m).1 (has_row-from_Has old row held)
 
 module _ (old rows fresh : List Row) (own : IsRecordSet old) (set : IsRecordSet rows) (e : fresh ≡ set_of (missing_from old rows)) where
   fresh_is : fresh ≡ missing_from old rows

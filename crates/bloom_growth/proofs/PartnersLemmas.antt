@@ -5,9 +5,7 @@ use Rattle.std.proofs.lemmas.List.{take_more, append-nil}
 use Rattle.std.proofs.lemmas.List.Concat.{flat_map-append}
 use Rattle.std.proofs.lemmas.List.Elements.{filter_agree}
 use Rattle.std.specs.List.{list_any, flat_map}
-use Rattle.std.specs.declared.cmp.Ordering.{Ordering}
-use Rattle.std.specs.declared.cmp.Ordering.TheVariants.{Less, Equal, Greater}
-use Rattle.std.specs.Ordering.{ordering_then, ordering_reverse, is_eq, eq_by_cmp}
+use Rattle.std.specs.Ordering.{is_eq, eq_by_cmp}
 use Rattle.std.specs.BTreeMap.{BTreeMap}
 use Rattle.blz_value.specs.Value.{value_cmp}
 use Rattle.blz_value.specs.ValueOrder.{value_cmp_total}
@@ -20,6 +18,7 @@ use Rattle.blz_value.specs.Groups.{with_key}
 use Rattle.blz_value.proofs.Membership.{append_within, Has-filter, Has-from_any}
 use Rattle.blz_value.proofs.RowSets.{same_set_of, set_of-sorted, set_of-append_set, length-set_of-append_right}
 use Rattle.blz_value.proofs.SetLaws.{sorted_set_of, Has-set_of, Has-from_set_of}
+use Rattle.blz_value.proofs.Lists.{eq_turned, eq_first}
 use Rattle.blz_set.specs.declared.fault.SetFault.{SetFault}
 use Rattle.blz_set.specs.declared.fault.SetFault.TheVariants.{TooManyRows, NoMemory}
 use Rattle.blz_set.specs.RecordSet.{row_limit}
@@ -28,16 +27,6 @@ use Rattle.blz_set.specs.Answers.{Gives, Becomes}
 use Rattle.blz_set.specs.Code.Growth.{Grows}
 use Rattle.blz_set.proofs.Joins.{too_many_grown, grown_by}
 use Rattle.bloom_growth.specs.Code.ByKey.{rows_found, AreByKey}
-
-eq_turned : (o r : Ordering) → o ≡ ordering_reverse r → is_eq o ≡ is_eq r
-eq_turned o Less e = ap is_eq e
-eq_turned o Equal e = ap is_eq e
-eq_turned o Greater e = ap is_eq e
-
-eq_first : (o r : Ordering) → is_eq (ordering_then o r) ≡ is_eq o && is_eq r
-eq_first Less r = refl
-eq_first Equal r = refl
-eq_first Greater r = refl
 
 -- a right row agrees with a left row where it has the left row's key
 right_has : (pairs : Pairs) (left right : Row) → agree pairs left right ≡ eq_by_cmp record_cmp (cells (rights_of pairs) right) (cells (lefts_of pairs) left)

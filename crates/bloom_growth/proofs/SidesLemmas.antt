@@ -2,17 +2,16 @@
 use Rattle.std.proofs.Common.{◌≡◌, ℕ, ◌+◌, ◌<◌, ◌≤◌, Bool, true, false, cond, List, [], ◌∷◌, ◌++◌, length, get_or, take, drop, take-append-drop, Option, Some, unwrap_or, Result, Ok, Err, refl, ap, ◌∙◌, sym, subst, inl, inr, arith}
 use Rattle.std.specs.Ordering.{is_eq, eq_by_cmp}
 use Rattle.std.specs.BTreeMap.{BTreeMap, get, is_at}
-use Rattle.std.specs.Cmp.{tied_itself}
 use Rattle.std.proofs.lemmas.Bool.{cases_Bool}
 use Rattle.blz_value.specs.Groups.{with_key}
 use Rattle.blz_value.specs.Members.{Has}
 use Rattle.blz_value.specs.Operators.{cells}
 use Rattle.blz_value.specs.Record.{Row, record_cmp}
-use Rattle.blz_value.specs.RecordOrder.{record_cmp_total}
 use Rattle.blz_value.specs.Sets.{set_of, IsRowSet}
 use Rattle.blz_value.proofs.Membership.{Has-filter, Has-from_filter}
 use Rattle.blz_value.proofs.OperatorsLemmas.{sorted_filter, length-within}
 use Rattle.blz_value.proofs.SetLaws.{sorted_set_of, Has-set_of, Has-from_set_of, same_row_sets}
+use Rattle.blz_value.proofs.Lists.{same-self}
 use Rattle.blz_set.specs.Answers.{Becomes}
 use Rattle.blz_set.specs.RecordSet.{row_limit}
 use Rattle.blz_set.specs.declared.fault.SetFault.{SetFault}
@@ -31,10 +30,6 @@ apart key other different = elim (cases_Bool (is_eq (record_cmp key other))) [
   | inr e ↦ e
 ]
 
--- a row has the key that it has
-pub own_key : (key : Row) → eq_by_cmp record_cmp key key ≡ true
-own_key key = ap is_eq (tied_itself record_cmp_total key)
-
 module _ (columns : List ℕ) (row : Row) (rows : List Row) (sorted : IsRowSet rows) where
   all : List Row
   all = set_of (row ∷ rows)
@@ -46,7 +41,7 @@ module _ (columns : List ℕ) (row : Row) (rows : List Row) (sorted : IsRowSet r
       let test : Row → Bool = λ (r : Row). eq_by_cmp record_cmp (cells columns r) key in
       same_row_sets (set_of (row ∷ with_key columns key rows)) (with_key columns key (set_of (row ∷ rows))) (sorted_set_of (row ∷ with_key columns key rows)) (sorted_filter test (set_of (row ∷ rows)) (sorted_set_of (row ∷ rows))) (
         λ q h. elim (Has-from_set_of q (row ∷ with_key columns key rows) h) [
-          | inl e ↦ subst (λ (z : Row). Has z (with_key columns key (set_of (row ∷ rows)))) e (Has-filter test row (set_of (row ∷ rows)) (Has-set_of row (row ∷ rows) (inl refl)) (own_key key))
+          | inl e ↦ subst (λ (z : Row). Has z (with_key columns key (set_of (row ∷ rows)))) e (Has-filter test row (set_of (row ∷ rows)) (Has-set_of row (row ∷ rows) (inl refl)) (same-self key))
           | inr m ↦ let n = Has-from_filter test q rows m in Has-filter test q (set_of (row ∷ rows)) (Has-set_of q (row ∷ rows) (inr n.0)) n.1
         ],
         λ q h.
@@ -98,7 +93,7 @@ module _ (columns : List ℕ) (row : Row) (rows : List Row) (sorted : IsRowSet r
       by_case true e =
           ap (λ (o : Option (List Row)). unwrap_or o []) (updates q ∙ ap (λ (b : Bool). cond b (Some set) (get record_cmp left q)) e) ∙ here (same_row key q e)
       by_case false e =
-          let different : ¬ (q ≡ key) = λ (p : q ≡ key). let tied : is_at (record_cmp key) q ≡ true = subst (λ (z : Row). is_at (record_cmp key) z ≡ true) (sym p) (own_key key) in cc in
+          let different : ¬ (q ≡ key) = λ (p : q ≡ key). let tied : is_at (record_cmp key) q ≡ true = subst (λ (z : Row). is_at (record_cmp key) z ≡ true) (sym p) (same-self key) in cc in
           ap (λ (o : Option (List Row)). unwrap_or o []) (updates q ∙ ap (λ (b : Bool). cond b (Some set) (get record_cmp left q)) e)
           ∙ others q different ∙ side q ∙ with_other_key q (λ p. different (p ∙ sym same))
 

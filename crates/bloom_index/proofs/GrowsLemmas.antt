@@ -12,6 +12,7 @@ use Rattle.blz_value.proofs.Within.{within-or_l, within-or_r}
 use Rattle.blz_value.proofs.Members.{in-within, in-or, one_number, own-in}
 use Rattle.blz_value.proofs.Least.{closure-least}
 use Rattle.blz_value.proofs.Reached.{least-monotone}
+use Rattle.blz_value.proofs.Booleans.{same_truth, not_true}
 use Rattle.bloom_forms.specs.declared.module.Kind.{Kind}
 use Rattle.bloom_forms.specs.declared.module.Kind.TheVariants.{Input, Output, Table, Scratch}
 use Rattle.bloom_forms.specs.declared.module.Collection.{Collection}
@@ -37,17 +38,8 @@ use Rattle.bloom_index.specs.Code.Growth.{grows_at, grows, grows_for, rules_grow
 
 -- ---- truth values
 
-both_ways : (b c : Bool) → (b ≡ true → c ≡ true) → (c ≡ true → b ≡ true) → b ≡ c
-both_ways true c f g = sym (f refl)
-both_ways false true f g = g refl
-both_ways false false f g = refl
-
 never_both : (b : Bool) → b ≡ true → b ≡ false → ⊥
 never_both b t f = true≢false (sym t ∙ f)
-
-not_true : (b : Bool) → not b ≡ true → b ≡ false
-not_true true e = sym e
-not_true false e = refl
 
 stopped : (b c : Bool) → (b && (false && c)) ≡ false
 stopped true c = refl
@@ -203,7 +195,7 @@ module _ (a : Accepted) (checked : IsChecked a.form a.heads) where
   }
 
   join_is : (p q : Query) (pairs : List (Name × Name)) → (is_growing cs all_rules p && is_growing cs all_rules q) ≡ is_growing cs all_rules (join p q pairs)
-  join_is p q pairs = both_ways (is_growing cs all_rules p && is_growing cs all_rules q) (is_growing cs all_rules (join p q pairs))
+  join_is p q pairs = same_truth (is_growing cs all_rules p && is_growing cs all_rules q) (is_growing cs all_rules (join p q pairs))
       (λ t. let both = and_parts (is_growing cs all_rules p) (is_growing cs all_rules q) t in from_grows (join p q pairs) (join_up p q pairs (to_grows p both.0) (to_grows q both.1)))
       (λ t. let g = to_grows (join p q pairs) t in and_from _ _ (from_grows p (left_down p q pairs g)) (from_grows q (right_down p q pairs g)))
 
@@ -222,7 +214,7 @@ module _ (a : Accepted) (checked : IsChecked a.form a.heads) where
         ∙ sym (from_grows (base n) (table_grows n is))
     name_is n (inr (inr is)) marked =
         marked ∙ ap (λ (o : Option Kind). kind_grows o (rules_grow a.form (number_of a checked n))) is
-        ∙ both_ways (rules_grow a.form (number_of a checked n)) (is_growing cs all_rules (base n))
+        ∙ same_truth (rules_grow a.form (number_of a checked n)) (is_growing cs all_rules (base n))
         (λ t. from_grows (base n) (scratch_up n is (λ r of_head. to_grows r.1 (all_member (λ (rule : RuleForm). is_growing cs all_rules rule.1) (rules_named a checked n) r t of_head))))
         (λ t. all_from (λ (rule : RuleForm). is_growing cs all_rules rule.1) (rules_named a checked n) (λ r of_head. from_grows r.1 (scratch_down n is (to_grows (base n) t) r of_head)))
 

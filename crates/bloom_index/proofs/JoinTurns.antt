@@ -1,10 +1,11 @@
 -- What is kept of a join, and its changes.
-use Rattle.std.proofs.Common.{◌≡◌, Bool, true, false, IsTrue, List, Ok, Err, ap, ◌∙◌, sym, subst}
+use Rattle.std.proofs.Common.{◌≡◌, Bool, true, IsTrue, List, Ok, Err, ap, ◌∙◌, sym, subst}
 use Rattle.std.specs.Prelude.{◌&&◌}
 use Rattle.blz_value.specs.Operators.{Pairs, join_rows}
 use Rattle.blz_value.specs.Record.{Row}
 use Rattle.blz_value.specs.Sets.{set_of}
 use Rattle.blz_value.proofs.SetLaws.{sorted_set_of}
+use Rattle.blz_value.proofs.Booleans.{and_true}
 use Rattle.blz_set.specs.Code.Pairs.{lefts_of, rights_of}
 use Rattle.blz_set.specs.declared.fault.SetFault.{SetFault}
 use Rattle.blz_set.specs.declared.fault.SetFault.TheVariants.{TooManyRows, NoMemory}
@@ -43,14 +44,10 @@ module _ (pairs : Pairs) (lf rf : Bool) (lo ln ro rn : List Row) (memo : JoinMem
     rows = rows;
   }
 
-both_true : (a b : Bool) → a ≡ true → b ≡ true → (a && b) ≡ true
-both_true true b e f = f
-both_true false b e f = cc
-
 module _ (pairs : Pairs) (lo ln ro rn after : List Row) (a b : Bool) (ea : a ≡ true) (eb : b ≡ true) where
   pub growing_turns : (fresh : List Row) (made : Change) → made.fresh ≡ true → rows_in made.rows ≡ fresh → GrowsTo (set_of (join_rows pairs lo ro)) (set_of (join_rows pairs ln rn)) after (Ok fresh) → TurnsTo (a && b) (set_of (join_rows pairs lo ro)) (set_of (join_rows pairs ln rn)) (Ok made)
   growing_turns fresh made e r g =
-      subst (λ (z : Bool). TurnsTo z (set_of (join_rows pairs lo ro)) (set_of (join_rows pairs ln rn)) (Ok made)) (sym (both_true a b ea eb))
+      subst (λ (z : Bool). TurnsTo z (set_of (join_rows pairs lo ro)) (set_of (join_rows pairs ln rn)) (Ok made)) (sym (and_true a b ea eb))
       (turns_from true (set_of (join_rows pairs lo ro)) (set_of (join_rows pairs ln rn)) fresh made e r (sorted_set_of (join_rows pairs ln rn)) g.1 g.2)
 
   pub growing_fault : (fault : SetFault) → GrowsTo (set_of (join_rows pairs lo ro)) (set_of (join_rows pairs ln rn)) after (Err fault) → TurnsTo (a && b) (set_of (join_rows pairs lo ro)) (set_of (join_rows pairs ln rn)) (Err fault)

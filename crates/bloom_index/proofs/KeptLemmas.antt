@@ -11,6 +11,7 @@ use Rattle.blz_value.specs.Record.{Row}
 use Rattle.blz_value.specs.Sets.{set_of, IsRowSet}
 use Rattle.blz_value.proofs.Membership.{All-of_member, all_member, Has-append_cases, Has-filter, Has-from_filter, Has-from_flat_map, Has-get_or}
 use Rattle.blz_value.proofs.SetLaws.{sorted_set_of, Has-from_set_of}
+use Rattle.blz_value.proofs.Booleans.{both_true as and_parts}
 use Rattle.bloom_forms.specs.declared.module.Kind.{Kind}
 use Rattle.bloom_forms.specs.declared.module.Kind.TheVariants.{Input, Output, Table, Scratch}
 use Rattle.bloom_forms.specs.declared.module.Collection.{Collection}
@@ -32,7 +33,6 @@ use Rattle.bloom_forms.specs.Reads.{is_momentary}
 use Rattle.bloom_forms.specs.Rows.{rows_of}
 use Rattle.bloom_forms.specs.Step.{Sets, set_at, ended, rows_named, at_start, rules_at, union_of, ruled_at, with_head, at_end, tables_after}
 use Rattle.bloom_forms.specs.Widths.{AreSetsOf}
-use Rattle.bloom_forms.proofs.Collections.NameNumbers.{and_parts}
 use Rattle.bloom_forms.proofs.Collections.Numbers.{kind-number}
 use Rattle.bloom_forms.proofs.Ends.Equated.{same_rows, end_solves, length-at_end, set-made}
 use Rattle.bloom_forms.proofs.Ends.OverTables.{over_solved, end_over}

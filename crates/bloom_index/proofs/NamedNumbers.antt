@@ -1,37 +1,17 @@
 -- A collection has the number of its name, so what two lists of sets hold by names they hold by numbers.
 use Rattle.std.proofs.Common.{◌≡◌, ◌≢◌, ◌<◌, ◌≤◌, ◌+◌, ℕ, zero, suc, Bool, true, false, cond, List, [], ◌∷◌, length, get_or, Option, None, Some, refl, ap, ◌∙◌, sym, inl, inr, arith}
-use Rattle.std.specs.Prelude.{AllPairs, slice_get, unwrap_or}
-use Rattle.std.specs.List.{position_from}
-use Rattle.std.specs.Option.{option_map}
+use Rattle.std.specs.Prelude.{AllPairs, slice_get}
 use Rattle.std.specs.Str.{bytes_eq}
 use Rattle.std.proofs.lemmas.Bool.{cases_Bool}
 use Rattle.std.proofs.lemmas.List.{get_or_past}
 use Rattle.std.proofs.lemmas.Option.{slice_get-get_or}
 use Rattle.std.proofs.lemmas.Slice.Eq.{bytes_eq-Decides}
+use Rattle.blz_value.proofs.Lists.{past_none}
 use Rattle.bloom_forms.specs.declared.module.Collection.{Collection}
 use Rattle.bloom_forms.specs.Lookup.{is_named, collection_number}
 use Rattle.bloom_forms.specs.Query.{Name}
 use Rattle.bloom_forms.specs.Step.{Sets, set_at, rows_named}
-use Rattle.bloom_forms.proofs.Collections.Numbers.{get-within}
-
-position_from-suc : {X : Type 0} (t : X → Bool) (i : ℕ) (xs : List X) → position_from t (i + 1) xs ≡ option_map suc (position_from t i xs)
-position_from-suc t i [] = refl
-position_from-suc {X = X} t i (x ∷ xs) = go (t x) (position_from-suc t (i + 1) xs)
-  where
-    go : (b : Bool) → position_from t ((i + 1) + 1) xs ≡ option_map suc (position_from t (i + 1) xs) → cond b (Some (i + 1)) (position_from t ((i + 1) + 1) xs) ≡ option_map suc (cond b (Some i) (position_from t (i + 1) xs))
-    go true e = ap Some (omega arith)
-    go false e = e
-
-unwrap_or-suc : (o : Option ℕ) (d : ℕ) → unwrap_or (option_map suc o) (suc d) ≡ suc (unwrap_or o d)
-unwrap_or-suc None d = refl
-unwrap_or-suc (Some i) d = refl
-
-number-cons : (c : Collection) (cs : List Collection) (name : Name) → collection_number (c ∷ cs) name ≡ cond (is_named name c) 0 (suc (collection_number cs name))
-number-cons c cs name = go (is_named name c) (position_from-suc (is_named name) 0 cs)
-  where
-    go : (b : Bool) → position_from (is_named name) 1 cs ≡ option_map suc (position_from (is_named name) 0 cs) → unwrap_or (cond b (Some 0) (position_from (is_named name) 1 cs)) (suc (length cs)) ≡ cond b 0 (suc (collection_number cs name))
-    go true e = refl
-    go false e = ap (λ o. unwrap_or o (suc (length cs))) e ∙ unwrap_or-suc (position_from (is_named name) 0 cs) (length cs)
+use Rattle.bloom_forms.proofs.Collections.Numbers.{get-within, number-cons}
 
 abbrev AreDistinct : List Collection → Type 0
 AreDistinct cs = AllPairs (λ (c d : Collection). c.name ≢ d.name) cs
@@ -55,16 +35,11 @@ named_number (x ∷ cs) apart (suc k) c is =
     ∙ ap (λ (b : Bool). cond b 0 (suc (collection_number cs c.name))) unnamed
     ∙ ap suc (named_number cs rest k c is)
 
-get-none : {X : Type 0} (xs : List X) (k : ℕ) → slice_get xs k ≡ None → length xs ≤ k
-get-none [] k e = omega arith
-get-none (x ∷ xs) zero e = absurd (let bad : Some x ≡ None = e in cc)
-get-none (x ∷ xs) (suc k) e = omega (arith, get-none xs k e)
-
 pub by_number : (cs : List Collection) → AreDistinct cs → (xs ys : Sets) → length xs ≡ length cs → length ys ≡ length cs → (k : ℕ) → ((n : Name) → collection_number cs n ≡ k → rows_named cs xs n ≡ rows_named cs ys n) → set_at xs k ≡ set_at ys k
 by_number cs apart xs ys many also k each = go (slice_get cs k) refl
   where
     go : (o : Option Collection) → slice_get cs k ≡ o → set_at xs k ≡ set_at ys k
-    go None none = get_or_past xs k [] (omega (arith, get-none cs k none, many)) ∙ sym (get_or_past ys k [] (omega (arith, get-none cs k none, also)))
+    go None none = get_or_past xs k [] (omega (arith, past_none cs k none, many)) ∙ sym (get_or_past ys k [] (omega (arith, past_none cs k none, also)))
     go (Some c) is =
         let number = named_number cs apart k c is in
         ap (set_at xs) (sym number) ∙ each c.name number ∙ ap (set_at ys) number

@@ -9,6 +9,8 @@ use Rattle.std.proofs.lemmas.Option.{same_Some}
 use Rattle.std.proofs.lemmas.Slice.Zip.{AllZip-long}
 use Rattle.blz_value.specs.Members.{Has}
 use Rattle.blz_value.specs.Record.{Row}
+use Rattle.blz_value.proofs.Options.{Has-slice_get as got_has}
+use Rattle.blz_value.proofs.Lists.{past_none}
 use Rattle.blz_set.specs.RecordSet.{IsRecordSet}
 use Rattle.blz_set.proofs.RecordSets.{none_is_set}
 use Rattle.bloom_eval.specs.Changes.{AreChanges}
@@ -26,7 +28,7 @@ use Rattle.bloom_forms.specs.Step.{Sets, set_at, begun, begun_at, at_start, sets
 use Rattle.bloom_forms.specs.Widths.{AreSetsOf}
 use Rattle.bloom_forms.proofs.Collections.Numbers.{derived_or, set-of_kind}
 use Rattle.bloom_forms.proofs.Ends.Equated.{starts, length-at_end}
-use Rattle.bloom_forms.proofs.Ends.SameEnds.{same_kinds}
+use Rattle.bloom_forms.proofs.Ends.SameEnds.{same_kinds, one_kind}
 use Rattle.bloom_forms.proofs.Ends.Standing.{module_stands}
 use Rattle.bloom_eval.specs.StepAnswers.{AllFit, counted_sets}
 use Rattle.bloom_eval.proofs.Runnable.{runnable}
@@ -47,7 +49,7 @@ use Rattle.bloom_index.proofs.Monotone.{IsGrown}
 use Rattle.bloom_index.proofs.Renumbering.{renumbered}
 use Rattle.bloom_index.proofs.StandsAlong.{agree_all, rule_along}
 use Rattle.bloom_index.proofs.StepHeads.{form_of, IsStep, quiet, start, end, tables_grow, no_table}
-use Rattle.bloom_index.proofs.StepNext.{got_has, IsOut, IsMid}
+use Rattle.bloom_index.proofs.StepNext.{IsOut, IsMid}
 
 -- ---- lists side by side
 
@@ -67,30 +69,7 @@ zip_from R [] (v ∷ ys) many each = absurd (omega (arith, many))
 zip_from R (u ∷ xs) [] many each = absurd (omega (arith, many))
 zip_from R (u ∷ xs) (v ∷ ys) many each = (each 0 u v refl refl, zip_from R xs ys (omega (arith, many)) (λ k x y at also. each (suc k) x y at also))
 
-pub past_none : {X : Type 0} (xs : List X) (k : ℕ) → slice_get xs k ≡ None → length xs ≤ k
-past_none [] k none = omega arith
-past_none (x ∷ xs) zero none = absurd (let bad : Some x ≡ None = none in cc)
-past_none (x ∷ xs) (suc k) none = omega (arith, past_none xs k none)
-
 -- ---- three lists of sets by kinds
-
-one_kind : (a b : Kind) → same_kind a b ≡ true → b ≡ a
-one_kind Input Input e = refl
-one_kind Input Output e = cc
-one_kind Input Table e = cc
-one_kind Input Scratch e = cc
-one_kind Output Input e = cc
-one_kind Output Output e = refl
-one_kind Output Table e = cc
-one_kind Output Scratch e = cc
-one_kind Table Input e = cc
-one_kind Table Output e = cc
-one_kind Table Table e = refl
-one_kind Table Scratch e = cc
-one_kind Scratch Input e = cc
-one_kind Scratch Output e = cc
-one_kind Scratch Table e = cc
-one_kind Scratch Scratch e = refl
 
 -- a fact on three sets for each collection of a kind, by its place among these
 kinds_by3 : (R : List Row → List Row → List Row → Type 0) → R [] [] [] → (kind : Kind) (cs : List Collection) (xs ys zs : Sets) → length xs ≡ length cs → length ys ≡ length cs → length zs ≡ length cs → ((k : ℕ) → kind_at cs k ≡ Some kind → R (set_at xs k) (set_at ys k) (set_at zs k)) → (place : ℕ) → R (set_at (sets_of_kind kind cs xs) place) (set_at (sets_of_kind kind cs ys) place) (set_at (sets_of_kind kind cs zs) place)

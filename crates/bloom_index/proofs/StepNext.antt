@@ -4,11 +4,12 @@ use Rattle.std.specs.Prelude.{slice_get, slice_set}
 use Rattle.std.specs.Option.{option_map_or}
 use Rattle.std.proofs.lemmas.Bool.{cases_eq, true≢false}
 use Rattle.std.proofs.lemmas.List.{get_or-set_same, get_or-set_other, length-set}
-use Rattle.std.proofs.lemmas.Option.{slice_get_within, get_or_from_slice_get}
+use Rattle.std.proofs.lemmas.Option.{slice_get_within}
 use Rattle.blz_value.specs.Members.{Has, IsWithin}
 use Rattle.blz_value.specs.Record.{Row}
 use Rattle.blz_value.specs.Sets.{set_of}
 use Rattle.blz_value.proofs.Membership.{Has-get_or, All-of_member}
+use Rattle.blz_value.proofs.Options.{Has-slice_get}
 use Rattle.blz_set.specs.RecordSet.{row_limit, IsRecordSet}
 use Rattle.blz_set.specs.declared.fault.SetFault.{SetFault}
 use Rattle.blz_set.specs.declared.fault.SetFault.TheVariants.{TooManyRows}
@@ -41,10 +42,6 @@ use Rattle.bloom_index.proofs.HeadRulesLemmas.{got_set, got_other}
 use Rattle.bloom_index.proofs.Monotone.{IsGrown}
 use Rattle.bloom_index.proofs.StandsAlong.{rule_along}
 use Rattle.bloom_index.proofs.StepHeads.{IsStep, quiet, start, end, IsView, no_table, within, taken, own_form, agree, takes, takes_none, old_head, grown_head, past_head}
-
--- an element that was got stands in the list
-pub got_has : {X : Type 0} (xs : List X) (k : ℕ) (x : X) → slice_get xs k ≡ Some x → Has x xs
-got_has {X = X} xs k x at = subst (λ (z : X). Has z xs) (get_or_from_slice_get xs k x x at) (Has-get_or xs k x (slice_get_within xs k x at))
 
 module _ (a : Accepted) (rules : List NumberedRule) (growing : List Bool) (tables now : Sets) (st : IsStep a rules growing tables now) (all : Bool) where
   abbrev cs : List Collection
@@ -93,7 +90,7 @@ module _ (a : Accepted) (rules : List NumberedRule) (growing : List Bool) (table
       wide = m.wide;
       stands = λ k rule memo at kept same.
           rule_along growing (quiet a rules growing tables now st) m.past a rule memo
-          (agree a rules growing tables now st m.sets h left m.at (quiet a rules growing tables now st) m.past (λ j lacks out. sym (m.view.past_is j lacks)) rule (own_form a rules growing tables now st m.sets h left m.at rule (got_has rules k rule at) same))
+          (agree a rules growing tables now st m.sets h left m.at (quiet a rules growing tables now st) m.past (λ j lacks out. sym (m.view.past_is j lacks)) rule (own_form a rules growing tables now st m.sets h left m.at rule (Has-slice_get rules k rule at) same))
           (m.memos_left k rule memo at kept (inl (sym same)));
     }
 
@@ -215,7 +212,7 @@ module _ (a : Accepted) (rules : List NumberedRule) (growing : List Bool) (table
         memos_done = λ j rule memo at kept lacks. elim (cases_eq rule.head h) [
           | inl same ↦
               rule_along growing m.seen (end a rules growing tables now st) a rule memo
-              (agree a rules growing tables now st m.sets h left m.at m.seen (end a rules growing tables now st) seen_end rule (own_form a rules growing tables now st m.sets h left m.at rule (got_has rules j rule at) same))
+              (agree a rules growing tables now st m.sets h left m.at m.seen (end a rules growing tables now st) seen_end rule (own_form a rules growing tables now st m.sets h left m.at rule (Has-slice_get rules j rule at) same))
               (memos2.own j rule memo (slice_get_within rules j rule at) at kept same)
           | inr differ ↦ m.memos_done j rule memo at (memo_there j rule memo at kept differ) (wider rule.head differ lacks)
         ];

@@ -20,6 +20,8 @@ use Rattle.blz_value.proofs.Membership.{Has-append_left, Has-append_right, Has-a
 use Rattle.blz_value.proofs.SetLemmas.{all_has}
 use Rattle.blz_value.proofs.SetLaws.{Has-set_of, Has-from_set_of}
 use Rattle.blz_value.proofs.RowSets.{same_set_of}
+use Rattle.blz_value.proofs.Booleans.{or_right}
+use Rattle.blz_value.proofs.Lists.{all_pass}
 use Rattle.blz_set.proofs.Runs.{same_row}
 use Rattle.bloom_forms.specs.StockSteps.{has_key, is_latest, latest_kept, latest_out, keys_in_order}
 use Rattle.blz_boxes.specs.Code.KeptRecords.{HaveKeys, records_of}
@@ -47,15 +49,6 @@ both_from a b e f = rw (e, f) refl
 not_above : (b c : Bool) → (not b || c) ≡ true → c ≡ false → b ≡ false
 not_above true c e f = cc
 not_above false c e f = refl
-
--- a test that each member passes
-all_pass : {X : Type 0} (p : X → Bool) (xs : List X) → ((x : X) → Has x xs → p x ≡ true) → list_all p xs ≡ true
-all_pass p [] h = refl
-all_pass p (x ∷ xs) h = rw (h x (inl refl)) (all_pass p xs (λ y m. h y (inr m)))
-
-or_true : (b c : Bool) → c ≡ true → (b || c) ≡ true
-or_true true c e = refl
-or_true false c e = e
 
 -- ---- one record more
 
@@ -103,8 +96,8 @@ module _ (keys : List ℕ) (kept put : List Row) (row : Row) (above : (q : Row) 
 
   chosen_new : Has row (chosen keys kept (put ++ row ∷ []))
   chosen_new =
-      let below : list_all (yields keys row) put ≡ true = all_pass (yields keys row) put (λ other m. or_true (not (has_key keys (cells keys row) other)) (is_le (record_cmp other row)) (ap is_le (above other m))) in
-      let itself : yields keys row row ≡ true = or_true (not (has_key keys (cells keys row) row)) (is_le (record_cmp row row)) (ap is_le (tied_itself record_cmp_total row)) in
+      let below : list_all (yields keys row) put ≡ true = all_pass (yields keys row) put (λ other m. or_right (not (has_key keys (cells keys row) other)) (is_le (record_cmp other row)) (ap is_le (above other m))) in
+      let itself : yields keys row row ≡ true = or_right (not (has_key keys (cells keys row) row)) (is_le (record_cmp row row)) (ap is_le (tied_itself record_cmp_total row)) in
       Has-append_right row (filter (stays keys (put ++ row ∷ [])) kept) (filter (is_latest keys (put ++ row ∷ [])) (put ++ row ∷ []))
       (Has-filter (is_latest keys (put ++ row ∷ [])) row (put ++ row ∷ []) (Has-append_right row put (row ∷ []) (inl refl)) (list_all-append (yields keys row) put (row ∷ []) ∙ both_from (list_all (yields keys row) put) (yields keys row row) below itself))
 

@@ -8,22 +8,18 @@ use Rattle.std.specs.Prelude.{if◌then◌else◌}
 use Rattle.std.proofs.lemmas.Bool.{cases_Bool}
 use Rattle.std.proofs.lemmas.Iterator.Adapters.{position_from-zero}
 use Rattle.indexmap.specs.IndexSet.{insert_key}
-use Rattle.std.specs.Cmp.{eq_by_cmp_equiv}
 use Rattle.std.proofs.lemmas.List.Quantifiers.{all_pairs_push}
 use Rattle.std.proofs.lemmas.Map.Views.{tells_apart}
-use Rattle.std.proofs.lemmas.Option.{slice_get-get_or, slice_get_within, get_or_from_slice_get}
-use Rattle.std.proofs.Math.Seq.{get_or-append_seam}
+use Rattle.std.proofs.lemmas.Option.{slice_get_within, get_or_from_slice_get}
 use Rattle.blz_value.specs.Members.{Has}
 use Rattle.blz_value.specs.Record.{Row, record_cmp}
-use Rattle.blz_value.specs.RecordOrder.{record_cmp_total, record_cmp_exact}
+use Rattle.blz_value.specs.RecordOrder.{record_cmp_exact}
 use Rattle.blz_value.proofs.Membership.{Has-get_or}
+use Rattle.blz_value.proofs.Lists.{same-self}
 use Rattle.blz_pool.specs.Pool.{IsPool, record_limit, number_of}
 use Rattle.blz_pool.proofs.Positions.{position_from-found, position_from-none, position_from-last}
 
 -- equal exactly where the order doesn't tell them apart
-
-same-self : (row : Row) → eq_by_cmp record_cmp row row ≡ true
-same-self row = (eq_by_cmp_equiv record_cmp_total).refl row
 
 Has-from_get : (records : List Row) (number : ℕ) (row : Row) → slice_get records number ≡ Some row → Has row records
 Has-from_get records number row e = subst (λ (x : Row). Has x records) (get_or_from_slice_get records number row row e) (Has-get_or records number row (slice_get_within records number row e))
@@ -52,9 +48,6 @@ number_of-lacks records row lacks = go (number_of records row) refl
 
 pub number_of-last : (records : List Row) (row : Row) → number_of records row ≡ None → number_of (records ++ row ∷ []) row ≡ Some (length records)
 number_of-last records row none = position_from-last (λ held. eq_by_cmp record_cmp held row) 0 records row ∙ rw (none, same-self row) (ap Some (omega arith))
-
-pub slice_get-last : {X : Type 0} (xs : List X) (x : X) → slice_get (xs ++ x ∷ []) (length xs) ≡ Some x
-slice_get-last xs x = slice_get-get_or (xs ++ x ∷ []) (length xs) x (simp length-append (omega arith)) ∙ ap Some (get_or-append_seam xs x [] x)
 
 pub IsPool-more : (records : List Row) (row : Row) → IsPool records → length records < record_limit → number_of records row ≡ None → IsPool (records ++ row ∷ [])
 IsPool-more records row pool room none = record {

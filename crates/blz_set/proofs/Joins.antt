@@ -4,9 +4,7 @@ use Rattle.std.proofs.lemmas.List.{map-append, take_more, append_assoc, append-n
 use Rattle.std.proofs.lemmas.List.Concat.{flat_map-append}
 use Rattle.std.proofs.lemmas.List.Elements.{filter_agree}
 use Rattle.std.specs.List.{list_any, enumerate_from}
-use Rattle.std.specs.declared.cmp.Ordering.{Ordering}
-use Rattle.std.specs.declared.cmp.Ordering.TheVariants.{Less, Equal, Greater}
-use Rattle.std.specs.Ordering.{ordering_then, ordering_reverse, is_eq}
+use Rattle.std.specs.Ordering.{is_eq}
 use Rattle.blz_value.specs.Value.{value_cmp}
 use Rattle.blz_value.specs.ValueOrder.{value_cmp_total}
 use Rattle.blz_value.specs.Test.{cell}
@@ -15,6 +13,7 @@ use Rattle.blz_value.specs.Sets.{set_of}
 use Rattle.blz_value.specs.Operators.{Pairs, agree, is_paired, joined, join_rows, cells}
 use Rattle.blz_value.specs.Groups.{with_key}
 use Rattle.blz_value.proofs.RowSets.{set_of-push, set_of-append_set, length-set_of-append_left}
+use Rattle.blz_value.proofs.Lists.{eq_turned, eq_first}
 use Rattle.blz_set.specs.declared.fault.SetFault.{SetFault}
 use Rattle.blz_set.specs.declared.fault.SetFault.TheVariants.{TooManyRows, NoMemory}
 use Rattle.blz_set.specs.RecordSet.{row_limit}
@@ -31,16 +30,6 @@ abbrev pub unpaired_from : Pairs → ℕ → Row → Row
 unpaired_from pairs column values = map (λ place. place.1) (filter (λ place. not (is_paired pairs place.0)) (enumerate_from column values))
 
 -- ---- the rows that agree are those with the key
-
-eq_turned : (o r : Ordering) → o ≡ ordering_reverse r → is_eq o ≡ is_eq r
-eq_turned o Less e = ap is_eq e
-eq_turned o Equal e = ap is_eq e
-eq_turned o Greater e = ap is_eq e
-
-eq_first : (o r : Ordering) → is_eq (ordering_then o r) ≡ is_eq o && is_eq r
-eq_first Less r = refl
-eq_first Equal r = refl
-eq_first Greater r = refl
 
 agree_is : (pairs : Pairs) (left right : Row) → agree pairs left right ≡ has_key (rights_of pairs) (cells (lefts_of pairs) left) right
 agree_is [] left right = refl

@@ -16,6 +16,7 @@ use Rattle.blz_value.specs.RecordOrder.{record_cmp_total, record_cmp_exact}
 use Rattle.blz_value.specs.Operators.{cells}
 use Rattle.blz_value.specs.Groups.{with_key}
 use Rattle.blz_value.proofs.Membership.{Has-from_any}
+use Rattle.blz_value.proofs.Lists.{filter-map}
 use Rattle.blz_set.specs.declared.entry.Entry.{Entry}
 use Rattle.blz_set.specs.Code.Entry.{row_of, rows_of, entry_key}
 use Rattle.blz_set.specs.Code.Index.{HaveKeys, has_key, is_below, InOrder, StartsAt, HaveSameRuns}
@@ -25,10 +26,6 @@ use Rattle.blz_set.specs.Code.Index.{HaveKeys, has_key, is_below, InOrder, Start
 map_cond : {X Y : Type 0} (f : X → Y) (b : Bool) (x : X) (xs : List X) → cond b (f x ∷ map f xs) (map f xs) ≡ map f (cond b (x ∷ xs) xs)
 map_cond f true x xs = refl
 map_cond f false x xs = refl
-
-filter-map : {X Y : Type 0} (f : X → Y) (p : Y → Bool) (xs : List X) → filter p (map f xs) ≡ map f (filter (λ x. p (f x)) xs)
-filter-map f p [] = refl
-filter-map f p (x ∷ xs) = ap (λ ys. cond (p (f x)) (f x ∷ ys) ys) (filter-map f p xs) ∙ map_cond f (p (f x)) x (filter (λ x. p (f x)) xs)
 
 none_cons : {X : Type 0} (b : Bool) (x : X) (xs : List X) (rest : Bool) → (b || rest) ≡ false → (rest ≡ false → xs ≡ []) → cond b (x ∷ xs) xs ≡ []
 none_cons true x xs rest e h = cc

@@ -70,7 +70,7 @@ pub record IsAlone (pairs : Pairs) (lefts rights : List Row) (row : Row) : Type 
   pub stands : Has row lefts
   pub none : (right : Row) → Has right rights → agree pairs row right ≡ true → ⊥
 
-not_any : (b : Bool) → not b ≡ true → b ≡ true → ⊥
+pub not_any : (b : Bool) → not b ≡ true → b ≡ true → ⊥
 not_any true e t = cc
 not_any false e t = cc
 

@@ -5,11 +5,11 @@ use Rattle.std.proofs.lemmas.Bool.{true≢false, false_from_ne_true, eqb-true}
 use Rattle.blz_value.proofs.Membership.{Has-from_any, any_from_Has}
 use Rattle.blz_value.specs.Bits.{members}
 use Rattle.blz_value.specs.Graph.{Edge, is_in, is_cyclic_set}
+use Rattle.blz_value.proofs.Booleans.{both_true}
 use Rattle.topo_forms.specs.Regions.{edges, region_set, is_in_cycle}
 use Rattle.topo_forms.specs.Valid.{IsValid}
 use Rattle.topo_forms.specs.View.{View, Component, is_order, is_order_mode, mode_of}
 use Rattle.topo_graph.proofs.OtherModes.{cyclic_more}
-use Rattle.topo_forms.proofs.Regions.Spreading.{both_true}
 use Rattle.label_walk.proofs.Upstream.Alike.{holding}
 use Rattle.coord_modes.proofs.Later.{Later, edge_before, edge_after, edge_unordered, region_before, region_kept, region_of_member}
 

@@ -8,9 +8,9 @@ use Rattle.blz_value.specs.Members.{Has}
 use Rattle.bloom_forms.proofs.Collections.Chosen.{from_chosen}
 use Rattle.blz_value.specs.Graph.{Edge, arrows, is_in, together, region, is_blocked, is_next, next, regions_from, numbered_regions}
 use Rattle.blz_value.specs.NumberSets.{below}
+use Rattle.blz_value.proofs.Booleans.{not_true as not_so, both_true, or_right as or_second}
+use Rattle.blz_value.proofs.Ranges.{Has-below as from_below}
 use Rattle.topo_forms.proofs.Regions.Classes.{together-sym, together-trans, region-is}
-use Rattle.topo_forms.proofs.Regions.Spreading.{from_below, both_true}
-use Rattle.label_walk.proofs.Tests.{not_so, or_second}
 
 -- each set is the region of a node, and has none of those before it
 abbrev pub AreFresh : List Fd → (count done : ℕ) → List ℕ → Type 0

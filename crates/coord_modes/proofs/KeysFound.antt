@@ -1,8 +1,7 @@
 -- A key that a stream carries isn't empty and holds attributes of the topology.
 use Rattle.std.proofs.Common.{◌≡◌, ◌≢◌, ◌≤◌, ◌<◌, ◌^◌, ◌||◌, not, inl, inr, ℕ, nat_lt, nat_le, Bool, true, false, if◌then◌else◌, Option, None, Some, List, [], ◌∷◌, length, map, get_or, refl, arith, ap, sym, subst, ◌∙◌, bit_or}
-use Rattle.std.specs.List.{list_all, list_any}
+use Rattle.std.specs.List.{list_all}
 use Rattle.std.specs.Option.{option_and_then}
-use Rattle.std.specs.Str.{bytes_eq}
 use Rattle.std.proofs.Math.Pow.{pow-lt}
 use Rattle.std.proofs.lemmas.Bool.{true≢false}
 use Rattle.std.proofs.lemmas.Nat.{or_lt, pow_pos}
@@ -11,12 +10,11 @@ use Rattle.blz_value.specs.Bits.{bit_of, meets}
 use Rattle.blz_value.proofs.Members.{in-empty}
 use Rattle.blz_value.specs.Members.{Has}
 use Rattle.blz_value.specs.Name.{is_name}
-use Rattle.blz_value.proofs.Membership.{Has-get_or, Has-flat_map, Has-from_any, Has-from_map, all_member}
+use Rattle.blz_value.proofs.Membership.{Has-get_or, Has-flat_map, Has-from_map, all_member}
 use Rattle.bloom_forms.specs.Form.{Accepted}
 use Rattle.bloom_forms.specs.Query.{Name}
 use Rattle.blz_value.specs.Arrows.{with_all}
 use Rattle.bloom_forms.proofs.Collections.Chosen.{in_chosen}
-use Rattle.bloom_forms.proofs.Faults.Levels.{neither}
 use Rattle.topo_forms.specs.declared.fault.TopoKind.TheVariants as kind
 use Rattle.topo_forms.specs.declared.topology.ComponentEntry.{ComponentEntry}
 use Rattle.topo_forms.specs.declared.topology.ModeName.{ModeName}
@@ -26,6 +24,7 @@ use Rattle.topo_forms.specs.declared.topology.Topology.{Topology}
 use Rattle.topo_forms.specs.Allowed.{IsAllowed, allows_source, allows_body, allows_component, allows_note, allows_key, are_names}
 use Rattle.topo_forms.specs.Carried.{carries_key, key_before, carries}
 use Rattle.blz_value.specs.NumberSets.{set_of_numbers}
+use Rattle.blz_value.proofs.Booleans.{not_false, both_true, neither}
 use Rattle.topo_forms.specs.Sites.{Site, site_at, attribute_number, no_entry, no_site}
 use Rattle.topo_forms.specs.Valid.{IsValid, IsWhole, Validated}
 use Rattle.topo_forms.specs.Validity.{fault_of}
@@ -34,11 +33,10 @@ use Rattle.topo_forms.specs.Validity.Unknown.{misses_port, misses_attribute, mis
 use Rattle.topo_forms.specs.View.{View, Component, End, Stream, stream_at, origin_of, mode_of, mode_key}
 use Rattle.topo_forms.specs.ViewOf.{attribute_set, key_of, mode_from, view_of, modules_in}
 use Rattle.topo_forms.proofs.Columns.AttributeNames.{source_column-has}
-use Rattle.topo_forms.proofs.Faults.NoFault.{no_source, not_false, source_fine, site_fine, few_attributes, length_sites}
-use Rattle.topo_forms.proofs.Regions.Spreading.{both_true}
+use Rattle.topo_forms.proofs.Faults.NoFault.{no_source, source_fine, site_fine, few_attributes, length_sites}
 use Rattle.topo_forms.proofs.Views.ViewNumbers.{site_entry, length_components}
-use Rattle.topo_forms.proofs.Views.ViewParts.{sites, attributes, seen, same_bytes, at_component, at_source, at_stream, which_stream}
-use Rattle.topo_forms.proofs.Views.ViewRuns.{column_there}
+use Rattle.topo_forms.proofs.Views.ViewParts.{sites, attributes, seen, at_component, at_source, at_stream, which_stream}
+use Rattle.topo_forms.proofs.Views.ViewRuns.{column_there, from_names}
 use Rattle.coord_modes.specs.Keys.{IsKeyIn}
 
 -- ---- sets of numbers below a bound
@@ -96,11 +94,6 @@ module _ (names : List Name) (few : length names ≤ 64) where
       let same : attribute_set names ns ≡ key = cc in
       subst Fits same (some_fits ns (both_true (nat_le 1 (length ns)) (are_names ns) allowed).0 held)
 
-within_held : (names others : List Name) → names_within names others ≡ true → (name : Name) → Has name names → Has name others
-within_held names others e name has =
-    let found = Has-from_any (bytes_eq name) others (all_member (λ (n : Name). list_any (bytes_eq n) others) names name e has) in
-    subst (λ (n : Name). Has n others) (sym (same_bytes name found.0 found.2)) found.1
-
 -- ---- keys that are written
 
 module _ (t : Topology) (modules : List Accepted) (allowed : IsAllowed t) (clean : fault_of t modules ≡ None) where
@@ -119,7 +112,7 @@ module _ (t : Topology) (modules : List Accepted) (allowed : IsAllowed t) (clean
       let fine = neither (not (names_within s.seal s.columns)) (misses_port (sites t modules) s.to) (source_fine t modules clean kind.Unknown (inr (inr (inl refl))) i no_source lt) in
       key_of_fits ats few s.seal key (λ name has.
       source_column-has t.sources (sites t modules) name (Has-flat_map (λ (x : SourceEntry). x.columns) s name t.sources (Has-get_or t.sources i no_source lt)
-      (within_held s.seal s.columns (not_false (names_within s.seal s.columns) fine.0) name has)))
+      (from_names s.seal s.columns (not_false (names_within s.seal s.columns) fine.0) name has)))
       (subst (λ (x : Stream). x.key ≡ Some key) (at_source t modules i lt) e)
 
   component_key : (c : ℕ) (key : Attrs) → c < length v.components → mode_key (mode_of v c) ≡ Some key → Fits ats few key
@@ -140,7 +133,7 @@ module _ (t : Topology) (modules : List Accepted) (allowed : IsAllowed t) (clean
       let notes = both_true (allows_body entry.body entry.inputs entry.outputs) _ body.1 in
       let allows : allows_key entry.mode entry.key ≡ true = (both_true (list_all allows_note entry.notes) (allows_key entry.mode entry.key) notes.1).1 in
       mode_fits ats few site.entry.mode site.entry.key key (subst (λ (x : ComponentEntry). allows_key x.mode x.key ≡ true) (sym same) allows)
-      (within_held site.entry.key ats (not_false (names_within site.entry.key ats) keys.0))
+      (from_names site.entry.key ats (not_false (names_within site.entry.key ats) keys.0))
       (subst (λ (x : Component). mode_key x.mode ≡ Some key) (at_component t modules c ls) e)
 
   before_fits : IsValid v → (s : ℕ) (o : Option End) (key : Attrs) → s < length v.streams → origin_of v s ≡ o → key_before v s o ≡ Some key → Fits ats few key

@@ -15,13 +15,15 @@ use Rattle.bloom_forms.specs.declared.mode.Mode.TheVariants.{Free}
 use Rattle.blz_value.specs.Graph.{Edge, arrow, arrows, is_in, up, together, region}
 use Rattle.topo_forms.specs.Regions.{edges, edges_of, counting_ends, region_set, is_in_cycle}
 use Rattle.blz_value.specs.NumberSets.{below, set_where}
+use Rattle.blz_value.proofs.Booleans.{same_truth, not_true as not_so, and_true, both_true}
+use Rattle.blz_value.proofs.Ranges.{Has-below as from_below}
 use Rattle.topo_forms.specs.Valid.{IsValid}
 use Rattle.topo_forms.specs.View.{View, End, Component, component_with_mode, origin_of, ends_of, is_order, mode_of, mode_key, stream_numbers}
 use Rattle.topo_forms.proofs.Regions.Classes.{together-self, are-together, same-class}
 use Rattle.topo_forms.proofs.Regions.RegionOrder.{edge_within, where_same}
-use Rattle.topo_forms.proofs.Regions.Spreading.{both_true, and_true, same_truth, from_below, in_below}
+use Rattle.topo_forms.proofs.Regions.Spreading.{in_below}
 use Rattle.label_walk.proofs.Upstream.Alike.{holding, same_length, same_freed}
-use Rattle.label_walk.proofs.Tests.{not_so, so_not}
+use Rattle.label_walk.proofs.Tests.{so_not}
 use Rattle.topo_graph.proofs.OtherModes.{other_modes_law}
 
 -- the components differ in modes alone; those that are Order stay so; and none in a cycle of the first has a key

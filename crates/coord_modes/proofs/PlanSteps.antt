@@ -16,6 +16,8 @@ use Rattle.topo_forms.specs.Carried.{is_confluent}
 use Rattle.blz_value.specs.Graph.{Edge, arrows, is_in, region, is_cyclic_set, numbered_regions, SomeHas, InOrder}
 use Rattle.topo_forms.specs.Regions.{edges, region_set, regions, is_in_cycle}
 use Rattle.blz_value.specs.NumberSets.{below}
+use Rattle.blz_value.proofs.Booleans.{not_true as not_so, or_right as or_second, or_left as or_first}
+use Rattle.blz_value.proofs.Lists.{any-none}
 use Rattle.topo_forms.specs.Valid.{IsValid}
 use Rattle.topo_forms.specs.View.{View, End, Component, no_component, component_at, component_with_mode, comes_from, origin_of, is_order, is_order_mode, is_replicated, mode_of, mode_key, stream_numbers, streams_from, with_mode}
 use Rattle.topo_forms.proofs.Regions.Lower.{given}
@@ -34,7 +36,6 @@ use Rattle.coord_modes.specs.Plan.{all_steps, has_order_note, is_bad, is_good, t
 use Rattle.coord_modes.proofs.FreshRegions.{AreFresh, are_fresh, find-some}
 use Rattle.coord_modes.proofs.CyclesLater as cycles
 use Rattle.coord_modes.proofs.Later.{Later, valid_still, edge_before, region_of_member, own_member, small}
-use Rattle.label_walk.proofs.Tests.{not_so, or_first, or_second, any-none}
 
 -- ---- another mode of one component
 

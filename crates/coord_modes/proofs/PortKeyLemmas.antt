@@ -6,11 +6,11 @@ use Rattle.std.proofs.lemmas.Bool.{eqb-true, eq-eqb, or_cases, true≢false}
 use Rattle.blz_value.specs.declared.attrs.Attrs.{Attrs}
 use Rattle.topo_forms.specs.Carried.{may_carry, streams_towards, carries_key, key_before, carries, common_key, port_key}
 use Rattle.blz_value.specs.Arrows.{is_key}
+use Rattle.blz_value.proofs.Booleans.{same_truth, both_true}
 use Rattle.topo_forms.specs.Laws.{carries_next}
 use Rattle.topo_forms.specs.Valid.{IsValid}
 use Rattle.topo_forms.specs.View.{View, End, stream_at, origin_of, mode_of, mode_key, goes_to, has_body, stream_numbers, streams_to}
 use Rattle.topo_forms.proofs.Found.OneLevel.{carries_law}
-use Rattle.topo_forms.proofs.Regions.Spreading.{both_true, same_truth}
 use Rattle.coord_modes.proofs.KeysFound.{carries-from, carried_by}
 
 -- ---- lists

@@ -15,12 +15,15 @@ use Rattle.topo_forms.specs.Dependencies.{upholds, is_usable, has_to_with_from, 
 use Rattle.blz_value.specs.Graph.{Edge, arrows, is_in, together}
 use Rattle.topo_forms.specs.Regions.{edges, region_of, region_set, is_in_cycle}
 use Rattle.blz_value.specs.NumberSets.{below, set_where, set_of_numbers}
+use Rattle.blz_value.proofs.Maps.{same_map as map_alike, flat_map_same as flat_alike}
+use Rattle.blz_value.proofs.Ranges.{Has-below as from_below}
+use Rattle.blz_value.proofs.Lists.{all_on as all_alike, filter_same as filter_alike}
 use Rattle.topo_forms.specs.Valid.{IsValid}
 use Rattle.topo_forms.specs.View.{View, End, Component, no_component, no_port, component_at, component_with_mode, comes_from, ends_of, goes_into, is_order, is_order_mode, is_replicated, mode_key, mode_of, note_at, origin_of, port_numbers, stream_numbers, streams_from, streams_into, streams_to, with_mode}
 use Rattle.topo_forms.proofs.Regions.Classes.{region-is}
 use Rattle.topo_forms.proofs.Regions.Lower.{feeds_edge, lower_outside, lower_into, one_place}
 use Rattle.topo_forms.proofs.Regions.RegionOrder.{edge_within}
-use Rattle.topo_forms.proofs.Regions.Spreading.{from_below, in_below}
+use Rattle.topo_forms.proofs.Regions.Spreading.{in_below}
 use Rattle.label_rules.specs.declared.label.Label.{Label}
 use Rattle.label_rules.specs.declared.label.Label.TheVariants.{Seal, Async, Run, Inst, Diverge}
 use Rattle.label_rules.specs.PathTable.{pass_path}
@@ -30,7 +33,6 @@ use Rattle.label_walk.specs.Paths.{label_at, path_label, port_paths, output_path
 use Rattle.label_walk.proofs.Labelling.Computed.{computed}
 use Rattle.label_walk.proofs.Labelling.RegionByRegion.{has_labels}
 use Rattle.label_walk.proofs.Upstream.Alike.{holding, Alike, edge_kept}
-use Rattle.label_walk.proofs.Upstream.ListsAlike.{all_alike, filter_alike, flat_alike, map_alike}
 use Rattle.label_walk.proofs.Upstream.UpstreamLabels.{label_same}
 use Rattle.label_walk.proofs.Upstream.UpstreamSeals.{to_into, upholds_same}
 use Rattle.coord_modes.specs.Code.Tried.{path_with, port_paths_with, paths_with, label_with, is_fine_with, is_good_with}

@@ -7,9 +7,9 @@ use Rattle.std.proofs.lemmas.List.Elements.{filter_map-append}
 use Rattle.std.proofs.lemmas.List.Folds.{list_all-append}
 use Rattle.blz_value.proofs.Membership.{Has-filter, all_member}
 use Rattle.blz_value.specs.NumberSets.{below}
-use Rattle.topo_forms.proofs.Regions.Spreading.{and_true, both_true, in_below}
-use Rattle.label_walk.proofs.Loops.{below_more, filter_below_more}
-use Rattle.label_walk.proofs.Tests.{not_so}
+use Rattle.blz_value.proofs.Booleans.{not_true as not_so, and_true, both_true}
+use Rattle.blz_value.proofs.Ranges.{below_more, filter_below_more}
+use Rattle.topo_forms.proofs.Regions.Spreading.{in_below}
 
 -- the numbers below a count are those below one of them, it and the rest
 below_split : (n m : ℕ) → n < m → (rest : List ℕ) × (below m ≡ below n ++ (n ∷ rest))

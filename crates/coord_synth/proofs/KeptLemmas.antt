@@ -1,10 +1,12 @@
 -- A key that is kept is that of a port, the mode that is chosen may be written, and gives what the plan says.
 use Rattle.std.proofs.Common.{◌≡◌, ◌<◌, ◌&&◌, inl, inr, ℕ, Bool, true, false, if◌then◌else◌, Option, None, Some, List, [], ◌∷◌, length, refl, ap, sym, subst, ◌∙◌}
 use Rattle.std.specs.List.{cons_option, filter_map, find, list_all}
-use Rattle.std.specs.Option.{option_and_then, unwrap_or}
+use Rattle.std.specs.Option.{option_and_then}
 use Rattle.blz_value.specs.declared.attrs.Attrs.{Attrs}
 use Rattle.blz_value.specs.Members.{Has}
 use Rattle.blz_value.proofs.Membership.{Has-from_filter}
+use Rattle.blz_value.proofs.Ranges.{Has-below as from_below}
+use Rattle.blz_value.proofs.Options.{same_some}
 use Rattle.bloom_forms.specs.declared.mode.Mode.{Mode}
 use Rattle.bloom_forms.specs.declared.mode.Mode.TheVariants.{Order}
 use Rattle.topo_forms.specs.Carried.{carries_key, carries, common_key, port_key}
@@ -12,7 +14,6 @@ use Rattle.topo_forms.specs.Laws.{CanHaveMode}
 use Rattle.topo_forms.specs.Regions.{is_in_cycle}
 use Rattle.topo_forms.specs.Valid.{IsValid, IsWhole, Validated}
 use Rattle.topo_forms.specs.View.{View, goes_to, is_order, port_numbers, stream_numbers, streams_to, with_mode}
-use Rattle.topo_forms.proofs.Regions.Spreading.{from_below}
 use Rattle.coord_modes.specs.declared.steps.Steps.{Steps}
 use Rattle.coord_modes.specs.Keys.{IsKeyIn}
 use Rattle.coord_modes.specs.Plan.{is_good, trial, kept_key, tried_mode, wants_order, with_key, plan_component}
@@ -58,20 +59,17 @@ module _ (now : Validated) (whole : IsWhole now) (valid : IsValid now.view) wher
 
 -- ---- the mode that is chosen
 
-given : {X : Type 0} (x y : X) → Some x ≡ Some y → x ≡ y
-given x y e = ap (λ (o : Option _). unwrap_or o x) e
-
 module _ (now : Validated) (whole : IsWhole now) (valid : IsValid now.view) (steps : Steps) (c : ℕ) (lt : c < length now.view.components) (free : is_order now.view c ≡ false) (outside : is_in_cycle now.view c ≡ false) where
   -- it may be written
   pub chosen_fits : (m : Mode) → chosen_mode steps now.view c ≡ Some m → CanHaveMode now.view c m
   chosen_fits m e = by (kept_key steps now.view c) refl e
     where
       by : (o : Option Attrs) → kept_key steps now.view c ≡ o → mode_with_key steps now.view c o ≡ Some m → CanHaveMode now.view c m
-      by (Some key) is e = can_try now.view c lt free key m outside (kept_fits now whole valid steps c key is) (sym (given (tried_mode now.view c key) m e))
+      by (Some key) is e = can_try now.view c lt free key m outside (kept_fits now whole valid steps c key is) (sym (same_some (tried_mode now.view c key) m e))
       by None is e = test (steps.orders && wants_order now.view c) e
         where
           test : (b : Bool) → (if b then Some Order else None) ≡ Some m → CanHaveMode now.view c m
-          test true e = subst (CanHaveMode now.view c) (given Order m e) (can_order now.view c lt free)
+          test true e = subst (CanHaveMode now.view c) (same_some Order m e) (can_order now.view c lt free)
           test false e = let bad : None ≡ Some m = e in cc
 
 -- and the topology with it is that of the plan
@@ -79,11 +77,11 @@ pub chosen_is : (steps : Steps) (v : View) (c : ℕ) (m : Mode) → chosen_mode 
 chosen_is steps v c m e = by (kept_key steps v c) e
   where
     by : (o : Option Attrs) → mode_with_key steps v c o ≡ Some m → with_mode v c m ≡ with_key steps v c o
-    by (Some key) e = ap (with_mode v c) (sym (given (tried_mode v c key) m e))
+    by (Some key) e = ap (with_mode v c) (sym (same_some (tried_mode v c key) m e))
     by None e = test (steps.orders && wants_order v c) e
       where
         test : (b : Bool) → (if b then Some Order else None) ≡ Some m → with_mode v c m ≡ (if b then with_mode v c Order else v)
-        test true e = ap (with_mode v c) (sym (given Order m e))
+        test true e = ap (with_mode v c) (sym (same_some Order m e))
         test false e = let bad : None ≡ Some m = e in cc
 
 pub none_chosen : (steps : Steps) (v : View) (c : ℕ) → chosen_mode steps v c ≡ None → v ≡ with_key steps v c (kept_key steps v c)

@@ -15,10 +15,12 @@ use Rattle.topo_forms.specs.Dependencies.{usable_fds}
 use Rattle.blz_value.specs.Graph.{is_in}
 use Rattle.topo_forms.specs.Regions.{region_of, region_set, regions, is_in_cycle}
 use Rattle.blz_value.specs.NumberSets.{below}
+use Rattle.blz_value.proofs.Booleans.{not_true as not_so, not_false}
+use Rattle.blz_value.proofs.Ranges.{Has-below as from_below}
+use Rattle.blz_value.proofs.Lists.{none_any as none-any, any-none}
 use Rattle.topo_forms.specs.Valid.{IsValid}
 use Rattle.topo_forms.specs.View.{View, End, Component, no_component, no_attrs, stream_at, component_at, component_with_mode, origin_of, ends_of, is_order, is_order_mode, is_replicated, mode_of, mode_key, note_at, port_attrs, port_numbers, stream_numbers, streams_to}
 use Rattle.topo_forms.proofs.Regions.Lower.{feeds_edge, none_ordered, lower_into}
-use Rattle.topo_forms.proofs.Regions.Spreading.{from_below}
 use Rattle.label_rules.specs.declared.label.Label.{Label}
 use Rattle.label_rules.specs.declared.label.Label.TheVariants.{Seal, Async, Run}
 use Rattle.label_rules.specs.declared.label.PathLabel.{PathLabel}
@@ -37,11 +39,6 @@ use Rattle.coord_modes.specs.Plan.{freed_component, has_order_note, planned, pla
 use Rattle.coord_synth.proofs.Bounds.{confluent_ok, single_ok, reconcile_ok, carried_ok, region_confluent}
 use Rattle.coord_modes.proofs.Later.{Later, valid_still, edge_before, region_before, region_of_member, own_member}
 use Rattle.coord_modes.proofs.PlanSteps.{State, AreBare, AreSingle, Final, final, covered}
-use Rattle.label_walk.proofs.Tests.{not_so, any-none, none-any}
-
-from_not : (x : Bool) → not x ≡ false → x ≡ true
-from_not true e = refl
-from_not false e = absurd (true≢false e)
 
 -- a note of a component
 note_has : (notes : List (List (Option Note))) (p o : ℕ) (note : Note) → get_or (get_or notes p []) o None ≡ Some note → Has note (flat_map (filter_map (λ note. note)) notes)
@@ -105,7 +102,7 @@ module _ (b : View) (xs : List Component) (valid : IsValid (holding b xs)) (unke
 
   -- a component without an O note
   bare_note : (c : ℕ) (note : Note) → has_order_note f c ≡ false → Has note (notes_in t c) → is_confluent note ≡ true
-  bare_note c note bare has = from_not (is_confluent note) (any-none (λ (n : Note). not (is_confluent n)) (notes_in t c) (sym (note_still c) ∙ bare) note has)
+  bare_note c note bare has = not_false (is_confluent note) (any-none (λ (n : Note). not (is_confluent n)) (notes_in t c) (sym (note_still c) ∙ bare) note has)
 
   -- what feeds it is Run or better
   abbrev Fed : ℕ → Type 0

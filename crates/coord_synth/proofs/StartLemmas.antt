@@ -6,6 +6,8 @@ use Rattle.std.proofs.lemmas.List.{ext_get_or, length-map, length-set, get_or-ma
 use Rattle.std.proofs.lemmas.List.Sums.{fold-append}
 use Rattle.blz_value.specs.Name.{is_name}
 use Rattle.blz_value.proofs.Membership.{Has-get_or, all_member}
+use Rattle.blz_value.proofs.Booleans.{both_true}
+use Rattle.blz_value.proofs.Ranges.{below_more}
 use Rattle.bloom_forms.specs.Form.{Accepted}
 use Rattle.bloom_forms.specs.Query.{Name}
 use Rattle.bloom_forms.specs.declared.mode.Mode.{Mode}
@@ -22,10 +24,8 @@ use Rattle.topo_forms.specs.Valid.{IsWhole, Validated}
 use Rattle.topo_forms.specs.View.{View, Component, no_component, component_at, component_with_mode, is_order, is_order_mode, mode_key, mode_of}
 use Rattle.topo_forms.specs.ViewOf.{mode_from, view_of, modules_in}
 use Rattle.topo_forms.proofs.Faults.NoFault.{length_sites}
-use Rattle.topo_forms.proofs.Regions.Spreading.{both_true}
 use Rattle.topo_forms.proofs.Views.ViewNumbers.{site_entry, length_components}
 use Rattle.topo_forms.proofs.Views.ViewParts.{sites, attributes, seen, at_component}
-use Rattle.label_walk.proofs.Loops.{below_more}
 use Rattle.coord_modes.specs.Plan.{freed, freed_component, topology_with_modes}
 use Rattle.coord_synth.specs.Code.Start.{free_component}
 use Rattle.coord_synth.specs.Code.Written.{IsWritten}

@@ -2,14 +2,13 @@
 use Rattle.std.proofs.Common.{◌≡◌, ◌<◌, ◌&&◌, ℕ, zero, suc, not, Bool, true, false, if◌then◌else◌, List, [], ◌∷◌, length, get_or, slice_set, refl, ap, sym, subst, ◌∙◌}
 use Rattle.std.proofs.lemmas.Bool.{true≢false}
 use Rattle.blz_value.specs.declared.attrs.Attrs.{Attrs}
+use Rattle.blz_value.proofs.Booleans.{not_true as not_so, both_true}
 use Rattle.bloom_forms.specs.declared.mode.Mode.{Mode}
 use Rattle.bloom_forms.specs.declared.mode.Mode.TheVariants.{Free, Pass, Seal, Order}
 use Rattle.topo_forms.specs.Laws.{IsKeyOf, CanHaveMode}
 use Rattle.topo_forms.specs.Regions.{is_in_cycle}
 use Rattle.topo_forms.specs.Valid.{Validated}
 use Rattle.topo_forms.specs.View.{View, Component, no_component, component_at, component_with_mode, is_order, is_order_mode, with_mode}
-use Rattle.topo_forms.proofs.Regions.Spreading.{both_true}
-use Rattle.label_walk.proofs.Tests.{not_so}
 use Rattle.coord_modes.specs.Keys.{IsKeyIn}
 use Rattle.coord_synth.specs.Code.Written.{StaysWritten}
 use Rattle.coord_modes.specs.Plan.{has_order_note, tried_mode, order_member}

@@ -16,12 +16,12 @@ use Rattle.blz_value.specs.Graph.{arrows, is_in, together, region, is_cyclic_set
 use Rattle.topo_forms.specs.OtherModes.{with_components, AreRemoded}
 use Rattle.topo_forms.specs.Regions.{edges, regions, region_set, is_in_cycle}
 use Rattle.blz_value.specs.NumberSets.{below}
+use Rattle.blz_value.proofs.Ranges.{Has-below as from_below}
 use Rattle.topo_forms.specs.Valid.{IsValid}
 use Rattle.topo_forms.specs.View.{View, Component, no_component, component_at, component_with_mode, is_order, is_order_mode, mode_key, with_mode}
 use Rattle.topo_forms.proofs.Regions.Lower.{given}
 use Rattle.topo_graph.proofs.OtherModes.{other_modes_law, cyclic_more}
 use Rattle.topo_forms.proofs.Regions.RegionOrder.{classes_at}
-use Rattle.topo_forms.proofs.Regions.Spreading.{from_below}
 use Rattle.coord_synth.specs.Laws.{PlansKeepValid}
 use Rattle.coord_modes.specs.declared.steps.Steps.{Steps}
 use Rattle.coord_modes.specs.Plan.{freed, freed_component, tried_mode, wants_order, with_key, kept_key, plan_component, order_member, has_order_note, cycle_wants_order, plan_cycle, plan_region, planned_by}

@@ -10,6 +10,7 @@ use Rattle.blz_value.specs.Bits.{members}
 use Rattle.blz_value.specs.Members.{Has}
 use Rattle.blz_value.specs.Record.{Row}
 use Rattle.blz_value.proofs.Membership.{Has-get_or}
+use Rattle.blz_value.proofs.Options.{same_some}
 use Rattle.serde_json.specs.Data.{Data as Json, null, boolean, number, string, array, object, Items, no_items, item}
 use Rattle.serde_json.specs.Events.{items_len}
 use Rattle.serde_json.specs.Find.{get, get_member, as_array, as_object}
@@ -25,7 +26,7 @@ use Rattle.data_read.specs.Keys.{has_only, unknown_key}
 use Rattle.data_read.specs.Shape.{type_at, key_types, shape_of, shapes_of}
 use Rattle.data_read.specs.Steps.{◌>>=◌}
 use Rattle.data_read.specs.Values.{value_in, values_in, row_in, record_in}
-use Rattle.data_read.proofs.WeightLemmas.{gave, tested, same_some}
+use Rattle.data_read.proofs.WeightLemmas.{gave, tested}
 
 -- ---- the steps of a reading
 

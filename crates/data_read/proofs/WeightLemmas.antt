@@ -1,11 +1,11 @@
 -- A value that stands in another weighs no more, and so do the lists of an entry together.
-use Rattle.std.proofs.Common.{◌≡◌, ℕ, ◌+◌, ◌≤◌, Bool, true, false, List, length, Option, Some, None, option_map, IfSome, Ordering, Less, Equal, Greater, is_eq, nat_cmp, refl, ap, sym, subst, ◌∙◌, arith}
+use Rattle.std.proofs.Common.{◌≡◌, ℕ, ◌+◌, ◌≤◌, Bool, true, false, List, length, Option, Some, None, option_map, IfSome, Ordering, Less, Equal, Greater, nat_cmp, refl, sym, subst, ◌∙◌, arith}
 use Rattle.std.specs.Prelude.{codes}
 use Rattle.std.specs.Borrow.{Bor}
 use Rattle.std.specs.Cmp.Lexicographic.{slice_cmp}
 use Rattle.std.specs.Ordering.{match_ordering}
-use Rattle.std.proofs.lemmas.Map.Text.{is_eq-slice_cmp}
-use Rattle.std.proofs.lemmas.Slice.Eq.{bytes_eq-Decides}
+use Rattle.blz_value.proofs.Options.{same_some}
+use Rattle.blz_value.proofs.Lists.{equal_keys}
 use Rattle.serde_json.specs.Data.{Data, null, boolean, number, string, array, object, Items, no_items, item, Members, no_members, member}
 use Rattle.serde_json.specs.Events.{items_len}
 use Rattle.serde_json.specs.Find.{get, get_member}
@@ -28,9 +28,6 @@ gave None next y e = cc
 pub tested : {X : Type 0} (test : Bool) (x y : X) → only_if test x ≡ Some y → (test ≡ true) × (x ≡ y)
 tested true x y e = (refl, (let same : x ≡ y = cc in same))
 tested false x y e = cc
-
-pub same_some : {X : Type 0} (x y : X) → Some x ≡ Some y → x ≡ y
-same_some x y e = cc
 
 -- ---- weights
 
@@ -69,9 +66,6 @@ get_within k (object ms) = omega (arith, member_within k ms)
 
 -- ---- two keys
 
-same_key : (k l : List ℕ) → slice_cmp nat_cmp k l ≡ Equal → k ≡ l
-same_key k l e = (bytes_eq-Decides k l).0 (sym (is_eq-slice_cmp k l) ∙ ap is_eq e)
-
 two_at : (o p : Ordering) (e : Data) (a b : Option Data) (w : ℕ) → (o ≡ Equal → p ≡ Equal → ⊥) → weight_or_none a + weight_or_none b ≤ w
     → weight_or_none (match_ordering o a (Some e) a) + weight_or_none (match_ordering p b (Some e) b) ≤ weight e + w
 two_at Less Less e a b w apart h = omega arith
@@ -88,7 +82,7 @@ two_within : (k l : List ℕ) (ms : Members) → (k ≡ l → ⊥) → weight_or
 two_within k l no_members apart = omega arith
 two_within k l (member m e ms) apart =
     two_at (slice_cmp nat_cmp k m) (slice_cmp nat_cmp l m) e (get_member k ms) (get_member l ms) (members_weight ms)
-    (λ p q. apart (same_key k m p ∙ sym (same_key l m q))) (two_within k l ms apart)
+    (λ p q. apart (equal_keys k m p ∙ sym (equal_keys l m q))) (two_within k l ms apart)
 
 -- ---- an entry
 

@@ -2,19 +2,16 @@
 use Rattle.std.proofs.Common.{◌≡◌, refl, ap, sym, subst, ◌∙◌, ℕ, ◌<◌, ◌&&◌, ◌||◌, true, false, cond, length, arith, Option, None, Some}
 use Rattle.std.specs.List.{list_all}
 use Rattle.std.specs.Option.{option_and_then}
-use Rattle.std.proofs.lemmas.Bool.{eqb-true, eq-eqb}
+use Rattle.std.proofs.lemmas.Bool.{eq-eqb}
 use Rattle.blz_value.specs.declared.attrs.Attrs.{Attrs}
 use Rattle.topo_forms.specs.Carried.{may_carry, streams_towards, carries_key, key_before, carries}
 use Rattle.blz_value.specs.Arrows.{is_key}
+use Rattle.blz_value.proofs.Booleans.{same_truth, both_true}
+use Rattle.blz_value.proofs.Options.{is_key-is}
 use Rattle.topo_forms.specs.Laws.{carries_next}
 use Rattle.topo_forms.specs.Valid.{IsValid}
 use Rattle.topo_forms.specs.View.{View, End, origin_of, stream_at, mode_of, mode_key, has_body}
 use Rattle.topo_forms.proofs.Found.OneLevel.{carries_law}
-use Rattle.topo_forms.proofs.Regions.Spreading.{same_truth, both_true}
-
-is_key-is : (key : ℕ) (o : Option Attrs) → is_key key o ≡ true → (own : Attrs) × (o ≡ Some own) × (own.bits ≡ key)
-is_key-is key None e = cc
-is_key-is key (Some own) e = (own, refl, eqb-true own.bits key e)
 
 carries_cases : (v : View) (s : ℕ) (o : Option Attrs) (key : Attrs) → option_and_then (λ own. cond (carries_key v own.bits s) (Some own) None) o ≡ Some key → carries_key v key.bits s ≡ true
 carries_cases v s None key e = cc

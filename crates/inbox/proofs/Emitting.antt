@@ -15,6 +15,7 @@ use Rattle.blz_value.proofs.Membership.{Has-append_right, Has-append_left, Has-a
 use Rattle.blz_value.proofs.SetLemmas.{below_not_in}
 use Rattle.blz_value.proofs.SetLaws.{same_row_sets}
 use Rattle.blz_value.proofs.OperatorsLemmas.{sorted_filter}
+use Rattle.blz_value.proofs.Lists.{filter_same}
 use Rattle.bloom_forms.specs.declared.program.Program.{Program}
 use Rattle.bloom_forms.specs.declared.program.Program.TheVariants.{Module, Split, Latest, Number}
 use Rattle.bloom_forms.specs.Laws.{StandsStill}
@@ -33,7 +34,6 @@ use Rattle.inbox.specs.Lives.{Life, Lives, all_lives, life_sets_off, after_life,
 use Rattle.messages.proofs.MessagesLemmas.{is_same_message-is, is_same_message-itself, any-from_same, same-from_any}
 use Rattle.inbox.proofs.Lists.Growing.{get_or-each_by_place, length-each_by_place, emit_step-continues}
 use Rattle.inbox.proofs.Lists.Rows.{rows-with_rows, rows-seal_all}
-use Rattle.inbox.proofs.TimestepLemmas.Held.{filter_same}
 use Rattle.inbox.proofs.TimestepLemmas.Whole.{Has-from_filter_map}
 use Rattle.inbox.specs.Code.Running.{StandingIsEmitted}
 use Rattle.inbox.proofs.OutputSets.{output_is_set}

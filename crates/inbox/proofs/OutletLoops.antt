@@ -1,11 +1,12 @@
 -- Emission one by one: an outlet more.
-use Rattle.std.proofs.Common.{◌≡◌, ◌<◌, ◌≤◌, ◌+◌, ◌⊎◌, ℕ, None, Some, List, [], ◌∷◌, length, take, drop, set, get_or, refl, ap, ◌∙◌, sym, subst, inl, inr, arith, drop-cons, add-one, slice_get}
+use Rattle.std.proofs.Common.{◌≡◌, ◌<◌, ◌≤◌, ◌+◌, ◌⊎◌, ℕ, None, Some, List, [], ◌∷◌, length, take, drop, set, get_or, refl, ap, ◌∙◌, sym, subst, inl, inr, arith, slice_get}
 use Rattle.std.specs.List.{All}
 use Rattle.std.proofs.lemmas.List.{length-set, take-append-drop, get_or_past}
 use Rattle.std.proofs.lemmas.Option.{slice_get_cases}
 use Rattle.blz_value.specs.Members.{Has}
 use Rattle.blz_value.specs.Record.{Row}
 use Rattle.blz_value.proofs.Membership.{Has-append_right, All-of_member}
+use Rattle.blz_value.proofs.Lists.{rest_is}
 use Rattle.bloom_forms.specs.Step.{Sets, set_at}
 use Rattle.topo_forms.specs.Messages.{Message}
 use Rattle.inbox.specs.Emission.{with_rows, with_seals}
@@ -25,9 +26,6 @@ becomes_none l place outs output none = subst (λ rows. OneListBecomes l l place
     past (inr t) = t.0
 
 -- ---- outlet by outlet
-
-rest_is : {X : Type 0} (xs : List X) (i : ℕ) (x : X) → i < length xs → x ≡ get_or xs i x → drop i xs ≡ x ∷ drop (i + 1) xs
-rest_is xs i x below at = rw (drop-cons xs i x, add-one, ← at) refl
 
 -- one outlet more
 pub emitted_more : (outlets : List Outlet) (index : ℕ) (o : Outlet) (outs : Sets) (lists next last : List (List Message)) → index < length outlets → o ≡ get_or outlets index o

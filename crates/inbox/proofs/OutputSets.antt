@@ -1,8 +1,7 @@
 -- What a step puts out is sets: each output is in record order, without repeats.
-use Rattle.std.proofs.Common.{◌≡◌, ◌<◌, ◌≤◌, ℕ, zero, suc, Bool, true, false, cond, Option, None, Some, List, [], ◌∷◌, length, map, filter, set, get_or, slice_get, refl, ap, ◌∙◌, sym, subst, inl, inr, arith}
+use Rattle.std.proofs.Common.{◌≡◌, ◌<◌, ◌≤◌, ℕ, zero, suc, Bool, true, false, cond, Some, List, [], ◌∷◌, length, map, filter, set, get_or, refl, ap, ◌∙◌, sym, subst, inl, inr, arith}
 use Rattle.std.specs.List.{fold, zip, flat_map, list_any}
 use Rattle.std.specs.Ordering.{eq_by_cmp}
-use Rattle.std.specs.Option.{option_map}
 use Rattle.std.proofs.lemmas.Bool.{cases_eq, cases_lt}
 use Rattle.std.proofs.lemmas.List.{get_or-set_same, get_or-set_other, get_or_past, set_past}
 use Rattle.std.proofs.lemmas.List.FromFn.{get_or-map-range_with_len}
@@ -10,6 +9,7 @@ use Rattle.blz_value.specs.Operators.{cells}
 use Rattle.blz_value.specs.Record.{Row, record_cmp}
 use Rattle.blz_value.specs.Sets.{IsRowSet}
 use Rattle.blz_value.proofs.SetLaws.{sorted_set_of}
+use Rattle.bloom_forms.proofs.Collections.KindSets.{kind-within}
 use Rattle.bloom_forms.specs.declared.module.Kind.{Kind}
 use Rattle.bloom_forms.specs.declared.module.Kind.TheVariants.{Input, Output, Table, Scratch}
 use Rattle.bloom_forms.specs.declared.module.Collection.{Collection}
@@ -20,7 +20,6 @@ use Rattle.bloom_forms.specs.Kinds.{same_kind, kind_at, place_in_kind}
 use Rattle.bloom_forms.specs.ProgramStep.{outputs_of_step}
 use Rattle.bloom_forms.specs.Step.{Sets, set_at, begun, ended, begun_at, at_start, ruled_at, with_head, at_end, sets_of_kind, outputs_of}
 use Rattle.bloom_forms.specs.StockSteps.{keys_in_order, split_row, split_out, latest_kept, latest_out, numbered, number_out}
-use Rattle.bloom_forms.proofs.Collections.Numbers.{get-within}
 
 -- each collection that is an output holds a set
 abbrev OutputsAreSets : List Collection → Sets → Type 0
@@ -28,13 +27,6 @@ OutputsAreSets cs sets = (n : ℕ) → kind_at cs n ≡ Some Output → IsRowSet
 
 nothing_set : IsRowSet []
 nothing_set = sorted_set_of []
-
-kind-within : (cs : List Collection) (n : ℕ) (kind : Kind) → kind_at cs n ≡ Some kind → n < length cs
-kind-within cs n kind is = go (slice_get cs n) refl is
-  where
-    go : (o : Option Collection) → slice_get cs n ≡ o → option_map (λ (c : Collection). c.kind) o ≡ Some kind → n < length cs
-    go None at e = cc
-    go (Some c) at e = get-within cs n c at
 
 started : (cs : List Collection) (kept now : Sets) → OutputsAreSets cs (at_start cs kept now)
 started cs kept now n is =

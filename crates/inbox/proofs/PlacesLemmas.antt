@@ -1,15 +1,12 @@
 -- Places side by side: no two numbers share one.
-use Rattle.std.proofs.Common.{◌≡◌, ◌<◌, ◌≤◌, ◌+◌, ◌-◌, ℕ, zero, suc, List, [], ◌∷◌, ◌++◌, ap, ◌∙◌, subst, inl, inr, arith}
+use Rattle.std.proofs.Common.{◌≡◌, ◌<◌, ◌≤◌, ◌+◌, ◌-◌, ℕ, zero, suc, [], ◌∷◌, ◌++◌, ap, ◌∙◌, subst, inl, inr, arith}
 use Rattle.std.specs.List.{sum_by, range_with_len}
 use Rattle.std.proofs.lemmas.Bool.{cases_lt}
 use Rattle.std.proofs.lemmas.List.Sums.{sum_by-append}
 use Rattle.blz_value.specs.Members.{Has}
 use Rattle.blz_value.specs.NumberSets.{below}
+use Rattle.blz_value.proofs.Ranges.{range_more}
 use Rattle.inbox.specs.Places.{places_before}
-
-range_more : (a n : ℕ) → range_with_len a (suc n) ≡ range_with_len a n ++ (a + n) ∷ []
-range_more a zero = let z : a ≡ a + 0 = omega arith in λ i. z i ∷ []
-range_more a (suc n) = let next : a + 1 + n ≡ a + suc n = omega arith in ap (λ (xs : List ℕ). a ∷ xs) (range_more (a + 1) n ∙ ap (λ (k : ℕ). range_with_len (a + 1) n ++ k ∷ []) next)
 
 pub below_more : (n : ℕ) → below (n + 1) ≡ below n ++ n ∷ []
 below_more n =
@@ -45,14 +42,6 @@ module _ (size : ℕ → ℕ) where
           (numbers, omega (arith, ap (places_before size) numbers))
     ]
   ]
-
-pub Has-range : (a n q : ℕ) → Has q (range_with_len a n) → q < a + n
-Has-range a zero q h = absurd h
-Has-range a (suc n) q (inl same) = omega (arith, same)
-Has-range a (suc n) q (inr h) = omega (arith, Has-range (a + 1) n q h)
-
-pub Has-below : (n q : ℕ) → Has q (below n) → q < n
-Has-below n q h = omega (arith, Has-range 0 n q h)
 
 pub range_has : (a n q : ℕ) → a ≤ q → q < a + n → Has q (range_with_len a n)
 range_has a zero q from less = absurd (omega (arith, from, less))

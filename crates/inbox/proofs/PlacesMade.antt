@@ -2,9 +2,9 @@
 use Rattle.std.proofs.Common.{◌≡◌, ◌<◌, ◌≤◌, ◌+◌, ◌*◌, ℕ, Option, None, Some, List, [], ◌∷◌, ◌++◌, length, map, slice_get, refl, ap, ◌∙◌, sym, subst, arith}
 use Rattle.std.proofs.lemmas.Option.{slice_get-get_or}
 use Rattle.blz_value.specs.NumberSets.{below}
+use Rattle.blz_value.proofs.Ranges.{map_below_more}
 use Rattle.topo_forms.specs.Valid.{IsValid}
 use Rattle.topo_forms.specs.View.{View, End, senders_of, origin_of, replicas_of, stream_replicas}
-use Rattle.inbox.proofs.Ranges.{map_below_more}
 use Rattle.inbox.proofs.WiringLemmas.{get_or-below, length-below}
 use Rattle.inbox.specs.Places.{ArePlaces, places_before, instance_place, list_place}
 use Rattle.inbox.specs.declared.places.Places.{Places}

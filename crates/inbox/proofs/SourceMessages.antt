@@ -11,6 +11,7 @@ use Rattle.blz_value.specs.Sets.{set_of}
 use Rattle.blz_value.proofs.Membership.{Has-filter, Has-from_any, any_from_Has}
 use Rattle.blz_value.proofs.RowSets.{length-set_of-le}
 use Rattle.blz_value.specs.declared.attrs.Attrs.{Attrs}
+use Rattle.blz_value.proofs.Booleans.{same_truth}
 use Rattle.topo_forms.specs.Data.{SourceData, key_places, rows_with_key}
 use Rattle.topo_forms.specs.Messages.{row, seal, is_same_row, distinct_rows, rows_in, partitions, source_seals, source_messages}
 use Rattle.topo_forms.specs.View.{Stream}
@@ -23,12 +24,6 @@ use Rattle.topo_forms.proofs.DistinctRows.{is_among, distinct_rows-more, Has-fro
 use Rattle.messages.specs.EmittedCounts.{seals_of}
 
 -- ---- records
-
-either_way : (p q : Bool) → (p ≡ true → q ≡ true) → (q ≡ true → p ≡ true) → p ≡ q
-either_way true true f g = refl
-either_way true false f g = sym (f refl)
-either_way false true f g = g refl
-either_way false false f g = refl
 
 -- each record of a list is one of the distinct ones
 Has-distinct : (q : Row) (xs : List Row) → Has q xs → Has q (distinct_rows xs)
@@ -45,7 +40,7 @@ any_row y (x ∷ rows) = ap (λ b. is_same_row y x || b) (any_row y rows)
 
 known_row : (y : Row) (xs : List Row) → list_any (is_same_row y) (distinct_rows xs) ≡ is_among xs y
 known_row y xs =
-    either_way (list_any (is_same_row y) (distinct_rows xs)) (is_among xs y)
+    same_truth (list_any (is_same_row y) (distinct_rows xs)) (is_among xs y)
     (λ e.
     let m = Has-from_any (is_same_row y) (distinct_rows xs) e in
     let same : y ≡ m.0 = is_same_row-is y m.0 m.2 in
@@ -76,7 +71,7 @@ rows_from xs (y ∷ ys) =
 pub all_rows : (rows : List Row) → with_rows [] rows ≡ map row (distinct_rows rows)
 all_rows rows = rows_from [] rows
 
-rows_of : (rows : List Row) → rows_in (map row rows) ≡ rows
+pub rows_of : (rows : List Row) → rows_in (map row rows) ≡ rows
 rows_of [] = refl
 rows_of (r ∷ rows) = ap (λ l. r ∷ l) (rows_of rows)
 

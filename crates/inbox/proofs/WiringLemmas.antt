@@ -1,7 +1,7 @@
 -- The wiring of a topology has its streams, its instances, and feeds in range.
-use Rattle.std.proofs.Common.{◌≡◌, ap, subst, ◌∙◌, ℕ, ◌+◌, ◌<◌, nat_lt, Bool, true, false, List, [], length, map, get_or, arith, inl, inr, Some, slice_get, zero, suc}
+use Rattle.std.proofs.Common.{◌≡◌, ap, subst, ◌∙◌, ℕ, ◌+◌, ◌<◌, nat_lt, Bool, true, false, List, [], length, map, get_or, arith, Some, slice_get}
 use Rattle.std.specs.Prelude.{if◌then◌else◌}
-use Rattle.std.specs.List.{range_with_len, flat_map}
+use Rattle.std.specs.List.{flat_map}
 use Rattle.std.specs.Option.{option_map_or}
 use Rattle.std.proofs.lemmas.List.FromFn.{get_or-map-range_with_len, length-map-range_with_len}
 use Rattle.std.proofs.lemmas.Option.{slice_get-get_or}
@@ -10,6 +10,7 @@ use Rattle.blz_value.proofs.Membership.{Has-from_map, Has-from_flat_map, Has-fro
 use Rattle.topo_forms.specs.View.{View, no_stream, replicas_of, port_numbers, streams_to, stream_replicas, component_at, goes_to, is_order, mode_of, mode_key, stream_at, stream_numbers}
 use Rattle.topo_forms.specs.Feeds.{Feed, no_feed, feeds, log_feeds, feeds_at, feeds_from, paired_senders}
 use Rattle.blz_value.specs.NumberSets.{below}
+use Rattle.blz_value.proofs.Ranges.{Has-below}
 use Rattle.inbox.specs.Instances.{Instance, port_of_feed}
 use Rattle.inbox.specs.Growth.{feed_numbered}
 use Rattle.inbox.specs.Wiring.{nobody, instances_at, instance_at, is_there, port_for, instance_for, wiring_of}
@@ -37,14 +38,6 @@ unfolding wiring_of
 stream-wired v s within = slice_get-get_or v.streams s no_stream within
 
 -- ---- feeds
-
-Has-below : (count n : ℕ) → Has n (below count) → n < count
-Has-below count n h = let r = from_range 0 count n h in omega (arith, r)
-  where
-    from_range : (from count n : ℕ) → Has n (range_with_len from count) → n < from + count
-    from_range from zero n h = absurd h
-    from_range from (suc count) n (inl e) = omega (arith, e)
-    from_range from (suc count) n (inr h) = let r = from_range (from + 1) count n h in omega (arith, r)
 
 -- a feed is of a port of its component, of a stream that goes to the port, and of a sending replica
 pub record IsFeedInto (v : View) (c : ℕ) (feed : Feed) : Type 0 where

@@ -6,13 +6,10 @@ use Rattle.blz_value.specs.Graph.{is_in}
 use Rattle.topo_forms.specs.Regions.{regions, region_members}
 use Rattle.topo_forms.specs.Valid.{IsValid}
 use Rattle.blz_value.specs.NumberSets.{below}
+use Rattle.blz_value.proofs.Ranges.{Has-below as from_below}
 use Rattle.topo_forms.specs.View.{View, End, component_at, ends_of, origin_of, stream_numbers}
-use Rattle.topo_forms.proofs.Regions.Spreading.{from_below}
 use Rattle.topo_forms.proofs.Regions.RegionSets.{member_within}
 use Rattle.label_walk.specs.Paths.{AreComponents, AreInputs, IsInput, region_at, region_inputs, ends_in, is_from_outside}
-
-pub component_within : (v : View) → IsValid v → (s c o : ℕ) → s < length v.streams → origin_of v s ≡ Some (c, o) → c < length v.components
-component_within v valid s c o lt e = (valid.numbered.origins s (c, o) lt e).0
 
 pub output_within : (v : View) → IsValid v → (s c o : ℕ) → s < length v.streams → origin_of v s ≡ Some (c, o) → o < length (component_at v c).outputs
 output_within v valid s c o lt e = (valid.numbered.origins s (c, o) lt e).1

@@ -1,22 +1,13 @@
 -- Sums and counts over the numbers below a number: one number more, one more that passes, and those that don't pass.
-use Rattle.std.proofs.Common.{◌≡◌, ◌≢◌, ◌<◌, ◌≤◌, ◌+◌, ◌-◌, ◌==◌, ◌||◌, ◌++◌, ℕ, zero, suc, Bool, List, [], ◌∷◌, true, false, not, cond, refl, ap, ◌∙◌, sym, inl, inr, arith}
+use Rattle.std.proofs.Common.{◌≡◌, ◌≢◌, ◌<◌, ◌≤◌, ◌+◌, ◌-◌, ◌==◌, ◌||◌, ◌++◌, ℕ, zero, suc, Bool, [], ◌∷◌, true, false, not, cond, refl, ap, ◌∙◌, sym, inl, inr, arith}
 use Rattle.std.specs.List.{count_by, sum_by, range_with_len}
 use Rattle.std.proofs.lemmas.Bool.{cases_Bool, cases_order, eq-eqb, ne_eqb, or_left, or_right}
 use Rattle.std.proofs.lemmas.List.FromFn.{length-range_with_len}
 use Rattle.std.proofs.lemmas.List.Sums.{sum_by_push, count_by-le-length}
+use Rattle.blz_value.proofs.Ranges.{below_more}
 use Rattle.messages.specs.Numbers.{IsCountOf}
 
 -- ---- one more number
-
-range_more : (a n : ℕ) → range_with_len a (suc n) ≡ range_with_len a n ++ (a + n) ∷ []
-range_more a zero = let z : a ≡ a + 0 = omega arith in λ i. z i ∷ []
-range_more a (suc n) = let next : a + 1 + n ≡ a + suc n = omega arith in ap (λ (xs : List ℕ). a ∷ xs) (range_more (a + 1) n ∙ ap (λ (k : ℕ). range_with_len (a + 1) n ++ k ∷ []) next)
-
-below_more : (n : ℕ) → range_with_len 0 (n + 1) ≡ range_with_len 0 n ++ n ∷ []
-below_more n =
-    let one : n + 1 ≡ suc n = omega arith in
-    let own : 0 + n ≡ n = omega arith in
-    ap (range_with_len 0) one ∙ range_more 0 n ∙ ap (λ (k : ℕ). range_with_len 0 n ++ k ∷ []) own
 
 pub sum_below_more : (f : ℕ → ℕ) (n : ℕ) → sum_by f (range_with_len 0 (n + 1)) ≡ sum_by f (range_with_len 0 n) + f n
 sum_below_more f n = ap (sum_by f) (below_more n) ∙ sum_by_push f (range_with_len 0 n) n

@@ -10,6 +10,7 @@ use Rattle.blz_value.specs.Members.{Has}
 use Rattle.blz_value.specs.Operators.{cells}
 use Rattle.blz_value.specs.Record.{Row as Record}
 use Rattle.blz_value.specs.Message.{Message, row, seal, is_same_row, rows_in}
+use Rattle.blz_value.proofs.Lists.{length-rows_in-le}
 use Rattle.messages.specs.Emitted.{has_seal, count_in, with_seal, Continues}
 use Rattle.messages.specs.Ids.{message_with_id}
 use Rattle.messages.specs.Log.{row_with_id}
@@ -117,11 +118,6 @@ length-filter-le p (r ∷ rows) = go (p r) (length-filter-le p rows)
     go : (t : Bool) → length (filter p rows) ≤ length rows → length (cond t (r ∷ filter p rows) (filter p rows)) ≤ length (r ∷ rows)
     go true le = omega arith
     go false le = omega arith
-
-length-rows_in-le : (list : List Message) → length (rows_in list) ≤ length list
-length-rows_in-le [] = omega arith
-length-rows_in-le (row r ∷ list) = omega (arith, length-rows_in-le list)
-length-rows_in-le (seal key count ∷ list) = omega (arith, length-rows_in-le list)
 
 -- a count is at most the length
 pub count-le : (columns : List ℕ) (list : List Message) (key : Record) → count_in columns list key ≤ length list

@@ -12,16 +12,12 @@ use Rattle.blz_value.specs.Members.{Has}
 use Rattle.blz_value.specs.Record.{Row}
 use Rattle.blz_value.proofs.Membership.{Has-get_or, any_from_Has}
 use Rattle.blz_value.specs.Message.{is_same_row}
+use Rattle.blz_value.proofs.Booleans.{same_truth}
 use Rattle.messages.specs.Messages.{is_same_entry, with_new}
 use Rattle.messages.specs.Log.{EntryId, is_same_entry_id, row_with_id, entry_with_id, entries_with_ids, AreGiven, IsLog}
 use Rattle.messages.specs.Known.{is_known, KnowsAlso, IsKept}
 use Rattle.messages.proofs.NumbersLemmas.{none_set}
 use Rattle.messages.proofs.MessagesLemmas.{is_same_row-is, is_same_row-itself, any-from_same, same-from_any}
-
-same_truth : (a b : Bool) → (a ≡ true → b ≡ true) → (b ≡ true → a ≡ true) → a ≡ b
-same_truth true b there back = sym (there refl)
-same_truth false true there back = back refl
-same_truth false false there back = refl
 
 -- ---- the test of pairs is equality
 

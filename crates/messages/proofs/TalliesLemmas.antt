@@ -12,6 +12,7 @@ use Rattle.blz_pool.specs.Pool.{number_of}
 use Rattle.blz_pool.proofs.Positions.{position_from-last}
 use Rattle.blz_value.specs.Record.{Row}
 use Rattle.blz_value.specs.Message.{is_same_row}
+use Rattle.blz_value.proofs.Booleans.{or_false}
 use Rattle.messages.specs.PartitionCounts.{have_in, need_in, have_at, need_at, is_met}
 use Rattle.messages.specs.Feeds.{FeedView, is_enough, is_whole_in}
 use Rattle.messages.specs.Views.{have_of, need_of, feed_view, views_of}
@@ -280,10 +281,6 @@ module _ (count carrying : ℕ) (feeds : List Feed) (lacking : List ℕ) (t : Is
     ];
     few = each_few;
   }
-
-or_false : (b : Bool) → (b || false) ≡ b
-or_false true = refl
-or_false false = refl
 
 -- as the code says it
 module _ (count carrying : ℕ) (feeds : List Feed) (lacking : List ℕ) (t : IsTallied count carrying feeds lacking) (feed : ℕ) (was now : Feed) (below : feed < length feeds) (is : was ≡ get_or feeds feed was) (carries : now.carries ≡ was.carries)

@@ -3,6 +3,7 @@ use Rattle.std.proofs.Common.{◌≡◌, ◌&&◌, ◌==◌, ℕ, Bool, true, fa
 use Rattle.std.specs.List.{range_with_len}
 use Rattle.std.proofs.lemmas.Simd.{map-map}
 use Rattle.blz_value.specs.Bits.{bit_of}
+use Rattle.blz_value.proofs.Lists.{map_same as map-same}
 use Rattle.bloom_forms.specs.declared.module.Kind.TheVariants.{Input, Output}
 use Rattle.bloom_forms.specs.declared.program.Program.TheVariants.{Module}
 use Rattle.bloom_forms.specs.Checks.{IsChecked}
@@ -26,7 +27,6 @@ use Rattle.bloom_forms.specs.Uses.{both_uses, all_uses, use_if, reads_port, writ
 use Rattle.bloom_forms.proofs.Combining.Feeding.{feeds_by_closure}
 use Rattle.path_facts.proofs.GatesLemmas.{in_all-filter}
 use Rattle.bloom_forms.proofs.Reach.GoodTables.{reads_good_by_closure}
-use Rattle.path_annotate.proofs.Lists.{map-same}
 use Rattle.bloom_forms.proofs.ByNumber.NumbersLemmas.{map-places, length_numbers_of_kind}
 
 -- the uses of those rules that pass a test, others giving nothing

@@ -22,6 +22,7 @@ use Rattle.bloom_forms.specs.Numbered.{IsNumberedRule, AreNumbered}
 use Rattle.bloom_forms.specs.Query.{Name, Query}
 use Rattle.bloom_forms.specs.Reads.{set_of_name, named, arrows, scratch_arrows, scratch_arrow, cone, direct, kind_set}
 use Rattle.blz_value.specs.Arrows.{arrow_from, with_all, bit_if}
+use Rattle.blz_value.proofs.Lists.{map_same as map-same}
 use Rattle.bloom_forms.specs.Plain.{is_free, is_plain}
 use Rattle.bloom_forms.proofs.Reach.Unfolding.{number_small, bit_small}
 use Rattle.bloom_forms.proofs.Collections.Chosen.{from_chosen, in_chosen, chosen-lt}
@@ -37,7 +38,6 @@ use Rattle.bloom_forms.specs.HeadRoots.{roots_named, roots_table}
 use Rattle.path_annotate.specs.Code.Readings.{facts_of, rule_reading, readings_of}
 use Rattle.path_facts.specs.Readings.{rule_arrow, arrow_through, stopped, graph_of, gate_among, reading_from, readings_from, bad_among}
 use Rattle.path_facts.proofs.GatesLemmas.{in_all-append, in_all-filter, in_all-flat_map}
-use Rattle.path_annotate.proofs.Lists.{map-same}
 use Rattle.path_annotate.proofs.ByNumberLemmas.{named-same, plain-same, gate-same}
 use Rattle.path_annotate.proofs.ByNumberCorrect.{map-numbered}
 

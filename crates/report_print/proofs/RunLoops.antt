@@ -3,9 +3,9 @@ use Rattle.std.proofs.Common.{◌≡◌, ◌+◌, ℕ, ◌++◌, ◌∷◌, List
 use Rattle.std.specs.List.{flat_map}
 use Rattle.topo_forms.specs.Data.{Data}
 use Rattle.blz_value.specs.NumberSets.{below}
+use Rattle.blz_value.proofs.Ranges.{map_below_more, flat_below_more}
 use Rattle.topo_forms.specs.View.{View}
 use Rattle.inbox.specs.Executions.{Execution}
-use Rattle.label_walk.proofs.Loops.{flat_below_more, map_below_more}
 use Rattle.sched_run.specs.Reading.{IsRead}
 use Rattle.sched_run.specs.declared.books.Books.{Books}
 use Rattle.report_lines.specs.Words.{Text}

@@ -19,6 +19,7 @@ use Rattle.bloom_eval.specs.declared.kind.ProgramKind.TheVariants.{Module, Split
 use Rattle.bloom_eval.specs.Kind.{kind_of}
 use Rattle.topo_forms.specs.Valid.{IsValid}
 use Rattle.blz_value.specs.NumberSets.{below}
+use Rattle.blz_value.proofs.Ranges.{range_more}
 use Rattle.topo_forms.specs.View.{View, Component, no_component, program_of, replicas_of, component_numbers}
 use Rattle.sched_bench.specs.Bench.{number_of_kind, same_kind, fits_kind, fits_component, without_first, first_passing, taken_by, left_by, first_short, instance_components, first_without_body}
 use Rattle.sched_bench.specs.Code.Flags.{flagged, claimed, may_claim}
@@ -394,10 +395,6 @@ all_done f cs i xs before past many =
     sym (take_all i xs (omega (arith, past, many))) ∙ before ∙ ap (map f) (take_all i cs past)
 
 -- ---- the components of instances
-
-range_more : (a n : ℕ) → range_with_len a (suc n) ≡ range_with_len a n ++ (a + n) ∷ []
-range_more a zero = let z : a ≡ a + 0 = omega arith in λ i. z i ∷ []
-range_more a (suc n) = let next : a + 1 + n ≡ a + suc n = omega arith in ap (λ (xs : List ℕ). a ∷ xs) (range_more (a + 1) n ∙ ap (λ (k : ℕ). range_with_len (a + 1) n ++ k ∷ []) next)
 
 below_more : (n : ℕ) → below (n + 1) ≡ below n ++ n ∷ []
 below_more n =

@@ -17,12 +17,13 @@ use Rattle.blz_value.specs.Record.{Row as Record, record_cmp}
 use Rattle.blz_value.specs.Sets.{set_of}
 use Rattle.blz_value.proofs.Membership.{Has-get_or}
 use Rattle.blz_value.proofs.RowSets.{length-set_of-le}
+use Rattle.blz_value.proofs.Lists.{length-rows_in-le, lt-not}
 use Rattle.bloom_forms.specs.declared.program.Program.{Program}
 use Rattle.bloom_forms.specs.Program.{port_columns}
 use Rattle.topo_forms.specs.Data.{Data}
 use Rattle.bloom_forms.specs.HeadRoots.{attribute_roots}
 use Rattle.bloom_forms.specs.Roots.{Roots}
-use Rattle.topo_forms.specs.Messages.{Message, row, seal, row_in, rows_in}
+use Rattle.topo_forms.specs.Messages.{Message, row, row_in, rows_in}
 use Rattle.topo_forms.specs.Valid.{IsValid}
 use Rattle.topo_forms.specs.View.{View, Stream, component_at, senders_of, stream_at, stream_of, stream_replicas, is_order_mode}
 use Rattle.inbox.specs.Events.{Step}
@@ -44,19 +45,13 @@ use Rattle.inbox.specs.Places.{list_place, list_count}
 use Rattle.sched_run.specs.Reading.{AreEmitted, IsOrdered}
 use Rattle.sched_run.specs.declared.books.Books.{Books}
 use Rattle.sched_run.specs.Seen.{list_seen}
-use Rattle.sched_run.proofs.Found.{list_there, lt-not, no_stream_there, number_of_place}
+use Rattle.sched_run.proofs.Found.{list_there, no_stream_there, number_of_place}
 use Rattle.messages.proofs.ListsLemmas.{given-list, length-read_lists, read-at}
 use Rattle.sched_run.proofs.Showing.{emitted_shown}
 use Rattle.sched_run.proofs.RecordsCounted.{length-set_of-rows}
 use Rattle.sched_run.proofs.SortedRows.{set_of-shown}
 
 -- ---- rows of messages by ids
-
--- so many rows at most as messages
-pub few_rows_in : (messages : List Message) → length (rows_in messages) ≤ length messages
-few_rows_in [] = omega arith
-few_rows_in (row r ∷ messages) = omega (arith, few_rows_in messages)
-few_rows_in (seal key count ∷ messages) = omega (arith, few_rows_in messages)
 
 -- a record of a list is one of the pool
 pub row_given : (records : List Record) (list : List IdMessage) (r : Record) → All (IsGiven records) list → Has r (rows_in (read_list records list)) → Has r records
@@ -117,7 +112,7 @@ seen_within v lists s r = by_test (nat_lt s (length v.streams) && nat_lt r (stre
 -- the records of a list are few enough for a set
 pub few_read_rows : (l : Listed) (list : List IdMessage) (rows : List Record) → rows ≡ rows_in (read_list l.records list) → length list ≤ total l.lists → total l.lists ≤ message_limit → length (set_of rows) ≤ row_limit
 few_read_rows l list rows are inside few =
-    omega (arith, length-set_of-le rows, ap (λ (z : List Record). length z) are, few_rows_in (read_list l.records list), length-map list (message_with_id l.records), inside, few)
+    omega (arith, length-set_of-le rows, ap (λ (z : List Record). length z) are, length-rows_in-le (read_list l.records list), length-map list (message_with_id l.records), inside, few)
 
 -- and none of a replica that doesn't send
 pub none_past : (v : View) (lists : List (List IdMessage)) (s r : ℕ) → stream_replicas v s ≤ r → list_seen v lists s r ≡ []
@@ -187,7 +182,7 @@ module _ (v : View) (given : Data) (steps : List Step) (b : Books) (stand : Book
 
 -- ---- replicas of Order components
 
-is_order_output : (v : View) (s r c o : ℕ) (program : Program) → IsValid v → IsOrdered v s r c o program → IsOrderOutput (wiring_of v) s c o r program
+pub is_order_output : (v : View) (s r c o : ℕ) (program : Program) → IsValid v → IsOrdered v s r c o program → IsOrderOutput (wiring_of v) s c o r program
 is_order_output v s r c o program valid is =
     let ends = valid.numbered.origins s (c, o) is.there is.origin in
     let wired = instance-wired v c r ends.0 is.sends in

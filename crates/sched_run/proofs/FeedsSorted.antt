@@ -7,7 +7,6 @@ use Rattle.std.specs.List.{AllPairs, HoldsAt, flat_map, position, position_or_le
 use Rattle.std.specs.List.Sorted.{IsBinarySearchResult, IsSearchInRange, IsSortedBy}
 use Rattle.std.specs.Ordering.{is_eq, is_lt, ordering_then, ordering_reverse, nat_cmp}
 use Rattle.std.specs.Result.{result_ok}
-use Rattle.std.specs.declared.cmp.Ordering.{Ordering}
 use Rattle.std.specs.declared.cmp.Ordering.TheVariants.{Less, Equal, Greater}
 use Rattle.std.proofs.lemmas.Bool.{cases_lt, eq-eqb, eqb-true, lt-ltb, le-ltb}
 use Rattle.std.proofs.lemmas.Cmp.{nat_cmp_total, tied_itself, alike_right, on_total, then_total}
@@ -17,19 +16,15 @@ use Rattle.blz_value.specs.Members.{Has}
 use Rattle.blz_value.proofs.Membership.{Has-append_cases, Has-from_filter, Has-from_flat_map, Has-from_map, Has-get_or}
 use Rattle.topo_forms.specs.Feeds.{Feed, feeds_from, no_feed}
 use Rattle.blz_value.specs.NumberSets.{below}
+use Rattle.blz_value.proofs.Booleans.{same_truth}
+use Rattle.blz_value.proofs.Lists.{is_eq-then}
 use Rattle.topo_forms.specs.View.{View, port_numbers, streams_to, stream_replicas}
-use Rattle.topo_forms.proofs.Regions.Spreading.{same_truth}
 use Rattle.inbox.specs.Code.Senders.{is_sender, senders_for}
 use Rattle.inbox.specs.Wiring.{feeds_for}
 use Rattle.inbox.proofs.SendersLemmas.{feeds_sent}
 use Rattle.sched_run.specs.Code.Parts.{feed_cmp, FeedsRise}
 
 -- ---- orders of numbers
-
-is_eq-then : (o p : Ordering) → is_eq (ordering_then o p) ≡ (is_eq o && is_eq p)
-is_eq-then Less p = refl
-is_eq-then Equal p = refl
-is_eq-then Greater p = refl
 
 is_eq-numbers : (a b : ℕ) → is_eq (nat_cmp a b) ≡ (a == b)
 is_eq-numbers a b =

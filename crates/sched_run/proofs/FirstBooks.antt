@@ -7,6 +7,7 @@ use Rattle.std.proofs.lemmas.List.Sorted.{IsPermutation-map}
 use Rattle.blz_value.specs.Members.{Has}
 use Rattle.blz_value.specs.Record.{Row}
 use Rattle.blz_value.proofs.Membership.{Has-get_or}
+use Rattle.sched_run.proofs.ForgettingLemmas.{first_is}
 use Rattle.bloom_forms.specs.declared.program.Program.{Program}
 use Rattle.bloom_forms.specs.Step.{Sets}
 use Rattle.bloom_eval.specs.Step.{nothing_kept}
@@ -38,10 +39,6 @@ use Rattle.sched_bench.proofs.TakingLemmas.{all_have_bodies, all_taken}
 abbrev pub loaded_tables : View → List Sets
 loaded_tables v = map (λ c. nothing_kept (program_of v c)) (instance_components v)
 
-no_tables : (o : Option Program) → nothing_kept o ≡ first_tables o
-no_tables None = refl
-no_tables (Some program) = refl
-
 inside_components : (v : View) (c r : ℕ) → c < length v.components → r < replicas_of v c → instance_place v c r < length (instance_components v)
 inside_components v c r there within = subst (λ n. instance_place v c r < n) (sym (many_components v)) (place-before (replicas_of v) c r (length v.components) within there)
 
@@ -49,7 +46,7 @@ tables_at : (v : View) (c r : ℕ) → c < length v.components → r < replicas_
 tables_at v c r there within =
     get_or-map (λ n. nothing_kept (program_of v n)) (instance_components v) (instance_place v c r) 0 [] (inside_components v c r there within)
     ∙ ap (λ n. nothing_kept (program_of v n)) (component_at_place v c r 0 there within)
-    ∙ no_tables (program_of v c)
+    ∙ first_is (program_of v c)
     ∙ ap (λ (i : Instance). first_tables i.program) (sym (instance-wired v c r there within))
 
 -- ---- lists

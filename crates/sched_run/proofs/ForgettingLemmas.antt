@@ -42,7 +42,7 @@ use Rattle.inbox.proofs.OutletsLemmas.{others_itself}
 use Rattle.sched_run.proofs.SeatsLemmas.{later_pool, logs_stay, seats_after}
 use Rattle.sched_run.proofs.Showing.{is_there-true, outputs-shown}
 
-first_is : (o : Option Program) → nothing_kept o ≡ first_tables o
+pub first_is : (o : Option Program) → nothing_kept o ≡ first_tables o
 first_is None = refl
 first_is (Some p) = refl
 

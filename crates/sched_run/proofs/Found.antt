@@ -1,9 +1,9 @@
 -- The books of a net have the emitted list of each sending replica and the books of each instance at their places.
-use Rattle.std.proofs.Common.{◌≡◌, ◌<◌, ◌≤◌, ◌+◌, ◌-◌, ◌&&◌, ℕ, zero, suc, true, false, None, List, [], length, slice_get, ap, ◌∙◌, sym, inl, inr, arith, nat_lt, unwrap_or}
+use Rattle.std.proofs.Common.{◌≡◌, ◌<◌, ◌≤◌, ◌+◌, ◌-◌, ◌&&◌, ℕ, zero, suc, None, List, [], length, slice_get, ap, ◌∙◌, sym, inl, inr, arith, nat_lt, unwrap_or}
 use Rattle.std.specs.Prelude.{if◌then◌else◌}
 use Rattle.std.proofs.lemmas.Bool.{cases_lt, and_from}
-use Rattle.std.proofs.lemmas.Bool.Decides.{nat_tests}
 use Rattle.std.proofs.lemmas.List.{get_or_past}
+use Rattle.blz_value.proofs.Lists.{lt-is, lt-not}
 use Rattle.bloom_forms.specs.Query.{Name}
 use Rattle.topo_forms.specs.View.{View, Component, Port, no_component, number_named, replicas_of, stream_replicas}
 use Rattle.messages.specs.Lists.{list_at}
@@ -16,12 +16,6 @@ use Rattle.messages.proofs.ListsLemmas.{length-read_lists}
 use Rattle.inbox.proofs.PlacesLemmas.{before-more, place-before}
 
 -- ---- tests of numbers
-
-pub lt-is : (a b : ℕ) → a < b → nat_lt a b ≡ true
-lt-is a b less = (let e : nat_lt a b ≡ true = grind (arith, nat_tests) in e)
-
-pub lt-not : (a b : ℕ) → b ≤ a → nat_lt a b ≡ false
-lt-not a b more = (let e : nat_lt a b ≡ false = grind (arith, nat_tests) in e)
 
 -- ---- lists and seats that are there, or aren't
 

@@ -1,11 +1,11 @@
 -- An ear that heard a batch stands for what was heard with it, by the lists and the pool from which it came and by later ones.
-use Rattle.std.proofs.Common.{◌≡◌, ◌<◌, ℕ, zero, suc, Bool, true, false, Some, List, [], ◌∷◌, ◌++◌, length, get_or, slice_get, refl, ap, ◌∙◌, sym, subst, inl, inr, arith, append-nil}
+use Rattle.std.proofs.Common.{◌≡◌, ◌<◌, ℕ, zero, suc, Bool, true, false, Some, List, [], ◌∷◌, ◌++◌, length, get_or, slice_get, refl, ap, ◌∙◌, sym, subst, inl, inr, arith}
 use Rattle.std.specs.List.{All}
-use Rattle.std.proofs.lemmas.Grind.{flat_map-append}
 use Rattle.std.proofs.lemmas.Option.{slice_get_within, get_or_from_slice_get}
 use Rattle.blz_value.specs.Members.{Has}
 use Rattle.blz_value.specs.Record.{Row}
 use Rattle.blz_value.proofs.Membership.{Has-get_or, Has-append_left, Has-append_right, Has-append_cases, Has-from_map, All-of_member}
+use Rattle.inbox.proofs.TimestepLemmas.UnderSeal.{all_pairs-more}
 use Rattle.bloom_forms.specs.Step.{Sets}
 use Rattle.topo_forms.specs.Messages.{Message}
 use Rattle.topo_forms.specs.View.{View, is_order}
@@ -29,10 +29,6 @@ use Rattle.sched_run.specs.declared.seated.Ear.{Ear}
 use Rattle.sched_run.specs.declared.seated.Ear.TheVariants.{Hears, Takes}
 use Rattle.sched_run.specs.declared.seated.Seated.{Seated}
 use Rattle.sched_run.proofs.SeatsLemmas.{HasGrown, repeats-itself, found_on, stays_at}
-
--- a batch more
-pub pairs_with : (batches : List Batch) (batch : Batch) → all_pairs (batches ++ batch ∷ []) ≡ all_pairs batches ++ batch
-pairs_with batches batch = flat_map-append (λ (b : Batch). b) batches (batch ∷ []) ∙ ap (λ l. all_pairs batches ++ l) (append-nil batch)
 
 -- ---- indexes
 
@@ -131,7 +127,7 @@ module _ (v : View) (l : Listed) (c r : ℕ) (seat : Seat) (pairs : List (ℕ ×
                 (stands_later i l.records new.records (seat.heard ++ batch ∷ []) next later (hears.0.heard i seat.heard shows.heard));
             kept = keeps_later l.records new.records next later hears.0.kept;
             feeds = hears.0.feeds ∙ shows.feeds;
-            known = subst (λ all. KnowsHeard v i (read_lists new) all known_now) (sym (ap all_pairs heard ∙ pairs_with seat.heard batch))
+            known = subst (λ all. KnowsHeard v i (read_lists new) all known_now) (sym (ap all_pairs heard ∙ all_pairs-more seat.heard batch))
                 (known_with v i (read_lists l) (read_lists new) (all_pairs seat.heard) batch known indexes known_now grown (feeds_of_batch l.records pairs (length (feeds_for v c r)) feeds) shows.known have hears.1);
           }
       ear_after (Hears inbox known) (Takes taken) shows hears = absurd hears

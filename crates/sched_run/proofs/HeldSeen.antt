@@ -7,6 +7,7 @@ use Rattle.std.proofs.lemmas.Option.{slice_get_cases}
 use Rattle.blz_value.specs.Record.{Row as Record}
 use Rattle.topo_forms.specs.Data.{Data}
 use Rattle.blz_value.specs.NumberSets.{below}
+use Rattle.blz_value.proofs.Lists.{lt-not}
 use Rattle.topo_forms.specs.View.{View, Component, no_component, component_numbers, replicas_of, is_order, is_order_mode}
 use Rattle.inbox.specs.Completeness.{held_count_at}
 use Rattle.inbox.specs.Events.{Part, Step}
@@ -28,7 +29,7 @@ use Rattle.sched_run.specs.declared.seated.Ear.{Ear}
 use Rattle.sched_run.specs.declared.seated.Ear.TheVariants.{Hears, Takes}
 use Rattle.sched_run.specs.declared.seated.Seated.{Seated}
 use Rattle.sched_run.specs.Seen.{seat_seen, IsHeldBy}
-use Rattle.sched_run.proofs.Found.{lt-not, seat_there, no_seat_there, instance_within}
+use Rattle.sched_run.proofs.Found.{seat_there, no_seat_there, instance_within}
 use Rattle.sched_run.proofs.Showing.{is_there-true}
 
 -- ---- who hears nothing

@@ -16,11 +16,12 @@ use Rattle.topo_forms.specs.Data.{Data}
 use Rattle.topo_forms.specs.Feeds.{Feed, no_feed, are_paired, feeds, feeds_at, feeds_from, log_feeds, paired_senders}
 use Rattle.topo_forms.specs.Messages.{Message, rows_in}
 use Rattle.blz_value.specs.NumberSets.{below}
+use Rattle.blz_value.proofs.Booleans.{same_truth}
+use Rattle.blz_value.proofs.Ranges.{Has-below}
 use Rattle.topo_forms.specs.Valid.{IsValid, IsWhole, Validated}
 use Rattle.topo_forms.specs.Bounded.{IsBounded}
 use Rattle.topo_forms.specs.View.{View, End, Stream, no_stream, component_at, goes_to, origin_of, port_numbers, replicas_of, senders_of, stream_numbers, stream_replicas, streams_to, is_order, is_order_mode}
 use Rattle.topo_forms.specs.ViewOf.{modules_in}
-use Rattle.topo_forms.proofs.Regions.Spreading.{same_truth}
 use Rattle.topo_forms.proofs.Views.ViewBounds.{view_bounded}
 use Rattle.inbox.specs.Completeness.{IsComplete, held_count_at, unheard, undelivered, unordered, untaken, left_of, left_out, left_at, left_count}
 use Rattle.inbox.specs.Events.{Step}
@@ -54,7 +55,7 @@ use Rattle.sched_run.proofs.Counting.{numbers_counted, rows_counted, length-join
 use Rattle.sched_run.proofs.EmittedSeen.{seen_emitted, seen_length}
 use Rattle.sched_run.proofs.HeldSeen.{component_of_replica, not_there}
 use Rattle.sched_run.proofs.ListPlaces.{row_listed, id_given}
-use Rattle.inbox.proofs.PlacesLemmas.{Has-below, range_has}
+use Rattle.inbox.proofs.PlacesLemmas.{range_has}
 use Rattle.sched_run.proofs.Showing.{is_there-true, emitted_shown, sums_same, sums_numbered}
 
 -- ---- limits of a topology

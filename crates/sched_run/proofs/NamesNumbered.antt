@@ -1,14 +1,15 @@
 -- The name of a stream, of a component or of a port is found at its number.
-use Rattle.std.proofs.Common.{◌≡◌, ◌≢◌, ◌<◌, ◌+◌, ◌∷◌, ℕ, zero, suc, Bool, true, false, cond, not, unwrap_or, Option, None, Some, List, [], length, map, take, get_or, refl, ap, ◌∙◌, sym, subst, inl, inr, arith, add-zero}
-use Rattle.std.specs.List.{AllPairs, position_from}
+use Rattle.std.proofs.Common.{◌≡◌, ◌≢◌, ◌<◌, ◌+◌, ◌∷◌, ℕ, false, not, unwrap_or, Option, None, Some, List, [], length, map, take, get_or, refl, ap, ◌∙◌, sym, subst, inl, inr, arith}
+use Rattle.std.specs.List.{AllPairs}
 use Rattle.std.specs.Str.{bytes_eq}
 use Rattle.std.proofs.lemmas.Bool.{cases_Bool}
 use Rattle.std.proofs.lemmas.List.{get_or-map, length-map}
 use Rattle.std.proofs.lemmas.Slice.Eq.{bytes_eq-Decides}
+use Rattle.blz_value.proofs.Booleans.{neither}
+use Rattle.blz_value.proofs.Options.{first_place}
 use Rattle.bloom_forms.specs.declared.program.Program.{Program}
 use Rattle.bloom_forms.specs.Form.{Accepted}
 use Rattle.bloom_forms.specs.Query.{Name}
-use Rattle.bloom_forms.proofs.Faults.Levels.{neither}
 use Rattle.topo_forms.specs.declared.fault.TopoKind.TheVariants as kind
 use Rattle.topo_forms.specs.declared.topology.ComponentEntry.{ComponentEntry}
 use Rattle.topo_forms.specs.declared.topology.Side.{Side}
@@ -26,16 +27,6 @@ use Rattle.topo_forms.proofs.Views.ViewRuns.{Made, made, names_apart, ports_apar
 use Rattle.sched_run.specs.Numbered.{stream_number, component_number, port_number}
 
 -- ---- a name that stands once
-
--- the first place at which a test passes
-first_place : {X : Type 0} (test : X → Bool) (xs : List X) (a k : ℕ) (d : X) → k < length xs → test (get_or xs k d) ≡ true → ((j : ℕ) → j < k → test (get_or xs j d) ≡ false) → position_from test a xs ≡ Some (a + k)
-first_place test [] a k d within here before = absurd (omega (arith, within))
-first_place test (x ∷ xs) a zero d within here before =
-    ap (λ b. cond b (Some a) (position_from test (a + 1) xs)) here ∙ ap Some (sym (add-zero a))
-first_place test (x ∷ xs) a (suc k) d within here before =
-    ap (λ b. cond b (Some a) (position_from test (a + 1) xs)) (before 0 (omega arith))
-    ∙ first_place test xs (a + 1) k d (omega (arith, within)) here (λ j less. before (suc j) (omega (arith, less)))
-    ∙ ap Some (let e : a + 1 + k ≡ a + suc k = omega arith in e)
 
 unequal : (a b : Name) → a ≢ b → bytes_eq a b ≡ false
 unequal a b other = elim (cases_Bool (bytes_eq a b)) [ inl e ↦ absurd (other ((bytes_eq-Decides a b).0 e)) | inr e ↦ e ]

@@ -6,6 +6,7 @@ use Rattle.std.proofs.lemmas.Bool.{cases_lt, and_parts}
 use Rattle.std.proofs.lemmas.Bool.Decides.{nat_tests}
 use Rattle.std.proofs.lemmas.List.{get_or_past}
 use Rattle.std.proofs.lemmas.Option.{slice_get_within, slice_get_cases, get_or_from_slice_get, slice_get-get_or, slice_get-map}
+use Rattle.blz_value.proofs.Lists.{lt-is, lt-not}
 use Rattle.bloom_eval.specs.Step.{Arrive}
 use Rattle.blz_pool.specs.Pool.{IsPool}
 use Rattle.bloom_forms.specs.declared.program.Program.{Program}
@@ -46,23 +47,17 @@ use Rattle.sched_run.proofs.Showing.{is_there-true}
 
 -- ---- who takes
 
-test_false : (n m : ℕ) → m ≤ n → nat_lt n m ≡ false
-test_false n m le = grind (arith, nat_tests)
-
-test_true : (n m : ℕ) → n < m → nat_lt n m ≡ true
-test_true n m lt = grind (arith, nat_tests)
-
 no_component_there : (v : View) (c r : ℕ) → length v.components ≤ c → is_there (wiring_of v) c r ≡ false
 unfolding wiring_of
 no_component_there v c r past =
     let many : length (wiring_of v).components ≡ length v.components = length-below _ (length v.components) in
-    ap (λ (l : List Instance). nat_lt r (length l)) (get_or_past (wiring_of v).components c [] (omega (arith, many, past))) ∙ test_false r 0 (omega arith)
+    ap (λ (l : List Instance). nat_lt r (length l)) (get_or_past (wiring_of v).components c [] (omega (arith, many, past))) ∙ lt-not r 0 (omega arith)
 
 -- whether an instance is there
 pub there_tested : (v : View) (c r : ℕ) → is_there (wiring_of v) c r ≡ (nat_lt c (length v.components) && nat_lt r (replicas_of v c))
 there_tested v c r = elim (cases_lt c (length v.components)) [
-  | inl there ↦ there-wired v c r there ∙ ap (λ b. b && nat_lt r (replicas_of v c)) (sym (test_true c (length v.components) there))
-  | inr past ↦ no_component_there v c r past ∙ ap (λ b. b && nat_lt r (replicas_of v c)) (sym (test_false c (length v.components) past))
+  | inl there ↦ there-wired v c r there ∙ ap (λ b. b && nat_lt r (replicas_of v c)) (sym (lt-is c (length v.components) there))
+  | inr past ↦ no_component_there v c r past ∙ ap (λ b. b && nat_lt r (replicas_of v c)) (sym (lt-not c (length v.components) past))
 ]
 
 pub takes_tested : (v : View) (c r : ℕ) → (is_there (wiring_of v) c r && is_order_mode (instance_at (wiring_of v) c r).mode) ≡ takes_itself v c r
@@ -71,14 +66,14 @@ takes_tested v c r = elim (cases_lt c (length v.components)) [
     | inl within ↦
         ap (λ b. b && is_order_mode (instance_at (wiring_of v) c r).mode) (is_there-true v c r there within)
         ∙ ap (λ (i : Instance). is_order_mode i.mode) (instance-wired v c r there within)
-        ∙ sym (ap (λ b. b && (nat_lt r (replicas_of v c) && is_order v c)) (test_true c (length v.components) there) ∙ ap (λ b. b && is_order v c) (test_true r (replicas_of v c) within))
+        ∙ sym (ap (λ b. b && (nat_lt r (replicas_of v c) && is_order v c)) (lt-is c (length v.components) there) ∙ ap (λ b. b && is_order v c) (lt-is r (replicas_of v c) within))
     | inr out ↦
-        ap (λ b. b && is_order_mode (instance_at (wiring_of v) c r).mode) (there-wired v c r there ∙ test_false r (replicas_of v c) out)
-        ∙ sym (ap (λ b. b && (nat_lt r (replicas_of v c) && is_order v c)) (test_true c (length v.components) there) ∙ ap (λ b. b && is_order v c) (test_false r (replicas_of v c) out))
+        ap (λ b. b && is_order_mode (instance_at (wiring_of v) c r).mode) (there-wired v c r there ∙ lt-not r (replicas_of v c) out)
+        ∙ sym (ap (λ b. b && (nat_lt r (replicas_of v c) && is_order v c)) (lt-is c (length v.components) there) ∙ ap (λ b. b && is_order v c) (lt-not r (replicas_of v c) out))
   ]
   | inr past ↦
       ap (λ b. b && is_order_mode (instance_at (wiring_of v) c r).mode) (no_component_there v c r past)
-      ∙ sym (ap (λ b. b && (nat_lt r (replicas_of v c) && is_order v c)) (test_false c (length v.components) past))
+      ∙ sym (ap (λ b. b && (nat_lt r (replicas_of v c) && is_order v c)) (lt-not c (length v.components) past))
 ]
 
 -- the parts of the test
@@ -157,7 +152,7 @@ module _ (v : View) (given : Data) (steps : List Step) (loaded : List (Option Pr
       past : (log : List Entry) (n : ℕ) → slice_get log n ≡ None → nat_lt n (length log) ≡ false
       past log n none = elim (slice_get_cases log n).1 [
         | inl at ↦ (let no : Some at.0 ≡ None = sym at.2 ∙ none in cc)
-        | inr out ↦ test_false n (length log) out.0
+        | inr out ↦ lt-not n (length log) out.0
       ]
 
   -- there is one
@@ -172,7 +167,7 @@ module _ (v : View) (given : Data) (steps : List Step) (loaded : List (Option Pr
     inside = slice_get_within (x.logs c) (x.lives c r).last.taken own_entry is_next
 
     legal : after_event (wiring_of v) given (take_one c r) x ≡ Ok (with_lives c r take_entry x)
-    legal = taking_test true (test_true (x.lives c r).last.taken (length (x.logs c)) inside)
+    legal = taking_test true (lt-is (x.lives c r).last.taken (length (x.logs c)) inside)
 
     order_here : is_order_mode (instance_at (wiring_of v) c r).mode ≡ true
     order_here = ap (λ (i : Instance). is_order_mode i.mode) (instance-wired v c r parts.there parts.within) ∙ parts.order

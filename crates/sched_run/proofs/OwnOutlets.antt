@@ -1,12 +1,14 @@
 -- The outlets of an instance: their lists are its own, each with the key that its stream carries.
 use Rattle.std.proofs.Common.{◌≡◌, ◌<◌, ◌≤◌, ◌+◌, ◌==◌, ℕ, zero, suc, Bool, true, false, cond, Option, None, Some, List, [], ◌∷◌, ◌++◌, length, map, filter, get_or, slice_get, refl, ap, ◌∙◌, sym, subst, inl, inr, arith}
-use Rattle.std.specs.List.{flat_map, range_with_len, position_from}
+use Rattle.std.specs.List.{flat_map, range_with_len}
 use Rattle.std.specs.Option.{option_map_or, option_and_then}
 use Rattle.std.proofs.lemmas.Bool.{eqb-true, eq-eqb, and_parts, and_from, false_from_ne_true}
 use Rattle.std.proofs.lemmas.Option.{slice_get-get_or}
 use Rattle.blz_value.specs.Members.{Has}
 use Rattle.blz_value.proofs.Membership.{Has-from_map, Has-from_filter}
 use Rattle.blz_value.specs.NumberSets.{below}
+use Rattle.blz_value.proofs.Ranges.{Has-below}
+use Rattle.blz_value.proofs.Options.{first_place}
 use Rattle.topo_forms.specs.Valid.{IsValid}
 use Rattle.topo_forms.specs.View.{View, End, Stream, no_stream, stream_of, same_end, component_at, origin_of, replicas_of, stream_replicas, senders_of, comes_from, streams_from, stream_numbers}
 use Rattle.inbox.specs.Emission.{output_key}
@@ -17,7 +19,7 @@ use Rattle.inbox.specs.Code.Running.{outputs_of_outlets}
 use Rattle.inbox.specs.Outlets.{AreApart, output_number, outlet_for, outlets_for}
 use Rattle.inbox.specs.Places.{list_place, list_count}
 use Rattle.inbox.specs.declared.outlets.Outlet.{Outlet}
-use Rattle.inbox.proofs.PlacesLemmas.{Has-below, place-before, one_place}
+use Rattle.inbox.proofs.PlacesLemmas.{place-before, one_place}
 
 -- ---- streams from a component
 
@@ -100,15 +102,6 @@ outlets_outputs v c r valid o h =
 
 -- ---- the keys
 
--- a place that passes, where none before it does, is the first
-first_at : {X : Type 0} (p : X → Bool) (xs : List X) (from k : ℕ) (d : X) → k < length xs → p (get_or xs k d) ≡ true → ((j : ℕ) → j < k → p (get_or xs j d) ≡ false) → position_from p from xs ≡ Some (from + k)
-first_at p [] from k d within passes none = absurd (omega (arith, within))
-first_at p (x ∷ xs) from zero d within passes none = ap (λ b. cond b (Some from) (position_from p (from + 1) xs)) passes ∙ ap (λ n. Some n) (let e : from ≡ from + 0 = omega arith in e)
-first_at p (x ∷ xs) from (suc k) d within passes none =
-    ap (λ b. cond b (Some from) (position_from p (from + 1) xs)) (none 0 (omega arith))
-    ∙ first_at p xs (from + 1) k d (omega (arith, within)) passes (λ j less. none (suc j) (omega (arith, less)))
-    ∙ ap (λ n. Some n) (let e : from + 1 + k ≡ from + suc k = omega arith in e)
-
 is_from : (o : Option End) (c output : ℕ) → option_map_or (same_end (c, output)) o false ≡ true → o ≡ Some (c, output)
 is_from None c output e = cc
 is_from (Some spot) c output e =
@@ -122,7 +115,7 @@ from_is o c output e = ap (λ t. option_map_or (same_end (c, output)) t false) e
 -- the stream of an output is the one that comes from it
 pub own_stream : (v : View) (c s output : ℕ) → IsValid v → s < length v.streams → origin_of v s ≡ Some (c, output) → stream_of v c output ≡ Some s
 own_stream v c s output valid there comes =
-    first_at (λ (stream : Stream). option_map_or (same_end (c, output)) stream.origin false) v.streams 0 s no_stream there (from_is (origin_of v s) c output comes)
+    first_place (λ (stream : Stream). option_map_or (same_end (c, output)) stream.origin false) v.streams 0 s no_stream there (from_is (origin_of v s) c output comes)
     (λ j less. false_from_ne_true (option_map_or (same_end (c, output)) (origin_of v j) false)
     (λ passes. let same : j ≡ s = valid.numbered.one_stream j s (c, output) (omega (arith, less, there)) there (is_from (origin_of v j) c output passes) comes in omega (arith, same, less)))
     ∙ ap (λ n. Some n) (let e : 0 + s ≡ s = omega arith in e)

@@ -59,7 +59,7 @@ repeats-itself (row r) = is_same_row-itself r
 repeats-itself (seal key count) = is_same_row-itself key
 
 -- what stands in a list stands there by number
-has-by_number : (xs : List Message) (index : ℕ) (m : Message) → slice_get xs index ≡ Some m → Has m xs
+pub has-by_number : (xs : List Message) (index : ℕ) (m : Message) → slice_get xs index ≡ Some m → Has m xs
 has-by_number xs index m is = subst (λ q. Has q xs) (get_or_from_slice_get xs index m m is) (Has-get_or xs index m (slice_get_within xs index m is))
 
 -- a message of a list stands at no place that comes later

@@ -10,6 +10,7 @@ use Rattle.bloom_forms.specs.Step.{Sets}
 use Rattle.topo_forms.specs.Data.{Data}
 use Rattle.topo_forms.specs.Messages.{Message}
 use Rattle.blz_value.specs.NumberSets.{below}
+use Rattle.blz_value.proofs.Ranges.{Has-below}
 use Rattle.topo_forms.specs.Valid.{IsValid}
 use Rattle.topo_forms.specs.View.{View, End, no_stream, stream_at, component_at, origin_of, program_of, replicas_of, senders_of, stream_replicas, streams_from}
 use Rattle.messages.specs.Messages.{Entry}
@@ -34,7 +35,6 @@ use Rattle.inbox.specs.declared.outlets.Outlet.{Outlet}
 use Rattle.inbox.proofs.Emitting.{proper_stands, standing_is_emitted}
 use Rattle.inbox.proofs.OutletsLemmas.{own-shown, own_at_most}
 use Rattle.sched_run.proofs.OwnOutlets.{from_component, outlets_apart, outlets_there, outlets_outputs, outlets_keys, outlets_are}
-use Rattle.inbox.proofs.PlacesLemmas.{Has-below}
 use Rattle.sched_run.proofs.Totals.{all_of_all}
 
 -- ---- emitted lists

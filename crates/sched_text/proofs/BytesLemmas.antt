@@ -1,33 +1,22 @@
 -- Names are texts of ASCII, and what one more digit makes of a number.
-use Rattle.std.proofs.Common.{◌≡◌, ℕ, ◌+◌, ◌-◌, ◌*◌, ◌<◌, ◌≤◌, ◌^◌, Bool, true, false, ◌&&◌, None, List, [], ◌∷◌, length, take, get_or, refl, ap, ◌∙◌, arith, rules}
+use Rattle.std.proofs.Common.{◌≡◌, ℕ, ◌+◌, ◌-◌, ◌*◌, ◌<◌, ◌≤◌, ◌^◌, Bool, true, false, ◌&&◌, None, [], ◌∷◌, length, take, get_or, refl, ap, ◌∙◌, arith, rules}
 use Rattle.std.specs.Char.{is_ascii_digit, digit_value}
-use Rattle.std.specs.Cmp.{first_so, second_so}
-use Rattle.std.specs.List.{list_all, AllByRecursion}
+use Rattle.std.specs.Cmp.{second_so}
+use Rattle.std.specs.List.{list_all}
 use Rattle.std.specs.Str.{IsUtf8}
 use Rattle.std.specs.Str.Parse.{digits_value}
 use Rattle.std.specs.Prelude.{nat_lt, nat_le}
 use Rattle.std.proofs.lemmas.Bool.Decides.{nat_tests}
 use Rattle.std.proofs.lemmas.Int.Digits.{digits_value_more}
 use Rattle.std.proofs.lemmas.List.{length-take-le}
-use Rattle.std.proofs.lemmas.List.Elements.{All-from_recursion}
 use Rattle.std.proofs.lemmas.List.Folds.{list_all_more}
-use Rattle.std.proofs.lemmas.Str.{IsUtf8-from_ascii, digit_value_digit}
-use Rattle.std.proofs.lemmas.Str.Ascii.{IsAscii-from_all}
+use Rattle.std.proofs.lemmas.Str.{digit_value_digit}
 use Rattle.std.proofs.lemmas.Str.Parse.{IsNumeralModel, numerals_by_value, digits_value_short}
 use Rattle.blz_value.specs.Name.{is_name, is_name_byte, starts_name}
+use Rattle.blz_value.proofs.Lists.{utf8_of_all, name_byte_small}
 use Rattle.sched_text.specs.Fields.{Field, name_of, number_of, is_number, only_if}
 
 -- ---- texts of ASCII
-
-all_below : (p : ℕ → Bool) → ((b : ℕ) → p b ≡ true → b < 128) → (bs : List ℕ) → list_all p bs ≡ true → AllByRecursion (λ b. b < 128) bs
-all_below p h [] e = tt
-all_below p h (b ∷ bs) e = (h b (first_so (p b) (list_all p bs) e), all_below p h bs (second_so (p b) (list_all p bs) e))
-
-utf8_of_all : (p : ℕ → Bool) → ((b : ℕ) → p b ≡ true → b < 128) → (bs : List ℕ) → list_all p bs ≡ true → IsUtf8 bs
-utf8_of_all p h bs e = IsUtf8-from_ascii bs (IsAscii-from_all bs (All-from_recursion (λ b. b < 128) bs (all_below p h bs e)))
-
-name_byte_small : (b : ℕ) → is_name_byte b ≡ true → b < 128
-name_byte_small b h = grind (arith, nat_tests)
 
 -- ---- names
 

@@ -1,17 +1,13 @@
 -- What stands in a level above some sizes.
 use Rattle.std.proofs.Common.{◌≡◌, ◌<◌, ◌≤◌, ◌+◌, ◌-◌, ◌*◌, ◌/◌, ◌^◌, ℕ, zero, suc, List, [], ◌∷◌, length, take, set, get_or, ◌++◌, refl, ap, sym, subst, ◌∙◌, ◌≢◌, add-one, inl, inr, length-append, arith}
 use Rattle.std.specs.List.{sum}
-use Rattle.std.proofs.lemmas.List.Sums.{sum_by-cons}
 use Rattle.std.proofs.lemmas.List.{take_more, get_or_default, get_or-set_other, get_or-set_same, length-set}
 use Rattle.std.proofs.Math.ListN.{get_or-append}
 use Rattle.std.proofs.Math.Seq.{get_or-append_seam}
 use Rattle.std.proofs.lemmas.Bool.{cases_lt}
+use Rattle.blz_value.proofs.Lists.{sum-cons}
 use Rattle.sched_turns.specs.Sizes.{IsPlaceOf}
 use Rattle.sched_turns.specs.Code.Levels.{halved, level_of, lowest, AreLevels, GoesDown}
-
--- a sum goes on from its first size
-pub sum-cons : (x : ℕ) (xs : List ℕ) → sum (x ∷ xs) ≡ x + sum xs
-sum-cons x xs = sum_by-cons (λ n. n) x xs
 
 -- a size above is that of a pair
 pub at_pair : (xs : List ℕ) (k m : ℕ) → m ≡ 2 * k → get_or (halved xs) k 0 ≡ get_or xs m 0 + get_or xs (suc m) 0

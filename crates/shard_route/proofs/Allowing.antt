@@ -10,8 +10,9 @@ use Rattle.std.proofs.lemmas.List.Folds.{list_all-append}
 use Rattle.std.proofs.lemmas.Slice.Eq.{bytes_eq-Decides}
 use Rattle.blz_value.specs.Members.{Has}
 use Rattle.blz_value.specs.Name.{is_name, is_name_start, is_name_byte, starts_name}
+use Rattle.blz_value.proofs.Booleans.{and_true, both_true, or_right, neither}
+use Rattle.blz_value.proofs.Lists.{any-none as any_none}
 use Rattle.bloom_forms.specs.Query.{Name}
-use Rattle.bloom_forms.proofs.Faults.Levels.{neither}
 use Rattle.topo_forms.specs.declared.topology.SourceEntry.{SourceEntry}
 use Rattle.topo_forms.specs.declared.topology.ComponentEntry.{ComponentEntry}
 use Rattle.topo_forms.specs.declared.topology.StreamEntry.{StreamEntry}
@@ -19,9 +20,7 @@ use Rattle.topo_forms.specs.declared.topology.FdEntry.{FdEntry}
 use Rattle.topo_forms.specs.declared.topology.Spot.{Spot}
 use Rattle.topo_forms.specs.declared.topology.Topology.{Topology}
 use Rattle.topo_forms.specs.Allowed.{IsAllowed, are_names, are_some_names, is_spot, allows_source, allows_body, allows_note, allows_key, allows_component, allows_stream, most_names, allows_side, allows_fd}
-use Rattle.topo_forms.proofs.Regions.Spreading.{both_true, and_true}
 use Rattle.shard_route.specs.Routing.{numbered, file_of, copied_spot, sharded_spot, sharded_ends, sharded_source, copied_component, sharded_component, copied_stream, sharded_stream, sharded_topology, is_long_name, has_file, has_bad_names}
-use Rattle.shard_route.proofs.Faultless.{any_none}
 
 -- ---- lists
 
@@ -47,10 +46,6 @@ any_append p (x ∷ xs) ys e =
     (rw (n.0, more.0) refl, more.1)
 
 -- ---- names
-
-or_right : (a b : Bool) → b ≡ true → (a || b) ≡ true
-or_right true b e = refl
-or_right false b e = e
 
 digit_named : (n : ℕ) → n < 10 → is_name_byte (48 + n) ≡ true
 digit_named n lt = or_right (is_name_start (48 + n)) (nat_le 48 (48 + n) && nat_le (48 + n) 57) (and_true (nat_le 48 (48 + n)) (nat_le (48 + n) 57) (le-leb 48 (48 + n) (omega arith)) (le-leb (48 + n) 57 (omega (arith, lt))))

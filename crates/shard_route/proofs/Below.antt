@@ -1,14 +1,8 @@
 -- Walks over the numbers below a count.
-use Rattle.std.proofs.Common.{◌≡◌, ◌∙◌, ◌<◌, ◌+◌, ◌||◌, ℕ, Bool, true, false, [], ◌∷◌, refl, ap}
+use Rattle.std.proofs.Common.{◌≡◌, ◌∙◌, ◌<◌, ◌+◌, ◌||◌, ℕ, Bool, false, [], ◌∷◌, refl, ap}
 use Rattle.std.specs.List.{list_any, range_with_len}
 use Rattle.std.proofs.lemmas.List.Folds.{list_any-append}
-use Rattle.topo_forms.proofs.Regions.Spreading.{in_below}
-use Rattle.label_walk.proofs.Loops.{below_more}
-use Rattle.shard_route.proofs.Walks.{any_has}
-
--- one number that passes is enough
-pub found_below : (p : ℕ → Bool) (count n : ℕ) → n < count → p n ≡ true → list_any p (range_with_len 0 count) ≡ true
-found_below p count n lt t = any_has p (range_with_len 0 count) n (in_below count n lt) t
+use Rattle.blz_value.proofs.Ranges.{below_more}
 
 -- one more that doesn't pass
 pub none_below : (p : ℕ → Bool) (n : ℕ) → list_any p (range_with_len 0 n) ≡ false → p n ≡ false → list_any p (range_with_len 0 (n + 1)) ≡ false

@@ -1,5 +1,5 @@
 -- A copy of a module without a fault has none, but that its rules may be too deep.
-use Rattle.std.proofs.Common.{◌≡◌, ◌∙◌, ◌&&◌, ◌||◌, ◌+◌, not, ℕ, Bool, true, false, if◌then◌else◌, nat_lt, bit_or, pos, None, Some, List, [], ◌∷◌, ◌++◌, length, map, refl, ap, sym, subst, inl, inr}
+use Rattle.std.proofs.Common.{◌≡◌, ◌∙◌, ◌&&◌, ◌||◌, ◌+◌, not, ℕ, Bool, true, false, if◌then◌else◌, nat_lt, bit_or, pos, None, Some, List, [], ◌∷◌, ◌++◌, length, map, refl, ap, sym, inl, inr}
 use Rattle.std.specs.Prelude.{◌==◌, int_lt}
 use Rattle.std.specs.List.{list_all, list_any}
 use Rattle.std.specs.Option.{option_or}
@@ -27,7 +27,8 @@ use Rattle.bloom_forms.specs.Query.{Name, Formula, Query}
 use Rattle.bloom_forms.specs.Query.Query.{base, select, project, join, notin, group, at_least}
 use Rattle.bloom_forms.specs.Reads.{set_of_name, named, arrows, scratch_arrows, cone, kind_set, is_momentary}
 use Rattle.blz_value.specs.Arrows.{arrow_from}
-use Rattle.bloom_forms.proofs.Faults.Levels.{neither}
+use Rattle.blz_value.proofs.Lists.{none_any, any-none}
+use Rattle.blz_value.proofs.Booleans.{none_of, neither}
 use Rattle.bloom_forms.specs.Shards.{over_bucket, copied_rule}
 use Rattle.shard_route.specs.Copies.{copied_form, is_too_deep}
 use Rattle.shard_route.specs.Copying.{IsTestOf}
@@ -39,18 +40,6 @@ use Rattle.shard_route.specs.Copying.{IsTestOf}
 twice : (b : Bool) → (b && b) ≡ b
 twice true = refl
 twice false = refl
-
-both_no : (a b : Bool) → a ≡ false → b ≡ false → (a || b) ≡ false
-both_no a b e f = rw e f
-
-pub none_any : {X : Type 0} (p : X → Bool) (xs : List X) → ((x : X) → Has x xs → p x ≡ false) → list_any p xs ≡ false
-none_any p [] each = refl
-none_any p (x ∷ xs) each = both_no (p x) (list_any p xs) (each x (inl refl)) (none_any p xs (λ y h. each y (inr h)))
-
-pub any_none : {X : Type 0} (p : X → Bool) (xs : List X) → list_any p xs ≡ false → (x : X) → Has x xs → p x ≡ false
-any_none p [] e x h = absurd h
-any_none p (y ∷ xs) e x (inl same) = subst (λ z. p z ≡ false) same (neither (p y) (list_any p xs) e).0
-any_none p (y ∷ xs) e x (inr h) = any_none p xs (neither (p y) (list_any p xs) e).1 x h
 
 module _ (cs : List Collection) (test : Formula) where
   abbrev copied : Query → Query
@@ -140,11 +129,11 @@ module _ (cs : List Collection) (column : Name) (test : Formula) (is : IsTestOf 
   two_short : (xs ys others more : List Formula) → (list_any is_long xs ≡ false → list_any is_long others ≡ false) → (list_any is_long ys ≡ false → list_any is_long more ≡ false) → list_any is_long (xs ++ ys) ≡ false → list_any is_long (others ++ more) ≡ false
   two_short xs ys others more f g e =
       let n = neither (list_any is_long xs) (list_any is_long ys) (sym (list_any-append is_long xs ys) ∙ e) in
-      list_any-append is_long others more ∙ both_no (list_any is_long others) (list_any is_long more) (f n.0) (g n.1)
+      list_any-append is_long others more ∙ none_of (list_any is_long others) (list_any is_long more) (f n.0) (g n.1)
 
   no_longer : (q : Query) → list_any is_long (formulas_of q) ≡ false → list_any is_long (formulas_of (over_bucket cs test q)) ≡ false
-  no_longer (base name) e = elim (cases_Bool (has_kind is_input cs name)) [ inl t ↦ rw t (both_no (is_long test) false is.short refl) | inr f ↦ rw f refl ]
-  no_longer (select q f) e = let n = neither (is_long f) (list_any is_long (formulas_of q)) e in both_no (is_long f) (list_any is_long (formulas_of (over_bucket cs test q))) n.0 (no_longer q n.1)
+  no_longer (base name) e = elim (cases_Bool (has_kind is_input cs name)) [ inl t ↦ rw t (none_of (is_long test) false is.short refl) | inr f ↦ rw f refl ]
+  no_longer (select q f) e = let n = neither (is_long f) (list_any is_long (formulas_of q)) e in none_of (is_long f) (list_any is_long (formulas_of (over_bucket cs test q))) n.0 (no_longer q n.1)
   no_longer (project q items) e = no_longer q e
   no_longer (join a b pairs) e = two_short (formulas_of a) (formulas_of b) (formulas_of (over_bucket cs test a)) (formulas_of (over_bucket cs test b)) (no_longer a) (no_longer b) e
   no_longer (notin a b pairs) e = two_short (formulas_of a) (formulas_of b) (formulas_of (over_bucket cs test a)) (formulas_of (over_bucket cs test b)) (no_longer a) (no_longer b) e
@@ -159,7 +148,7 @@ module _ (cs : List Collection) (column : Name) (test : Formula) (is : IsTestOf 
   copy_bounded : (r : RuleForm) → IsKept r → passes_bounds (over_bucket cs test r.1) ≡ false
   copy_bounded r k =
       let n = neither (nat_lt most_levels (query_levels r.1)) (list_any is_long (formulas_of r.1)) k.bounded in
-      both_no (nat_lt most_levels (query_levels (over_bucket cs test r.1))) (list_any is_long (formulas_of (over_bucket cs test r.1))) k.shallow (no_longer r.1 n.1)
+      none_of (nat_lt most_levels (query_levels (over_bucket cs test r.1))) (list_any is_long (formulas_of (over_bucket cs test r.1))) k.shallow (no_longer r.1 n.1)
 
   -- ---- faults
 
@@ -185,13 +174,13 @@ module _ (cs : List Collection) (column : Name) (test : Formula) (is : IsTestOf 
 
     kept_rules : ((r : RuleForm) → Has r rules → passes_bounds r.1 ≡ false) → list_any (λ (r : RuleForm). nat_lt most_levels (query_levels r.1)) (map (copied_rule cs test) rules) ≡ false
         → (r : RuleForm) → Has r rules → IsKept r
-    kept_rules least levels r h = record { bounded = least r h; shallow = any_none (λ (s : RuleForm). nat_lt most_levels (query_levels (over_bucket cs test s.1))) rules (go rules levels) r h }
+    kept_rules least levels r h = record { bounded = least r h; shallow = any-none (λ (s : RuleForm). nat_lt most_levels (query_levels (over_bucket cs test s.1))) rules (go rules levels) r h }
       where
         go : (some : List RuleForm) → list_any (λ (s : RuleForm). nat_lt most_levels (query_levels s.1)) (map (copied_rule cs test) some) ≡ false
             → list_any (λ (s : RuleForm). nat_lt most_levels (query_levels (over_bucket cs test s.1))) some ≡ false
         go [] e = refl
         go (s ∷ some) e = let n = neither (nat_lt most_levels (query_levels (over_bucket cs test s.1))) (list_any (λ (t : RuleForm). nat_lt most_levels (query_levels t.1)) (map (copied_rule cs test) some)) e in
-            both_no (nat_lt most_levels (query_levels (over_bucket cs test s.1))) (list_any (λ (t : RuleForm). nat_lt most_levels (query_levels (over_bucket cs test t.1))) some) n.0 (go some n.1)
+            none_of (nat_lt most_levels (query_levels (over_bucket cs test s.1))) (list_any (λ (t : RuleForm). nat_lt most_levels (query_levels (over_bucket cs test t.1))) some) n.0 (go some n.1)
 
 -- ---- a checked module
 

@@ -1,8 +1,9 @@
 -- What the code has in hand is the new topology with its modules, which may be validated.
-use Rattle.std.proofs.Common.{◌≡◌, ◌∙◌, ◌+◌, ◌<◌, ◌≤◌, ℕ, zero, suc, Bool, false, List, length, map, refl, ap, sym, subst, inl, inr, arith}
+use Rattle.std.proofs.Common.{◌≡◌, ◌∙◌, ◌+◌, ◌<◌, ◌≤◌, ℕ, zero, suc, Bool, false, List, length, map, refl, ap, sym, subst, arith}
 use Rattle.std.specs.List.{filter_map, range_with_len}
 use Rattle.std.proofs.lemmas.List.{length-map}
 use Rattle.blz_value.specs.Members.{Has}
+use Rattle.blz_value.proofs.Ranges.{Has-range}
 use Rattle.bloom_forms.specs.Form.{Accepted}
 use Rattle.bloom_forms.specs.Query.{Name, Formula}
 use Rattle.topo_forms.specs.declared.topology.ComponentEntry.{ComponentEntry}
@@ -39,11 +40,6 @@ count_numbers : (at n : ℕ) → length (range_with_len at n) ≡ n
 count_numbers at zero = refl
 count_numbers at (suc n) = ap suc (count_numbers (at + 1) n)
 
-in_numbers : (at n i : ℕ) → Has i (range_with_len at n) → i < at + n
-in_numbers at zero i h = absurd h
-in_numbers at (suc n) i (inl e) = omega (arith, e)
-in_numbers at (suc n) i (inr h) = omega (arith, in_numbers (at + 1) n i h)
-
 -- there are as many copies as numbers
 pub as_many : {X : Type 0} (a : Accepted) (formula : X → Formula) (tests : List X) (copies lent : List Accepted) (numbers given : List ℕ) → copies ≡ map (copy_of a) (map formula tests) → lent ≡ copies → numbers ≡ numbers_to (length tests) → given ≡ numbers
     → length lent ≡ length given
@@ -53,5 +49,5 @@ as_many a formula tests copies lent numbers given made lends counted gives =
 -- and each number is one of eight
 pub small_numbers : (count : ℕ) (numbers given : List ℕ) → count ≤ 8 → numbers ≡ numbers_to count → given ≡ numbers → (i : ℕ) → Has i given → i < 10
 small_numbers count numbers given few counted gives i h =
-    let within : i < 1 + count = in_numbers 1 count i (subst (λ (ns : List ℕ). Has i ns) (gives ∙ counted) h) in
+    let within : i < 1 + count = Has-range 1 count i (subst (λ (ns : List ℕ). Has i ns) (gives ∙ counted) h) in
     omega (arith, within, few)

@@ -1,5 +1,5 @@
 -- Each name in a copy is one of its module or the bucket's column, and ports that have a column by their names.
-use Rattle.std.proofs.Common.{◌≡◌, ◌⊎◌, ◌&&◌, ◌||◌, not, Bool, true, false, cond, Some, List, [], ◌∷◌, ◌++◌, map, refl, sym, subst, inl, inr}
+use Rattle.std.proofs.Common.{◌≡◌, ◌⊎◌, ◌&&◌, ◌||◌, Bool, true, false, cond, Some, List, [], ◌∷◌, ◌++◌, map, refl, sym, subst, inl, inr}
 use Rattle.std.specs.List.{list_any, flat_map, find}
 use Rattle.std.specs.Option.{option_map, option_map_or}
 use Rattle.std.specs.Str.{bytes_eq}
@@ -7,6 +7,7 @@ use Rattle.std.proofs.lemmas.Bool.{cases_Bool, true≢false}
 use Rattle.std.proofs.lemmas.Slice.Eq.{bytes_eq-Decides}
 use Rattle.blz_value.specs.Members.{Has}
 use Rattle.blz_value.proofs.Membership.{all_member, all_from, Has-append_left, Has-append_right, Has-append_cases}
+use Rattle.blz_value.proofs.Booleans.{neither, has_it}
 use Rattle.bloom_forms.specs.declared.module.Collection.{Collection}
 use Rattle.bloom_forms.specs.Fits.{has_name}
 use Rattle.bloom_forms.specs.Form.{RuleForm, Form}
@@ -15,7 +16,6 @@ use Rattle.bloom_forms.specs.Lookup.{declared, is_named}
 use Rattle.bloom_forms.specs.Query.{Name, Formula, Query}
 use Rattle.bloom_forms.specs.Query.Query.{base, select, project, join, notin, group, at_least}
 use Rattle.bloom_forms.specs.Reserved.{is_own_name, formula_names, pair_names, aggregate_names, query_names, module_names, HasOwnNames}
-use Rattle.bloom_forms.proofs.Faults.Levels.{neither}
 use Rattle.bloom_forms.specs.Shards.{over_bucket, copied_rule}
 use Rattle.shard_route.specs.Copies.{copied_form, is_port_without, lacks_column}
 use Rattle.shard_route.specs.Copying.{IsTestOf}
@@ -32,11 +32,6 @@ has_of_name (held ∷ names) name e = elim (cases_Bool (bytes_eq held name)) [
   | inl t ↦ inl ((bytes_eq-Decides held name).0 t)
   | inr f ↦ inr (has_of_name names name (second_true (bytes_eq held name) (has_name names name) e f))
 ]
-
-has_it : (a b : Bool) → (a && not b) ≡ false → a ≡ true → b ≡ true
-has_it true true e t = refl
-has_it true false e t = absurd (true≢false e)
-has_it false b e t = absurd (true≢false (sym t))
 
 -- each port has the column, told by its name
 pub port_has : (column : Name) (cs : List Collection) → list_any (is_port_without column) cs ≡ false → (n : Name) → has_kind is_input cs n ≡ true → has_name (declared cs n) column ≡ true

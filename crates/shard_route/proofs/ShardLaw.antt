@@ -1,5 +1,5 @@
 -- The copies as they are checked answer as those of the law on rows, whose order of heads is the module's.
-use Rattle.std.proofs.Common.{◌≡◌, ◌∙◌, ◌↔◌, ◌&&◌, not, ℕ, Bool, true, false, Option, None, Some, List, [], ◌∷◌, length, map, refl, ap, sym, subst}
+use Rattle.std.proofs.Common.{◌≡◌, ◌∙◌, ◌↔◌, ◌&&◌, not, ℕ, true, false, Option, None, Some, List, [], ◌∷◌, length, map, refl, ap, sym, subst}
 use Rattle.std.specs.List.{range_with_len}
 use Rattle.std.specs.Option.{option_map_or}
 use Rattle.std.proofs.lemmas.Bool.{true≢false}
@@ -8,6 +8,8 @@ use Rattle.blz_value.proofs.Membership.{Has-map, Has-from_map, Has-from_filter}
 use Rattle.blz_value.specs.Bits.{bit_of, meets}
 use Rattle.blz_value.specs.Closure.{closure}
 use Rattle.blz_value.specs.Names.{place_of}
+use Rattle.blz_value.proofs.Booleans.{not_false, has_it}
+use Rattle.blz_value.proofs.Lists.{any-none as any_none}
 use Rattle.bloom_forms.specs.declared.module.Collection.{Collection}
 use Rattle.bloom_forms.specs.declared.module.Kind.{Kind}
 use Rattle.bloom_forms.specs.declared.module.Kind.TheVariants.{Input, Output, Table, Scratch}
@@ -34,7 +36,7 @@ use Rattle.bloom_forms.proofs.Shard.ShardLaw.{answers_by_bucket}
 use Rattle.shard_route.specs.Copies.{copied_form, copy_of, copies_of, is_port_without, lacks_column}
 use Rattle.shard_route.specs.Laws.{SomeCopyHas, ShardLaw}
 use Rattle.shard_route.specs.Sharding.{has_attribute}
-use Rattle.shard_route.proofs.Faultless.{any_none, same_names, same_named, same_arrows}
+use Rattle.shard_route.proofs.Faultless.{same_names, same_named, same_arrows}
 use Rattle.shard_route.proofs.OwnNames.{has_of_name}
 
 -- ---- the order of heads
@@ -76,15 +78,6 @@ module _ (a : Accepted) (checked : IsChecked a.form a.heads) (test : Formula) wh
 
 -- ---- the law
 
-no_is : (b : Bool) → not b ≡ false → b ≡ true
-no_is true e = refl
-no_is false e = absurd (true≢false e)
-
-has_it : (a b : Bool) → (a && not b) ≡ false → a ≡ true → b ≡ true
-has_it true true e t = refl
-has_it true false e t = absurd (true≢false e)
-has_it false b e t = absurd (true≢false (sym t))
-
 input_kind : (k : Kind) → same_kind Input k ≡ true → is_input k ≡ true
 input_kind Input e = refl
 input_kind Output e = e
@@ -119,7 +112,7 @@ answers_together names a column first bounds checked ports gates now output row 
     gate = gate_of_output names (Module a) output
 
     g : IsGated names column gate
-    g = gated names column gate (no_is (has_attribute names column gate)
+    g = gated names column gate (not_false (has_attribute names column gate)
         (any_none (λ (o : ℕ). not (has_attribute names column (gate_of_output names (Module a) o))) (range_with_len 0 (length (output_columns (Module a)))) gates output (in_below (length (output_columns (Module a))) output lt)))
 
     law : Has row (set_at (answer_of (Module a) now) output) ↔ ((test : Formula) × Has test (buckets column first bounds) × Has row (set_at (answer_of (Module (copied a test)) now) output))

@@ -13,6 +13,7 @@ use Rattle.blz_value.specs.Members.{Has}
 use Rattle.blz_value.specs.Record.{Row}
 use Rattle.blz_value.specs.RecordOrder.{record_cmp_total, record_cmp_exact}
 use Rattle.blz_value.proofs.Membership.{Has-append_cases}
+use Rattle.blz_value.proofs.Booleans.{same_truth}
 use Rattle.source_deps.specs.Broken.{Sides, same, differ, disagree, first_such}
 use Rattle.source_deps.specs.Code.Earliest.{place_by_from, place_by_to, one_place}
 
@@ -24,14 +25,8 @@ same-itself a = (eq_by_cmp_equiv record_cmp_total).refl a
 pub same-is : (a b : Row) → same a b ≡ true → a ≡ b
 same-is a b e = tells_apart record_cmp_exact a b e
 
-either_way : (p q : Bool) → (p ≡ true → q ≡ true) → (q ≡ true → p ≡ true) → p ≡ q
-either_way true true f g = refl
-either_way true false f g = sym (f refl)
-either_way false true f g = g refl
-either_way false false f g = refl
-
 pub same-sym : (a b : Row) → same a b ≡ same b a
-same-sym a b = either_way (same a b) (same b a) (λ e. subst (λ x. same x a ≡ true) (same-is a b e) (same-itself a)) (λ e. subst (λ x. same x b ≡ true) (same-is b a e) (same-itself b))
+same-sym a b = same_truth (same a b) (same b a) (λ e. subst (λ x. same x a ≡ true) (same-is a b e) (same-itself a)) (λ e. subst (λ x. same x b ≡ true) (same-is b a e) (same-itself b))
 
 pub differ_none : (p q : Bool) → differ p q ≡ false → p ≡ q
 differ_none true true e = refl

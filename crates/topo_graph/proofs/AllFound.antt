@@ -9,13 +9,13 @@ use Rattle.topo_forms.specs.Found.{HasEnds, usable_at}
 use Rattle.topo_graph.specs.Code.Lines.{all_into, lines_by, upholders_by, good_set, usable_by}
 use Rattle.topo_graph.specs.Code.Paths.{paths_by}
 use Rattle.blz_value.specs.Carried.{carried_by}
+use Rattle.blz_value.proofs.Lists.{map_same}
 use Rattle.topo_graph.specs.Code.Ports.{all_rows}
 use Rattle.topo_forms.specs.Dependencies.{upholders}
 use Rattle.topo_forms.specs.Regions.{is_in_cycle}
 use Rattle.topo_forms.specs.View.{View, component_numbers, stream_numbers}
 use Rattle.topo_graph.proofs.LinesFound.{lines, upholders-same, usable-same}
 use Rattle.topo_graph.proofs.PathsFound.{carried-same}
-use Rattle.topo_forms.proofs.Lists.Tables.{map_same}
 
 module _ (v : View) (given : HasEnds v) where
   lines_are : (cs : List Bool) (into : List ℕ) (ls : List Line) → cs ≡ map (is_in_cycle v) (component_numbers v) → into ≡ all_into v → ls ≡ lines_by v cs into → ls ≡ lines v given

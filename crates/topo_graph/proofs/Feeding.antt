@@ -1,5 +1,5 @@
 -- Regions by feeders are the regions.
-use Rattle.std.proofs.Common.{◌≡◌, ◌<◌, ◌⊎◌, inl, inr, ℕ, not, ◌&&◌, nat_eq, Bool, true, false, is_some, Option, None, Some, List, [], ◌∷◌, map, length, refl, arith, ap, sym, subst, ◌∙◌, bit_or}
+use Rattle.std.proofs.Common.{◌≡◌, ◌<◌, ◌⊎◌, inl, inr, ℕ, not, ◌&&◌, nat_eq, true, false, is_some, Option, None, Some, List, [], ◌∷◌, map, length, refl, arith, ap, sym, subst, ◌∙◌, bit_or}
 use Rattle.std.specs.Option.{option_map_or}
 use Rattle.std.proofs.lemmas.Bool.{cases_Bool, true≢false}
 use Rattle.std.proofs.lemmas.Bool.Decides.{nat_tests}
@@ -17,13 +17,12 @@ use Rattle.bloom_forms.proofs.Collections.Chosen.{in_chosen, from_chosen}
 use Rattle.topo_graph.specs.Code.Feeders.{counts_into, sender_of, feeders}
 use Rattle.topo_forms.specs.Found.{HasEnds}
 use Rattle.blz_value.specs.Graph.{Edge, arrow, arrows, is_in}
+use Rattle.blz_value.proofs.Booleans.{and_true, both_true}
+use Rattle.blz_value.proofs.Ranges.{Has-below as from_below}
+use Rattle.blz_value.proofs.Lists.{same_count as same_number}
 use Rattle.topo_forms.specs.Regions.{edges, edges_of, counting_ends}
 use Rattle.topo_forms.specs.View.{View, End, origin_of, ends_of, is_order, goes_into, stream_numbers, component_numbers}
-use Rattle.topo_forms.proofs.Regions.Spreading.{from_below, in_below, same_number, both_true, and_true}
-
-pub not_true : (b : Bool) → not b ≡ true → b ≡ false
-not_true true e = absurd (true≢false (sym e))
-not_true false e = refl
+use Rattle.topo_forms.proofs.Regions.Spreading.{in_below}
 
 pub own_number : (a : ℕ) → nat_eq a a ≡ true
 own_number a = grind (arith, nat_tests)

@@ -13,12 +13,14 @@ use Rattle.topo_forms.specs.Found.{HasEnds}
 use Rattle.blz_value.specs.Graph.{Edge, arrows, is_in, up, together, region, is_blocked, is_next, next, regions_from, is_cyclic_set}
 use Rattle.topo_forms.specs.Regions.{edges}
 use Rattle.blz_value.specs.NumberSets.{below}
+use Rattle.blz_value.proofs.Booleans.{same_truth, not_true, and_true, both_true, none_of}
+use Rattle.blz_value.proofs.Ranges.{Has-below as from_below, at_below}
+use Rattle.blz_value.proofs.Lists.{same_count as same_number}
 use Rattle.topo_forms.specs.View.{View}
-use Rattle.topo_graph.proofs.Feeding.{feeder_arrows, not_true, own_number, edge-feeds, feeder-edge, feeders-within, bounds_of, closure-same}
+use Rattle.topo_graph.proofs.Feeding.{feeder_arrows, own_number, edge-feeds, feeder-edge, feeders-within, bounds_of, closure-same}
 use Rattle.topo_forms.proofs.Regions.Numbering.{any-none, find-some}
 use Rattle.topo_forms.proofs.Regions.RegionOrder.{where_same}
-use Rattle.topo_forms.proofs.Lists.Tables.{at_below}
-use Rattle.topo_forms.proofs.Regions.Spreading.{from_below, in_below, same_truth, both_true, and_true, same_number}
+use Rattle.topo_forms.proofs.Regions.Spreading.{in_below}
 
 find_same : (f g : ℕ → Bool) (ns : List ℕ) → ((k : ℕ) → Has k ns → f k ≡ g k) → find f ns ≡ find g ns
 find_same f g [] same = refl
@@ -31,9 +33,6 @@ neither_of : (a b : Bool) → (not a && not b) ≡ false → (a || b) ≡ true
 neither_of true b e = refl
 neither_of false true e = refl
 neither_of false false e = absurd (true≢false e)
-
-none_of : (a b : Bool) → a ≡ false → b ≡ false → (a || b) ≡ false
-none_of a b p q = rw (p, q) refl
 
 second_false : (a b : Bool) → a ≡ true → (a && b) ≡ false → b ≡ false
 second_false a b p e = rw p at e

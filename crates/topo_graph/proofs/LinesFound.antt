@@ -14,9 +14,12 @@ use Rattle.topo_forms.specs.Dependencies.{upholds_alone, hands_on, streams_befor
 use Rattle.blz_value.specs.Graph.{is_in}
 use Rattle.topo_forms.specs.Regions.{is_in_cycle}
 use Rattle.blz_value.specs.NumberSets.{spreading}
+use Rattle.blz_value.proofs.Maps.{same_map as map_on}
+use Rattle.blz_value.proofs.Ranges.{Has-below as from_below, at_below}
+use Rattle.blz_value.proofs.Lists.{all_on}
 use Rattle.topo_forms.specs.View.{View, End, origin_of, has_body, is_order, goes_into, stream_attrs, own_attrs, output_at, streams_into, stream_numbers, component_numbers}
-use Rattle.topo_forms.proofs.Regions.Spreading.{from_below, numbers_within}
-use Rattle.topo_forms.proofs.Lists.Tables.{at_below, placed, map_on, all_on, where-is}
+use Rattle.topo_forms.proofs.Regions.Spreading.{numbers_within}
+use Rattle.topo_forms.proofs.Lists.Tables.{placed, where-is}
 
 grouped : (a b c d : Bool) → ((a && (b && c)) && d) ≡ (a && (b && (c && d)))
 grouped false b c d = refl

@@ -6,6 +6,8 @@ use Rattle.blz_value.specs.Members.{Has}
 use Rattle.blz_value.specs.Name.{is_name}
 use Rattle.blz_value.proofs.Membership.{Has-get_or, Has-from_map, Has-from_filter, Has-append_left, Has-flat_map, all_from, all_member}
 use Rattle.blz_value.specs.Names.{place_of, added}
+use Rattle.blz_value.proofs.Booleans.{and_true, both_true}
+use Rattle.blz_value.proofs.Ranges.{Has-below as from_below}
 use Rattle.bloom_forms.specs.declared.module.Collection.{Collection}
 use Rattle.bloom_forms.specs.declared.module.Kind.TheVariants.{Input}
 use Rattle.bloom_forms.specs.declared.program.Program.TheVariants as program
@@ -27,7 +29,6 @@ use Rattle.topo_forms.specs.declared.topology.Topology.{Topology}
 use Rattle.topo_forms.specs.Allowed.{is_empty, are_names, are_some_names, is_side, allows_source, allows_body, allows_component, IsAllowed}
 use Rattle.topo_forms.specs.Attributes.{with_columns, source_columns, side_columns}
 use Rattle.topo_forms.specs.Sites.{sites_of, site_columns, attributes_in, ports_with, program_in, program_ports, stock_program, modules_after, column_number, collection_side, side}
-use Rattle.topo_forms.proofs.Regions.Spreading.{both_true, and_true, from_below}
 use Rattle.topo_forms.proofs.Views.ViewRuns.{among_after}
 
 -- ---- lists

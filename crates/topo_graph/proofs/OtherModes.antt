@@ -20,12 +20,14 @@ use Rattle.blz_value.specs.Graph.{Edge, arrow, arrows, is_in, up, together, regi
 use Rattle.topo_forms.specs.OtherModes.{AreRemoded, OtherModesLaw}
 use Rattle.topo_forms.specs.Regions.{edges, edges_of, counting_ends, region_set, is_in_cycle}
 use Rattle.blz_value.specs.NumberSets.{below}
+use Rattle.blz_value.proofs.Booleans.{and_true, both_true}
+use Rattle.blz_value.proofs.Ranges.{Has-below as from_below}
 use Rattle.topo_forms.specs.ViewOf.{derived_note}
 use Rattle.topo_forms.specs.Valid.{AreNumbered, IsCovered, HasColumns, IsPaired, Runs, IsComponent, IsValid}
 use Rattle.topo_forms.specs.View.{View, Component, End, no_component, no_port, no_output, component_at, origin_of, ends_of, replicas_of, stream_replicas, senders_of, is_order, stream_numbers}
 use Rattle.topo_forms.proofs.Regions.Lower.{feeds_edge}
 use Rattle.topo_forms.proofs.Regions.RegionOrder.{if_first, if_true, above_one}
-use Rattle.topo_forms.proofs.Regions.Spreading.{from_below, in_below, both_true, and_true}
+use Rattle.topo_forms.proofs.Regions.Spreading.{in_below}
 use Rattle.topo_forms.proofs.Views.ViewColumns.{get_or_other}
 
 -- a list that keeps fewer is no longer

@@ -18,10 +18,11 @@ use Rattle.topo_graph.specs.Code.Ports.{all_rows, at_port}
 use Rattle.topo_forms.specs.Dependencies.{is_usable, usable_fds}
 use Rattle.blz_value.specs.Graph.{is_in}
 use Rattle.blz_value.specs.NumberSets.{set_of_numbers, spreading}
+use Rattle.blz_value.proofs.Maps.{same_map as map_on}
+use Rattle.blz_value.proofs.Ranges.{Has-below as from_below}
 use Rattle.topo_forms.specs.View.{View, End, origin_of, stream_at, output_at, own_attrs, has_body, has_stream, mode_of, mode_key, ports_towards, stream_numbers}
 use Rattle.topo_graph.proofs.PortsFound.{behind_found, fed_found}
-use Rattle.topo_forms.proofs.Regions.Spreading.{from_below}
-use Rattle.topo_forms.proofs.Lists.Tables.{placed, map_on, where-is}
+use Rattle.topo_forms.proofs.Lists.Tables.{placed, where-is}
 
 fds-same : (test : Fd → Bool) (by : ℕ → Bool) (f : Fd → ℕ) (fds : List Fd) → ((fd : Fd) → by (f fd) ≡ test fd) → map (λ (pair : Fd × ℕ). pair.0) (filter (λ pair. by pair.1) (zip fds (map f fds))) ≡ filter test fds
 fds-same test by f [] same = refl

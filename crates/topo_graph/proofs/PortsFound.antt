@@ -1,9 +1,9 @@
 -- The streams into each port, as they are found, are those that go to it.
 use Rattle.std.proofs.Common.{◌≡◌, ◌≤◌, ◌<◌, ◌+◌, ◌++◌, ◌&&◌, ◌||◌, inl, inr, ℕ, nat_eq, is_some, cond, if◌then◌else◌, Bool, true, false, List, [], ◌∷◌, map, filter, length, get_or, bit_or, refl, arith, ap, ◌∙◌, sym}
-use Rattle.std.specs.List.{flat_map, list_all, list_any, range_with_len}
+use Rattle.std.specs.List.{flat_map, list_all, list_any}
 use Rattle.std.proofs.lemmas.Bool.{cases_Bool, cases_lt}
-use Rattle.std.proofs.lemmas.Grind.{common_steps, flat_map-append}
-use Rattle.std.proofs.lemmas.List.{append-nil, get_or_past, map-append}
+use Rattle.std.proofs.lemmas.Grind.{common_steps}
+use Rattle.std.proofs.lemmas.List.{get_or_past, map-append}
 use Rattle.std.proofs.lemmas.List.Elements.{filter-append}
 use Rattle.std.proofs.lemmas.Nat.{le_or_l, le_or_r, pow_pos}
 use Rattle.std.proofs.lemmas.Nat.Bits.{bit_at_or, same_from_bits}
@@ -19,9 +19,10 @@ use Rattle.topo_graph.specs.Code.Ports.{feed_of, feeds_in, feeds_at, feeds_of, s
 use Rattle.topo_forms.specs.Carried.{streams_towards}
 use Rattle.topo_forms.specs.Found.{into_port, into_ports}
 use Rattle.blz_value.specs.NumberSets.{set_of_numbers}
+use Rattle.blz_value.proofs.Maps.{same_map as map_on}
+use Rattle.blz_value.proofs.Ranges.{Has-below as from_below, flat_below_more, at_below}
+use Rattle.blz_value.proofs.Lists.{map_same, same_count as same_number}
 use Rattle.topo_forms.specs.View.{View, End, Component, component_at, component_numbers, no_component, ends_of, goes_to, has_stream, note_at, port_numbers, ports_towards, same_end, stream_numbers, streams_to}
-use Rattle.topo_forms.proofs.Regions.Spreading.{from_below, same_number}
-use Rattle.topo_forms.proofs.Lists.Tables.{at_below, below_more, map_on, map_same}
 
 -- ---- the loop over the streams
 
@@ -29,14 +30,7 @@ flattened : {X : Type 0} (f : ℕ → List X) (ns : List ℕ) → flat_map (λ (
 flattened f [] = refl
 flattened {X = X} f (n ∷ ns) = ap (λ (xs : List X). f n ++ xs) (flattened f ns)
 
-pub feeds_below_more : {X : Type 0} (f : ℕ → List X) (n : ℕ) → flat_map f (range_with_len 0 (n + 1)) ≡ flat_map f (range_with_len 0 n) ++ f n
-feeds_below_more {X = X} f n =
-    sym (flattened f (range_with_len 0 (n + 1)))
-    ∙ ap (flat_map (λ (xs : List X). xs)) (below_more f n)
-    ∙ flat_map-append (λ (xs : List X). xs) (map f (range_with_len 0 n)) (f n ∷ [])
-    ∙ (let all = flattened f (range_with_len 0 n) in let last = append-nil (f n) in λ i. all i ++ last i)
-
-pub ruleset feed_steps = (common_steps, feeds_below_more)
+pub ruleset feed_steps = (common_steps, flat_below_more)
 
 -- ---- unions
 

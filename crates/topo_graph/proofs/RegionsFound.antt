@@ -9,11 +9,13 @@ use Rattle.topo_forms.specs.Found.{HasEnds}
 use Rattle.blz_value.specs.Graph.{arrows, is_in, up, region, is_cyclic_set}
 use Rattle.topo_forms.specs.Regions.{edges, regions, region_of, region_set, is_in_cycle, is_cyclic}
 use Rattle.blz_value.specs.NumberSets.{below}
+use Rattle.blz_value.proofs.Maps.{same_map as map_on}
+use Rattle.blz_value.proofs.Ranges.{Has-below as from_below}
+use Rattle.blz_value.proofs.Lists.{map_twice}
 use Rattle.topo_forms.specs.View.{View, component_numbers}
 use Rattle.topo_graph.proofs.Feeding.{feeder_arrows}
 use Rattle.topo_graph.proofs.FeedingRegions.{ups, sets, region-same, regions-same, cyclic-same}
-use Rattle.topo_forms.proofs.Regions.Spreading.{from_below}
-use Rattle.topo_forms.proofs.Lists.Tables.{placed, numbered, map_on, map_twice}
+use Rattle.topo_forms.proofs.Lists.Tables.{placed, numbered}
 
 -- a list by its places
 table_places : {X Y : Type 0} (f : X → Y) (d : X) (xs : List X) → map (λ k. f (get_or xs k d)) (range_with_len 0 (length xs)) ≡ map f xs

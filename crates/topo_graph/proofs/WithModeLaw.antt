@@ -9,9 +9,10 @@ use Rattle.blz_value.specs.FirstPlace.{first_place}
 use Rattle.blz_value.specs.Members.{Has}
 use Rattle.blz_value.specs.Name.{is_name}
 use Rattle.blz_value.specs.declared.attrs.Attrs.{Attrs}
+use Rattle.blz_value.proofs.Booleans.{and_true, both_true, none_of, neither}
+use Rattle.blz_value.proofs.Lists.{none_any}
 use Rattle.bloom_forms.specs.Form.{Accepted}
 use Rattle.bloom_forms.specs.Query.{Name}
-use Rattle.bloom_forms.proofs.Faults.Levels.{neither}
 use Rattle.topo_forms.specs.declared.fault.TopoKind.{TopoKind}
 use Rattle.topo_forms.specs.declared.fault.TopoKind.TheVariants as kind
 use Rattle.bloom_forms.specs.declared.mode.Mode.{Mode}
@@ -45,7 +46,6 @@ use Rattle.topo_graph.proofs.NamedAttributes.{attributes-named}
 use Rattle.topo_forms.proofs.Faults.NoFault.{no_written, none_in, no_places, few_attributes, site_fine}
 use Rattle.topo_graph.proofs.OtherModes.{other_modes_law}
 use Rattle.topo_graph.proofs.OtherSites.{site_with_mode, sites-altered, source_view-same, stream_view-same, port_of-same, output_of-same, attributes-same, attributes_before-same}
-use Rattle.topo_forms.proofs.Regions.Spreading.{both_true, and_true}
 use Rattle.topo_forms.proofs.Views.ValidViews.{valid_law}
 use Rattle.topo_forms.proofs.Views.ViewParts.{sites, attributes, seen, length_streams}
 
@@ -57,13 +57,6 @@ none_first test at (x ∷ xs) d each =
     let z : at + 0 ≡ at = omega arith in
     let first : test at x ≡ false = subst (λ (n : ℕ). test n x ≡ false) z (each 0 (omega arith)) in
     rw first (none_first test (at + 1) xs d (λ i lt. let e : at + suc i ≡ at + 1 + i = omega arith in subst (λ (n : ℕ). test n (get_or xs i d) ≡ false) e (each (suc i) (omega (arith, lt)))))
-
-none_any : {X : Type 0} (p : X → Bool) (xs : List X) → ((x : X) → Has x xs → p x ≡ false) → list_any p xs ≡ false
-none_any p [] each = refl
-none_any p (x ∷ xs) each = rw (each x (inl refl)) (none_any p xs (λ y has. each y (inr has)))
-
-fails : (a b : Bool) → a ≡ false → b ≡ false → (a || b) ≡ false
-fails a b p q = rw (p, q) refl
 
 all_altered : {X : Type 0} (f : X → X) (p : X → Bool) (n : ℕ) (xs : List X) → list_all p xs ≡ true → ((x : X) → p x ≡ true → p (f x) ≡ true) → list_all p (altered f n xs) ≡ true
 all_altered f p n [] all keeps = refl
@@ -332,7 +325,7 @@ module _ (t : Topology) (modules : List Accepted) (c : ℕ) (mode : Mode) (allow
       let f = neither (not (notes_are_distinct s.entry.notes)) _ e.1 in
       let g = neither (not (names_are_distinct s.entry.key)) (repeats_in_gate s.entry.notes) f.1 in
       let key : not (names_are_distinct (key_names (attributes t modules) mode)) ≡ false = ap not (names-distinct mode can.key) in
-      fails _ _ a.0 (fails _ _ b.0 (fails _ _ d.0 (fails _ _ e.0 (fails _ _ f.0 (fails _ _ key g.1)))))
+      none_of _ _ a.0 (none_of _ _ b.0 (none_of _ _ d.0 (none_of _ _ e.0 (none_of _ _ f.0 (none_of _ _ key g.1)))))
 
   twice-fine : (i : ℕ) → i < length (sites t modules) → bad_component kind.Twice wn i (site_at others i) ≡ false
   twice-fine i lt =
@@ -344,7 +337,7 @@ module _ (t : Topology) (modules : List Accepted) (c : ℕ) (mode : Mode) (allow
       let a = neither (unknown_in_body s.entry.body) _ fine in
       let b = neither (not (names_within s.entry.key (attributes t modules))) _ a.1 in
       let key : not (names_within (key_names (attributes t modules) mode) (attributes t modules)) ≡ false = ap not (names-known mode can.key) in
-      fails _ _ a.0 (fails _ _ key b.1)
+      none_of _ _ a.0 (none_of _ _ key b.1)
 
   unsealed : (i : ℕ) → i < length (sites t modules) → seals_in_cycle next i ≡ false
   unsealed i lt = elim (cases_Bool (is_in_cycle next i)) [

@@ -1,16 +1,12 @@
 -- What a file of format 1 allows one of format 2 allows.
-use Rattle.std.proofs.Common.{◌≡◌, ◌≤◌, ◌&&◌, ◌||◌, inl, inr, ℕ, nat_eq, nat_le, Bool, true, false, List, [], ◌∷◌, length, refl, arith, ap, sym, subst, ◌∙◌}
+use Rattle.std.proofs.Common.{◌≡◌, ◌≤◌, ◌&&◌, ◌||◌, inl, inr, ℕ, nat_eq, nat_le, true, List, [], ◌∷◌, length, refl, arith, ap, subst, ◌∙◌}
 use Rattle.std.specs.List.{list_all}
-use Rattle.std.proofs.lemmas.Bool.{eqb-true, or_cases, true≢false}
+use Rattle.std.proofs.lemmas.Bool.{eqb-true, or_cases}
 use Rattle.std.proofs.lemmas.Bool.Decides.{nat_tests}
+use Rattle.blz_value.proofs.Booleans.{and_true, both_true as both}
 use Rattle.topo_forms.specs.declared.topology.FdEntry.{FdEntry}
 use Rattle.topo_forms.specs.declared.topology.Topology.{Topology}
 use Rattle.topo_forms.specs.Allowed.{IsAllowed, are_some_names, allows_source, allows_component, allows_stream, allows_side, allows_fd}
-use Rattle.topo_read.proofs.ReadBackValues.{both}
-
-and_true : (a b : Bool) → a ≡ true → b ≡ true → (a && b) ≡ true
-and_true true b p q = q
-and_true false b p q = absurd (true≢false (sym p))
 
 more_names : (names : List (List ℕ)) → allows_side 1 names ≡ true → allows_side 2 names ≡ true
 more_names names e =

@@ -9,6 +9,8 @@ use Rattle.std.proofs.lemmas.Bool.{cases_Bool, true≢false, false_from_ne_true}
 use Rattle.std.proofs.lemmas.Cmp.{nat_list_cmp_total}
 use Rattle.std.proofs.lemmas.Map.Text.{is_eq-slice_cmp}
 use Rattle.std.proofs.lemmas.Slice.Eq.{bytes_eq-Decides}
+use Rattle.blz_value.proofs.Booleans.{not_true, and_true, both_true}
+use Rattle.blz_value.proofs.Lists.{equal_keys}
 use Rattle.toml.specs.Data.{Data, Items, no_items, item, Members, no_members, member, get_member, depth, items_depth, members_depth}
 use Rattle.toml.specs.View.{items_of}
 use Rattle.topo_read.specs.Fill.{Field, with_member, with_value, with_field, table_with}
@@ -18,9 +20,6 @@ use Rattle.topo_read.specs.Tables.{keys_in, earlier, unknown_key}
 
 cmp_self : (k : List ℕ) → slice_cmp nat_cmp k k ≡ Equal
 cmp_self k = tied_itself nat_list_cmp_total k
-
-equal_keys : (k l : List ℕ) → slice_cmp nat_cmp k l ≡ Equal → k ≡ l
-equal_keys k l e = (bytes_eq-Decides k l).0 (sym (is_eq-slice_cmp k l) ∙ ap is_eq e)
 
 -- a value that stands beside keys that are passed over
 skipped : {X : Type 0} (o : Ordering) (x y : X) → is_eq o ≡ false → match_ordering o x y x ≡ x
@@ -69,14 +68,6 @@ abbrev pub field_at : List ℕ → List Field → Option Data
 field_at key [] = None
 field_at key (field ∷ fields) = if bytes_eq key field.0 then field.1 else field_at key fields
 
-not_so : (b : Bool) → not b ≡ true → b ≡ false
-not_so true e = absurd (true≢false (sym e))
-not_so false e = refl
-
-both : (a b : Bool) → (a && b) ≡ true → (a ≡ true) × (b ≡ true)
-both true b e = (refl, e)
-both false b e = absurd (true≢false (sym e))
-
 value_other : (j k : List ℕ) (o : Option Data) (ms : Members) → bytes_eq j k ≡ false → get_member j (with_value ms k o) ≡ get_member j ms
 value_other j k None ms other = refl
 value_other j k (Some d) ms other = get_other j k d ms other
@@ -84,8 +75,8 @@ value_other j k (Some d) ms other = get_other j k d ms other
 absent_stays : (k : List ℕ) (fields : List Field) (ms : Members) → lacks_key k fields ≡ true → get_member k (fold with_field ms fields) ≡ get_member k ms
 absent_stays k [] ms lacks = refl
 absent_stays k (field ∷ fields) ms lacks =
-    let parts = both (not (bytes_eq k field.0)) (lacks_key k fields) lacks in
-    absent_stays k fields (with_field ms field) parts.1 ∙ value_other k field.0 field.1 ms (not_so (bytes_eq k field.0) parts.0)
+    let parts = both_true (not (bytes_eq k field.0)) (lacks_key k fields) lacks in
+    absent_stays k fields (with_field ms field) parts.1 ∙ value_other k field.0 field.1 ms (not_true (bytes_eq k field.0) parts.0)
 
 value_same : (k l : List ℕ) (o : Option Data) (ms : Members) → bytes_eq k l ≡ true → get_member k ms ≡ None → get_member k (with_value ms l o) ≡ o
 value_same k l None ms same none = none
@@ -96,7 +87,7 @@ found k [] ms apart none = none
 found k (field ∷ fields) ms apart none = by (bytes_eq k field.0) refl (λ other. found k fields (with_field ms field) parts.1 other)
   where
     parts : (lacks_key field.0 fields ≡ true) × (are_apart fields ≡ true)
-    parts = both (lacks_key field.0 fields) (are_apart fields) apart
+    parts = both_true (lacks_key field.0 fields) (are_apart fields) apart
 
     by : (b : Bool) → bytes_eq k field.0 ≡ b → (get_member k (with_field ms field) ≡ None → get_member k (fold with_field (with_field ms field) fields) ≡ field_at k fields)
         → get_member k (fold with_field (with_field ms field) fields) ≡ (if b then field.1 else field_at k fields)
@@ -121,13 +112,9 @@ are_known known ms = list_all (is_known known) (keys_in ms)
 abbrev pub have_keys : List (List ℕ) → List Field → Bool
 have_keys known fields = list_all (λ field. is_known known field.0) fields
 
-and_true : (a b : Bool) → a ≡ true → b ≡ true → (a && b) ≡ true
-and_true true b p q = q
-and_true false b p q = absurd (true≢false (sym p))
-
 member_known : (known : List (List ℕ)) (k : List ℕ) (d : Data) (ms : Members) → is_known known k ≡ true → are_known known ms ≡ true → are_known known (with_member k d ms) ≡ true
 member_known known k d no_members own all = and_true (is_known known k) true own refl
-member_known known k d (member l e ms) own all = by (slice_cmp nat_cmp k l) (both (is_known known l) (are_known known ms) all) (λ more. member_known known k d ms own more)
+member_known known k d (member l e ms) own all = by (slice_cmp nat_cmp k l) (both_true (is_known known l) (are_known known ms) all) (λ more. member_known known k d ms own more)
   where
     by : (o : Ordering) → (is_known known l ≡ true) × (are_known known ms ≡ true) → (are_known known ms ≡ true → are_known known (with_member k d ms) ≡ true)
         → are_known known (match_ordering o (member k d (member l e ms)) (member l d ms) (member l e (with_member k d ms))) ≡ true
@@ -142,13 +129,13 @@ value_known known k (Some d) ms own all = member_known known k d ms own all
 fields_known : (known : List (List ℕ)) (fields : List Field) (ms : Members) → have_keys known fields ≡ true → are_known known ms ≡ true → are_known known (fold with_field ms fields) ≡ true
 fields_known known [] ms own all = all
 fields_known known (field ∷ fields) ms own all =
-    let parts = both (is_known known field.0) (have_keys known fields) own in
+    let parts = both_true (is_known known field.0) (have_keys known fields) own in
     fields_known known fields (with_field ms field) parts.1 (value_known known field.0 field.1 ms parts.0 all)
 
 none_unknown : (known : List (List ℕ)) (keys : List (List ℕ)) → list_all (is_known known) keys ≡ true → filter (λ key. not (list_any (bytes_eq key) known)) keys ≡ []
 none_unknown known [] all = refl
 none_unknown known (key ∷ keys) all =
-    let parts = both (is_known known key) (list_all (is_known known) keys) all in
+    let parts = both_true (is_known known key) (list_all (is_known known) keys) all in
     ap (λ (b : Bool). cond (not b) (key ∷ filter (λ key. not (list_any (bytes_eq key) known)) keys) (filter (λ key. not (list_any (bytes_eq key) known)) keys)) parts.0 ∙ none_unknown known keys parts.1
 
 -- a table of fields with known keys has no other

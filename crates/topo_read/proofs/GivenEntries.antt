@@ -5,6 +5,7 @@ use Rattle.std.specs.Prelude.{codes}
 use Rattle.std.proofs.lemmas.Bool.Decides.{nat_tests}
 use Rattle.toml.specs.Data.{Data, Members, as_integer, as_table}
 use Rattle.blz_value.specs.Name.{is_name}
+use Rattle.blz_value.proofs.Booleans.{and_true as both}
 use Rattle.topo_forms.specs.Allowed.{are_names, are_some_names, is_spot, is_side, is_empty, allows_source, allows_stock, allows_body, allows_note, allows_key, allows_component, allows_stream, allows_side, allows_fd, is_allowed, IsAllowed}
 use Rattle.topo_forms.specs.declared.topology.ColumnType.{ColumnType}
 use Rattle.topo_forms.specs.declared.topology.ComponentEntry.{ComponentEntry}
@@ -30,7 +31,7 @@ use Rattle.topo_read.specs.Fields.{◌>>=◌, Path, or_break, required, optional
 use Rattle.topo_read.specs.Entries.{any_types, or_any_types, types_of, or_no_names, source_keys, source_of, stream_of, fd_names, fd_of}
 use Rattle.topo_read.specs.Component.{stock_with, stock_of, empty_at, no_stock, body_with, body_of, sides_of, key_of, or_one, or_free, component_keys, component_of}
 use Rattle.topo_read.specs.Topology.{numbered, entry_path, entries_from, entries, topology_of}
-use Rattle.topo_read.proofs.GivenValues.{Passes, both, good_name, good_names, good_some_names, good_spot, fits_file, good_file, good_at_key, passes_any, good_maybe_at_key, good_list_at_key, good_side, good_note, good_fd_names, as_many_types, equal_numbers}
+use Rattle.topo_read.proofs.GivenValues.{Passes, good_name, good_names, good_some_names, good_spot, fits_file, good_file, good_at_key, passes_any, good_maybe_at_key, good_list_at_key, good_side, good_note, good_fd_names, as_many_types, equal_numbers}
 
 -- what went on was read
 was_read : {A B : Type 0} (m : Result A Path) (next : A → Result B Path) (y : B) → (m >>= next) ≡ Ok y → (x : A) × (m ≡ Ok x) × (next x ≡ Ok y)

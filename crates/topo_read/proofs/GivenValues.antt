@@ -5,6 +5,8 @@ use Rattle.std.specs.Prelude.{codes}
 use Rattle.std.proofs.lemmas.Bool.Decides.{nat_tests}
 use Rattle.toml.specs.Data.{Data, Items, no_items, item, Members, get_member, as_str, as_array, as_table}
 use Rattle.blz_value.specs.Name.{is_name}
+use Rattle.blz_value.proofs.Booleans.{and_true}
+use Rattle.blz_value.proofs.Options.{same_some}
 use Rattle.topo_forms.specs.Allowed.{are_names, are_some_names, is_spot, is_side, allows_gate, allows_note, allows_side}
 use Rattle.topo_forms.specs.declared.topology.ColumnType.{ColumnType}
 use Rattle.topo_forms.specs.declared.topology.Declared.{Declared}
@@ -22,11 +24,6 @@ use Rattle.topo_read.specs.Values.{◌>>=◌, only_if, parts_of, note_in, name_o
 abbrev pub Passes : {X : Type 0} → (Data → Option X) → (X → Bool) → Type 0
 Passes {X} read test = (value : Data) (x : X) → read value ≡ Some x → test x ≡ true
 
-pub both : (a b : Bool) → a ≡ true → b ≡ true → (a && b) ≡ true
-both true true p q = refl
-both true false p q = q
-both false b p q = p
-
 -- ---- the steps of a reading
 
 -- what went on was given
@@ -38,9 +35,6 @@ gave None next y e = cc
 pub tested : {X : Type 0} (test : Bool) (x y : X) → only_if test x ≡ Some y → (test ≡ true) × (x ≡ y)
 tested true x y e = (refl, (let same : x ≡ y = cc in same))
 tested false x y e = cc
-
-pub same_some : {X : Type 0} (x y : X) → Some x ≡ Some y → x ≡ y
-same_some x y e = cc
 
 -- ---- values
 
@@ -61,7 +55,7 @@ all_pass read test passes (item value rest) xs e =
     let first = gave (read value) (λ first. all_in read rest >>= (λ others. Some (first ∷ others))) xs e in
     let others = gave (all_in read rest) (λ others. Some (first.0 ∷ others)) xs first.2 in
     subst (λ zs. list_all test zs ≡ true) (same_some (first.0 ∷ others.0) xs others.2)
-    (both (test first.0) (list_all test others.0) (passes value first.0 first.1) (all_pass read test passes rest others.0 others.1))
+    (and_true (test first.0) (list_all test others.0) (passes value first.0 first.1) (all_pass read test passes rest others.0 others.1))
 
 pub good_list : {X : Type 0} (read : Data → Option X) (test : X → Bool) → Passes read test → Passes (list_in read) (list_all test)
 good_list read test passes value xs e =
@@ -83,7 +77,7 @@ pub good_some_names : Passes some_names_in are_some_names
 good_some_names value names e =
     let listed = gave (names_in value) one_or_more names e in
     let one = some_of listed.0 names listed.2 in
-    both (nat_le 1 (length names)) (are_names names) one.1 (subst (λ ns. are_names ns ≡ true) one.0 (good_names value listed.0 listed.1))
+    and_true (nat_le 1 (length names)) (are_names names) one.1 (subst (λ ns. are_names ns ≡ true) one.0 (good_names value listed.0 listed.1))
 
 spot_passes : (text : List ℕ) (spot : Spot) → spot_of text ≡ Some spot → is_spot spot ≡ true
 unfolding spot_of
@@ -92,7 +86,7 @@ spot_passes text spot e =
     let component = gave (name_of parts.0.0) _ spot parts.2 in
     let port = gave (name_of parts.0.1) _ spot component.2 in
     subst (λ s. is_spot s ≡ true) (same_some {X = Spot} (record { component = component.0; port = port.0 }) spot port.2)
-    (both (is_name component.0) (is_name port.0) (name_passes parts.0.0 component.0 component.1) (name_passes parts.0.1 port.0 port.1))
+    (and_true (is_name component.0) (is_name port.0) (name_passes parts.0.0 component.0 component.1) (name_passes parts.0.1 port.0 port.1))
 
 pub good_spot : Passes spot_in is_spot
 good_spot value spot e =
@@ -149,7 +143,7 @@ side_passes table side e =
     let columns = gave (at_key names_in (codes "columns") table) _ side name.2 in
     let held = tested {X = Side} (has_only (codes "name" ∷ codes "columns" ∷ []) table) (record { name = name.0; columns = columns.0 }) side columns.2 in
     subst (λ s. is_side s ≡ true) held.1
-    (both (is_name name.0) (are_names columns.0) (good_at_key name_in is_name good_name (codes "name") table name.0 name.1) (good_at_key names_in are_names good_names (codes "columns") table columns.0 columns.1))
+    (and_true (is_name name.0) (are_names columns.0) (good_at_key name_in is_name good_name (codes "name") table name.0 name.1) (good_at_key names_in are_names good_names (codes "columns") table columns.0 columns.1))
 
 pub good_side : Passes side_in is_side
 good_side value side e =
@@ -171,8 +165,8 @@ note_passes table declared e =
     let gate = gave (gate_of note.0 table) _ declared note.2 in
     let held = tested {X = Declared} (has_only (codes "from" ∷ codes "to" ∷ codes "note" ∷ codes "gate" ∷ []) table) (record { from = from.0; to = to.0; note = note.0; gate = gate.0 }) declared gate.2 in
     subst (λ d. allows_note d ≡ true) held.1
-    (both (is_name from.0) (is_name to.0 && allows_gate note.0 gate.0) (good_at_key name_in is_name good_name (codes "from") table from.0 from.1)
-    (both (is_name to.0) (allows_gate note.0 gate.0) (good_at_key name_in is_name good_name (codes "to") table to.0 to.1) (gate_passes note.0 table gate.0 gate.1)))
+    (and_true (is_name from.0) (is_name to.0 && allows_gate note.0 gate.0) (good_at_key name_in is_name good_name (codes "from") table from.0 from.1)
+    (and_true (is_name to.0) (allows_gate note.0 gate.0) (good_at_key name_in is_name good_name (codes "to") table to.0 to.1) (gate_passes note.0 table gate.0 gate.1)))
 
 pub good_note : Passes declared_in allows_note
 good_note value declared e =
@@ -184,12 +178,12 @@ pub good_fd_names : (format : Format) (key : List ℕ) (table : Members) (names 
 good_fd_names One key table names e =
     let name = gave (at_key name_in key table) (λ name. Some (name ∷ [])) names e in
     subst (λ ns. allows_side 2 ns ≡ true) (same_some (name.0 ∷ []) names name.2)
-    (both (are_some_names (name.0 ∷ [])) (nat_le 1 8) (both (nat_le 1 1) (is_name name.0 && true) refl (both (is_name name.0) true (good_at_key name_in is_name good_name key table name.0 name.1) refl)) refl)
+    (and_true (are_some_names (name.0 ∷ [])) (nat_le 1 8) (and_true (nat_le 1 1) (is_name name.0 && true) refl (and_true (is_name name.0) true (good_at_key name_in is_name good_name key table name.0 name.1) refl)) refl)
 good_fd_names Two key table names e =
     let listed = gave (at_key some_names_in key table) up_to_eight names e in
     let held = tested (nat_le (length listed.0) 8) listed.0 names listed.2 in
     subst (λ ns. allows_side 2 ns ≡ true) held.1
-    (both (are_some_names listed.0) (nat_le (length listed.0) 8) (good_at_key some_names_in are_some_names good_some_names key table listed.0 listed.1) held.0)
+    (and_true (are_some_names listed.0) (nat_le (length listed.0) 8) (good_at_key some_names_in are_some_names good_some_names key table listed.0 listed.1) held.0)
 
 -- as many types as columns
 pub as_many_types : (count : ℕ) (value : Data) (types : List ColumnType) → types_in count value ≡ Some types → length types ≡ count

@@ -4,6 +4,7 @@ use Rattle.std.specs.List.{list_all}
 use Rattle.std.proofs.lemmas.Bool.{true≢false}
 use Rattle.blz_value.specs.Members.{Has}
 use Rattle.blz_value.proofs.Membership.{all_member}
+use Rattle.blz_value.proofs.Booleans.{both_true as both}
 use Rattle.toml.specs.Data.{Data, string, integer, depth, items_depth, members_depth, Members, as_table, get_member}
 use Rattle.toml.specs.View.{items_of}
 use Rattle.topo_forms.specs.declared.topology.ColumnType.{ColumnType}
@@ -25,7 +26,7 @@ use Rattle.topo_read.specs.Topology.{tables_at, numbered, entries_from, topology
 use Rattle.topo_read.specs.Values.{format_in}
 use Rattle.topo_read.specs.Written.{source_fields, component_fields, stream_fields, fd_fields, topology_fields, table_of}
 use Rattle.topo_read.proofs.Filled.{at_field}
-use Rattle.topo_read.proofs.ReadBackValues.{both, all_give}
+use Rattle.topo_read.proofs.ReadBackValues.{all_give}
 use Rattle.topo_read.proofs.ReadBackEntries.{next, takes, list, only, source_reads, stream_reads, fd_reads}
 use Rattle.topo_read.proofs.ReadBackComponents.{component_reads}
 

@@ -6,6 +6,7 @@ use Rattle.std.proofs.lemmas.Bool.{eqb-true, true≢false}
 use Rattle.blz_value.specs.Members.{Has}
 use Rattle.blz_value.specs.Name.{is_name}
 use Rattle.blz_value.proofs.Membership.{all_member}
+use Rattle.blz_value.proofs.Booleans.{both_true as both}
 use Rattle.toml.specs.Data.{Data, string, integer, table, as_integer, get_member, Members}
 use Rattle.topo_forms.specs.declared.topology.Body.{Body}
 use Rattle.topo_forms.specs.declared.topology.Body.TheVariants as body
@@ -38,7 +39,7 @@ use Rattle.topo_read.specs.Values as values
 use Rattle.topo_read.specs.Values.{only_if, name_in, names_in, some_names_in, spot_in, file_in, stock_in, type_in, types_in, note_in, mode_in}
 use Rattle.topo_read.specs.Written.{spot_data, type_data, note_data, is_any, types_data, source_fields, side_fields, side_data, declared_fields, declared_data, body_fields, component_fields, module_data, stock_name, stock_columns, stock_split, stock_keys, of_stock, is_one, replicas_data, mode_data}
 use Rattle.topo_read.proofs.Filled.{at_field, are_apart, have_keys, no_unknown}
-use Rattle.topo_read.proofs.ReadBackValues.{both, list_reads, maybe_list_reads, name_reads, names_read, maybe_names_read, some_names_read, given_names, given_names_read, given_names_are, spot_reads, types_read, note_reads, at_reads, maybe_reads, list_at_reads, is_lacking, side_from, declared_from, no_gate, file_reads}
+use Rattle.topo_read.proofs.ReadBackValues.{list_reads, maybe_list_reads, name_reads, names_read, maybe_names_read, some_names_read, given_names, given_names_read, given_names_are, spot_reads, types_read, note_reads, at_reads, maybe_reads, list_at_reads, is_lacking, side_from, declared_from, no_gate, file_reads}
 use Rattle.topo_read.proofs.ReadBackEntries.{next, takes, maybe, list, none, only}
 
 -- ---- lists that are empty

@@ -7,6 +7,8 @@ use Rattle.std.proofs.lemmas.Bool.Decides.{nat_tests}
 use Rattle.blz_value.specs.Members.{Has}
 use Rattle.blz_value.specs.Name.{is_name, is_name_byte, starts_name}
 use Rattle.blz_value.proofs.Membership.{all_member}
+use Rattle.blz_value.proofs.Booleans.{both_true}
+use Rattle.blz_value.proofs.Lists.{map_itself}
 use Rattle.toml.specs.Data.{Data, string, Items, item, array, Members, get_member}
 use Rattle.toml.specs.View.{items_of}
 use Rattle.topo_forms.specs.declared.topology.ColumnType.{ColumnType}
@@ -23,10 +25,6 @@ use Rattle.topo_read.specs.Tables.{at_key, maybe_at_key, list_at_key, lacks, non
 use Rattle.topo_read.specs.Values.{◌>>=◌, only_if, name_of, name_in, names_in, some_names_in, one_or_more, all_in, list_in, is_dot, parts_of, spot_of, spot_in, type_in, types_in, of_length, note_in, file_in}
 use Rattle.topo_read.specs.Written.{spot_data, type_data, note_data}
 
-pub both : (a b : Bool) → (a && b) ≡ true → (a ≡ true) × (b ≡ true)
-both true b e = (refl, e)
-both false b e = absurd (true≢false (sym e))
-
 -- ---- lists
 
 pub all_give : {X Y : Type 0} (read : Data → Option Y) (write : X → Data) (f : X → Y) (xs : List X) → ((x : X) → Has x xs → read (write x) ≡ Some (f x)) → all_in read (items_of (map write xs)) ≡ Some (map f xs)
@@ -35,12 +33,8 @@ all_give read write f (x ∷ xs) each =
     ap (λ (o : Option _). o >>= (λ first. all_in read (items_of (map write xs)) >>= (λ others. Some (first ∷ others)))) (each x (inl refl))
     ∙ ap (λ (o : Option (List _)). o >>= (λ others. Some (f x ∷ others))) (all_give read write f xs (λ y has. each y (inr has)))
 
-all_same : {X : Type 0} (xs : List X) → map (λ x. x) xs ≡ xs
-all_same [] = refl
-all_same (x ∷ xs) = ap (λ ys. x ∷ ys) (all_same xs)
-
 pub all_reads : {X : Type 0} (read : Data → Option X) (write : X → Data) (xs : List X) → ((x : X) → Has x xs → read (write x) ≡ Some x) → all_in read (items_of (map write xs)) ≡ Some xs
-all_reads read write xs each = all_give read write (λ x. x) xs each ∙ ap (λ ys. Some ys) (all_same xs)
+all_reads read write xs each = all_give read write (λ x. x) xs each ∙ ap (λ ys. Some ys) (map_itself xs)
 
 pub list_reads : {X : Type 0} (read : Data → Option X) (write : X → Data) (xs : List X) → ((x : X) → Has x xs → read (write x) ≡ Some x) → list_in read (list_data write xs) ≡ Some xs
 list_reads read write xs each = all_reads read write xs each
@@ -67,7 +61,7 @@ some_is (name ∷ names) e = refl
 
 pub some_names_read : (names : List (List ℕ)) → are_some_names names ≡ true → some_names_in (list_data string names) ≡ Some names
 some_names_read names e =
-    let parts = both (nat_le 1 (length names)) (are_names names) e in
+    let parts = both_true (nat_le 1 (length names)) (are_names names) e in
     ap (λ (o : Option (List (List ℕ))). o >>= one_or_more) (names_read names parts.1) ∙ some_is names parts.0
 
 -- names whose key isn't written where there are none
@@ -99,7 +93,7 @@ dotted component port = (component ++ codes ".") ++ port
 dot_at : (component port : List ℕ) → list_all is_name_byte component ≡ true → position_or_len is_dot (dotted component port) ≡ length component
 dot_at [] port e = refl
 dot_at (byte ∷ component) port e =
-    let parts = both (is_name_byte byte) (list_all is_name_byte component) e in
+    let parts = both_true (is_name_byte byte) (list_all is_name_byte component) e in
     let later : position_or_len is_dot (dotted component port) ≡ length component = dot_at component port parts.1 in
     let here : is_dot byte ≡ false = no_dot byte parts.0 in
     rw here (omega (arith, later))
@@ -136,9 +130,9 @@ then_spot port component = component >>= (λ named. then_port named (name_of por
 pub spot_reads : (spot : Spot) → is_spot spot ≡ true → spot_in (spot_data spot) ≡ Some spot
 unfolding spot_of
 spot_reads spot e =
-    let named = both (is_name spot.component) (is_name spot.port) e in
-    let bytes = both (starts_name spot.component) (nat_le (length spot.component) 64 && list_all is_name_byte spot.component) named.0 in
-    let all = both (nat_le (length spot.component) 64) (list_all is_name_byte spot.component) bytes.1 in
+    let named = both_true (is_name spot.component) (is_name spot.port) e in
+    let bytes = both_true (starts_name spot.component) (nat_le (length spot.component) 64 && list_all is_name_byte spot.component) named.0 in
+    let all = both_true (nat_le (length spot.component) 64) (list_all is_name_byte spot.component) bytes.1 in
     ap (λ (o : Option (List ℕ × List ℕ)). o >>= (λ parts. then_spot parts.1 (name_of parts.0))) (parts_are spot.component spot.port all.1)
     ∙ ap (λ (b : Bool). then_spot spot.port (only_if b spot.component)) named.0
     ∙ ap (λ (b : Bool). then_port spot.component (only_if b spot.port)) named.1

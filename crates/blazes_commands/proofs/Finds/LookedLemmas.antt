@@ -1,7 +1,6 @@
 -- The record that the words name is looked for as the script of `why` says.
 use Rattle.std.proofs.Common.{◌≡◌, ◌+◌, ◌++◌, ◌<◌, ℕ, Bool, true, false, List, [], ◌∷◌, length, Option, None, Some, Result, Ok, Err, refl, sym, subst, arith}
 use Rattle.std.specs.Prelude.{nat_lt, if◌then◌else◌}
-use Rattle.std.specs.List.{position_from}
 use Rattle.std.specs.Result.{IsErrAnd}
 use Rattle.std.specs.Str.{bytes_eq}
 use Rattle.std.proofs.lemmas.Bool.{ltb-true}
@@ -9,6 +8,7 @@ use Rattle.bloom_forms.specs.declared.program.Program.{Program}
 use Rattle.bloom_forms.specs.Step.{Sets}
 use Rattle.bloom_eval.specs.declared.kind.ProgramKind.{ProgramKind}
 use Rattle.blz_value.specs.Record.{Row}
+use Rattle.blz_value.proofs.Options.{place_within}
 use Rattle.inbox.specs.Executions.{Execution, first_execution}
 use Rattle.report_lines.specs.Refusals.{refusal_line}
 use Rattle.report_lines.specs.declared.refusal.Refusal.TheVariants as refusal
@@ -39,14 +39,6 @@ use Rattle.blazes_commands.specs.declared.find_calls.finding.Wanted.{Wanted}
 use Rattle.blazes_commands.proofs.Finds.NetLemmas.{opening_stops, run_came, run_stops}
 
 -- ---- the stream
-
-place_within : {X : Type 0} (test : X → Bool) (at : ℕ) (xs : List X) (k : ℕ) → position_from test at xs ≡ Some k → k < at + length xs
-place_within test at [] k is = absurd (cc)
-place_within {X} test at (x ∷ xs) k is = from (test x) (place_within test (at + 1) xs k) is
-  where
-    from : (b : Bool) → (position_from test (at + 1) xs ≡ Some k → k < at + 1 + length xs) → (if b then Some at else position_from test (at + 1) xs) ≡ Some k → k < at + length (x ∷ xs)
-    from true later is = let same : at ≡ k = cc in omega (arith, same)
-    from false later is = let within = later is in omega (arith, within)
 
 -- a stream that has a name is one of the topology
 pub named_within : (v : View) (name : List ℕ) (stream : ℕ) → find_stream v name ≡ Some stream → stream < length v.streams

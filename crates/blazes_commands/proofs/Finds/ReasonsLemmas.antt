@@ -7,12 +7,11 @@ use Rattle.std.specs.Option.{option_and_then}
 use Rattle.std.specs.Result.{IsErrAnd}
 use Rattle.std.proofs.lemmas.Bool.{and_from, and_parts}
 use Rattle.std.proofs.lemmas.List.Sums.{AllPass-from_list_all}
-use Rattle.std.proofs.lemmas.Option.{get_or_from_slice_get, slice_get_within}
 use Rattle.bloom_eval.specs.declared.kind.ProgramKind.{ProgramKind}
-use Rattle.blz_value.specs.Members.{Has}
 use Rattle.blz_value.specs.Record.{Row}
-use Rattle.blz_value.proofs.Membership.{any_from_Has, Has-get_or}
+use Rattle.blz_value.proofs.Membership.{any_from_Has}
 use Rattle.blz_value.proofs.SetLaws.{Has-set_of}
+use Rattle.sched_run.proofs.SeatsLemmas.{has-by_number}
 use Rattle.inbox.specs.Executions.{Execution, contents, emitted_list, first_execution}
 use Rattle.inbox.specs.Wiring.{wiring_of}
 use Rattle.inbox.proofs.TimestepLemmas.Entries.{Has-rows_in}
@@ -60,16 +59,12 @@ row_of None r is = absurd (cc)
 row_of (Some (row q)) r is = let same : q ≡ r = cc in ap (λ (z : Row). Some (row z)) same
 row_of (Some (seal k n)) r is = absurd (cc)
 
--- what stands in an emitted list is in the contents
-emitted_has : (messages : List Message) (n : ℕ) (m : Message) → slice_get messages n ≡ Some m → Has m messages
-emitted_has messages n m is = subst (λ (z : Message). Has z messages) (get_or_from_slice_get messages n m m is) (Has-get_or messages n m (slice_get_within messages n m is))
-
 record_has : (v : View) (given : Data) (x : Execution) (s r n : ℕ) (q : Row) → nat_lt r (stream_replicas v s) ≡ true → check.record_at v given x s r n ≡ Some q → has_record v given (trim.wanted s r q) x ≡ true
 record_has v given x s r n q sends is =
     let messages = emitted_list (wiring_of v) given x s r in
     and_from (nat_lt r (stream_replicas v s)) (list_any (is_same_row q) (contents (wiring_of v) given x s r)) sends
     (any_from_Has (is_same_row q) q (contents (wiring_of v) given x s r)
-    (Has-set_of q (rows_in messages) (Has-rows_in q messages (emitted_has messages n (row q) (row_of (slice_get messages n) q is))))
+    (Has-set_of q (rows_in messages) (Has-rows_in q messages (has-by_number messages n (row q) (row_of (slice_get messages n) q is))))
     (is_same_row-itself q))
 
 record_yielded : (v : View) (given : Data) (lines : List Line) (sought : trim.Wanted) (x : Execution) → after_lines named.Event v given lines first_execution ≡ Ok x → has_record v given sought x ≡ true → yields v given sought lines ≡ true

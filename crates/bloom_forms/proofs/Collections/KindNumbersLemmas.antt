@@ -5,6 +5,7 @@ use Rattle.std.proofs.lemmas.Bool.{cases_lt}
 use Rattle.std.proofs.lemmas.List.{get_or_past}
 use Rattle.blz_value.specs.Members.{Has}
 use Rattle.blz_value.specs.Record.{Row}
+use Rattle.bloom_forms.proofs.Ends.SameEnds.{one_kind}
 use Rattle.bloom_forms.specs.declared.module.Kind.{Kind}
 use Rattle.bloom_forms.specs.declared.module.Collection.{Collection}
 use Rattle.bloom_forms.specs.Kinds.{same_kind, of_kind, place_in_kind, kind_at}
@@ -116,24 +117,6 @@ number_at_place kind cs k is = let c = get-kind cs k kind is in number-place kin
 
 -- ---- the collection at a place among those of a kind
 
-same_is : (kind other : Kind) → same_kind kind other ≡ true → other ≡ kind
-same_is Input Input e = refl
-same_is Output Output e = refl
-same_is Table Table e = refl
-same_is Scratch Scratch e = refl
-same_is Input Output e = cc
-same_is Input Table e = cc
-same_is Input Scratch e = cc
-same_is Output Input e = cc
-same_is Output Table e = cc
-same_is Output Scratch e = cc
-same_is Table Input e = cc
-same_is Table Output e = cc
-same_is Table Scratch e = cc
-same_is Scratch Input e = cc
-same_is Scratch Output e = cc
-same_is Scratch Table e = cc
-
 -- a collection of a kind with this place among them
 pub record IsAtPlace (kind : Kind) (cs : List Collection) (place : ℕ) : Type 0 where
   pub number : ℕ
@@ -152,7 +135,7 @@ at_place kind (c ∷ cs) place lt = go (same_kind kind c.kind) refl place lt (at
     go : (b : Bool) → same_kind kind c.kind ≡ b → (p : ℕ)
         → p < length (map (λ (d : Collection). d.columns) (cond b (c ∷ of_kind kind cs) (of_kind kind cs)))
         → ((p : ℕ) → p < length (columns_of_kind kind cs) → IsAtPlace kind cs p) → IsAtPlace kind (c ∷ cs) p
-    go true e zero lt more = record { number = 0; is = ap Some (same_is kind c.kind e); stands = refl }
+    go true e zero lt more = record { number = 0; is = ap Some (one_kind kind c.kind e); stands = refl }
     go true e (suc p) lt more = let m = more p (omega (arith, lt)) in record { number = suc m.number; is = m.is; stands = later true e m.number (suc p) (ap suc m.stands) }
     go false e p lt more = let m = more p lt in record { number = suc m.number; is = m.is; stands = later false e m.number p m.stands }
 

@@ -1,5 +1,5 @@
 -- Names and their numbers.
-use Rattle.std.proofs.Common.{◌≡◌, ◌≤◌, ◌<◌, ◌&&◌, ℕ, Bool, true, false, Option, None, Some, List, [], ◌∷◌, ◌++◌, length, slice_get, refl, sym, subst}
+use Rattle.std.proofs.Common.{◌≡◌, ◌≤◌, ◌<◌, ◌&&◌, ℕ, true, Option, None, Some, List, [], ◌∷◌, ◌++◌, length, slice_get, refl, sym, subst}
 use Rattle.std.specs.Prelude.{unwrap_or, IfSome}
 use Rattle.std.specs.Cmp.Lexicographic.{same_text}
 use Rattle.std.specs.Str.{bytes_eq}
@@ -8,6 +8,7 @@ use Rattle.blz_value.specs.Members.{Has}
 use Rattle.blz_value.proofs.Membership.{Has-from_any}
 use Rattle.blz_value.specs.Names.{place_of}
 use Rattle.blz_value.proofs.Places.{place_of-get, place_of-none}
+use Rattle.blz_value.proofs.Booleans.{both_true}
 use Rattle.bloom_forms.specs.declared.expr.Term.{Term}
 use Rattle.bloom_forms.specs.declared.expr.Term.TheVariants.{Column, Literal}
 use Rattle.bloom_forms.specs.declared.module.Collection.{Collection}
@@ -35,11 +36,6 @@ number_below columns name stands = go (place_of columns name) refl
 
 -- ---- names can be made numbers where the operators fit
 
--- both of two tests that hold together
-pub and_parts : (x y : Bool) → (x && y) ≡ true → (x ≡ true) × (y ≡ true)
-and_parts true y e = (refl, e)
-and_parts false y e = cc
-
 -- a name that is found is one of the list
 found : (columns : List Name) (name : Name) → has_name columns name ≡ true → Has name columns
 found columns name e = let at = Has-from_any (λ held. bytes_eq held name) columns e in subst (λ n. Has n columns) (same_text at.0 name (sym at.2)) at.1
@@ -49,37 +45,37 @@ term_found columns (Column name) e = found columns name e
 term_found columns (Literal value) e = tt
 
 formula_found : (columns : List Name) (f : Formula) → formula_fits columns f ≡ true → FormulaFits columns f
-formula_found columns (compare l o r) e = let p = and_parts (term_fits columns l) (term_fits columns r) e in (term_found columns l p.0, term_found columns r p.1)
-formula_found columns (both a b) e = let p = and_parts (formula_fits columns a) (formula_fits columns b) e in (formula_found columns a p.0, formula_found columns b p.1)
-formula_found columns (either a b) e = let p = and_parts (formula_fits columns a) (formula_fits columns b) e in (formula_found columns a p.0, formula_found columns b p.1)
+formula_found columns (compare l o r) e = let p = both_true (term_fits columns l) (term_fits columns r) e in (term_found columns l p.0, term_found columns r p.1)
+formula_found columns (both a b) e = let p = both_true (formula_fits columns a) (formula_fits columns b) e in (formula_found columns a p.0, formula_found columns b p.1)
+formula_found columns (either a b) e = let p = both_true (formula_fits columns a) (formula_fits columns b) e in (formula_found columns a p.0, formula_found columns b p.1)
 formula_found columns (not_so a) e = formula_found columns a e
 
 -- a part that fits has at most eight columns
 few : (columns : Name → List Name) (q : Query) → part_fits columns q ≡ true → length (columns_of columns q) ≤ 8
-few columns q e = at_most_eight (length (columns_of columns q)) (and_parts (is_width (length (columns_of columns q))) _ (and_parts (operator_fits columns q) (are_columns (columns_of columns q)) e).1).0
+few columns q e = at_most_eight (length (columns_of columns q)) (both_true (is_width (length (columns_of columns q))) _ (both_true (operator_fits columns q) (are_columns (columns_of columns q)) e).1).0
 
 -- the names of an expression that fits can be made numbers
 numberable : (columns : Name → List Name) (q : Query) → query_fits columns q ≡ true → IsNumberable columns q
 numberable columns (base name) e = few columns (base name) e
 numberable columns (select q f) e =
-    let p = and_parts (query_fits columns q) (part_fits columns (select q f)) e in
-    (numberable columns q p.0, formula_found (columns_of columns q) f (and_parts (operator_fits columns (select q f)) (are_columns (columns_of columns (select q f))) p.1).0)
+    let p = both_true (query_fits columns q) (part_fits columns (select q f)) e in
+    (numberable columns q p.0, formula_found (columns_of columns q) f (both_true (operator_fits columns (select q f)) (are_columns (columns_of columns (select q f))) p.1).0)
 numberable columns (project q items) e =
-    let p = and_parts (query_fits columns q) (part_fits columns (project q items)) e in
+    let p = both_true (query_fits columns q) (part_fits columns (project q items)) e in
     (numberable columns q p.0, subst (λ n. n ≤ 8) (length-map items (λ (item : Name × Name). item.1)) (few columns (project q items) p.1))
 numberable columns (join a b pairs) e =
-    let p = and_parts (query_fits columns a) (query_fits columns b && part_fits columns (join a b pairs)) e in
-    let q = and_parts (query_fits columns b) (part_fits columns (join a b pairs)) p.1 in
+    let p = both_true (query_fits columns a) (query_fits columns b && part_fits columns (join a b pairs)) e in
+    let q = both_true (query_fits columns b) (part_fits columns (join a b pairs)) p.1 in
     (numberable columns a p.0, numberable columns b q.0, few columns (join a b pairs) q.1)
 numberable columns (notin a b pairs) e =
-    let p = and_parts (query_fits columns a) (query_fits columns b && part_fits columns (notin a b pairs)) e in
-    let q = and_parts (query_fits columns b) (part_fits columns (notin a b pairs)) p.1 in
+    let p = both_true (query_fits columns a) (query_fits columns b && part_fits columns (notin a b pairs)) e in
+    let q = both_true (query_fits columns b) (part_fits columns (notin a b pairs)) p.1 in
     (numberable columns a p.0, numberable columns b q.0)
 numberable columns (group q keys agg name) e =
-    let p = and_parts (query_fits columns q) (part_fits columns (group q keys agg name)) e in
+    let p = both_true (query_fits columns q) (part_fits columns (group q keys agg name)) e in
     (numberable columns q p.0, few columns (group q keys agg name) p.1)
 numberable columns (at_least q keys bound) e =
-    let p = and_parts (query_fits columns q) (part_fits columns (at_least q keys bound)) e in
+    let p = both_true (query_fits columns q) (part_fits columns (at_least q keys bound)) e in
     (numberable columns q p.0, few columns (at_least q keys bound) p.1)
 
 -- the names in the rules of a checked module can be made numbers

@@ -7,6 +7,8 @@ use Rattle.std.specs.Str.{bytes_eq}
 use Rattle.std.proofs.lemmas.Bool.{cases_Bool, eq-eqb, ne_eqb}
 use Rattle.std.proofs.lemmas.Slice.Eq.{bytes_eq-Decides}
 use Rattle.blz_value.specs.Record.{Row}
+use Rattle.blz_value.proofs.Lists.{position_from-suc}
+use Rattle.blz_value.proofs.Options.{unwrap_or-suc}
 use Rattle.bloom_forms.specs.declared.module.Kind.{Kind}
 use Rattle.bloom_forms.specs.declared.module.Kind.TheVariants.{Input, Output, Table, Scratch}
 use Rattle.bloom_forms.specs.declared.module.Collection.{Collection}
@@ -20,19 +22,7 @@ use Rattle.bloom_forms.specs.Equations.{rules_of}
 
 -- ---- names and numbers
 
-position_from-suc : {X : Type 0} (t : X → Bool) (i : ℕ) (xs : List X) → position_from t (i + 1) xs ≡ option_map suc (position_from t i xs)
-position_from-suc t i [] = refl
-position_from-suc {X = X} t i (x ∷ xs) = go (t x) (position_from-suc t (i + 1) xs)
-  where
-    go : (b : Bool) → position_from t ((i + 1) + 1) xs ≡ option_map suc (position_from t (i + 1) xs) → cond b (Some (i + 1)) (position_from t ((i + 1) + 1) xs) ≡ option_map suc (cond b (Some i) (position_from t (i + 1) xs))
-    go true e = ap Some (omega arith)
-    go false e = e
-
-unwrap_or-suc : (o : Option ℕ) (d : ℕ) → unwrap_or (option_map suc o) (suc d) ≡ suc (unwrap_or o d)
-unwrap_or-suc None d = refl
-unwrap_or-suc (Some i) d = refl
-
-number-cons : (c : Collection) (cs : List Collection) (name : Name) → collection_number (c ∷ cs) name ≡ cond (is_named name c) 0 (suc (collection_number cs name))
+pub number-cons : (c : Collection) (cs : List Collection) (name : Name) → collection_number (c ∷ cs) name ≡ cond (is_named name c) 0 (suc (collection_number cs name))
 number-cons c cs name = go (is_named name c) (position_from-suc (is_named name) 0 cs)
   where
     go : (b : Bool) → position_from (is_named name) 1 cs ≡ option_map suc (position_from (is_named name) 0 cs) → unwrap_or (cond b (Some 0) (position_from (is_named name) 1 cs)) (suc (length cs)) ≡ cond b 0 (suc (collection_number cs name))

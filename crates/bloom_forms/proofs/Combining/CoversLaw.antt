@@ -64,13 +64,13 @@ covers_gate-common (Some c) (Some a) (Some b) p q = within-and a.bits b.bits c.b
 
 -- notes
 
-is_write-note_with : (write : Bool) (gate : Option Attrs) → is_write (note_with write gate) ≡ write
+pub is_write-note_with : (write : Bool) (gate : Option Attrs) → is_write (note_with write gate) ≡ write
 is_write-note_with false None = refl
 is_write-note_with true None = refl
 is_write-note_with false (Some gate) = refl
 is_write-note_with true (Some gate) = refl
 
-gate_of-note_with : (write : Bool) (gate : Option Attrs) → own_gate (note_with write gate) ≡ gate
+pub gate_of-note_with : (write : Bool) (gate : Option Attrs) → own_gate (note_with write gate) ≡ gate
 gate_of-note_with false None = refl
 gate_of-note_with true None = refl
 gate_of-note_with false (Some gate) = refl
@@ -82,7 +82,7 @@ covers-write a b h = first_so _ _ h
 covers-gate : (a b : Note) → covers a b ≡ true → covers_gate (own_gate a) (own_gate b) ≡ true
 covers-gate a b h = second_so _ _ h
 
-covers-refl : (a : Note) → covers a a ≡ true
+pub covers-refl : (a : Note) → covers a a ≡ true
 covers-refl a = both_true (covers_write-refl (is_write a)) (covers_gate-refl (own_gate a))
 
 covers-trans : (a b c : Note) → covers a b ≡ true → covers b c ≡ true → covers a c ≡ true

@@ -1,5 +1,5 @@
 -- Rows of one step are copies of records that arrived in it, or before it for kept rows.
-use Rattle.std.proofs.Common.{◌≡◌, ◌<◌, ◌≤◌, ℕ, true, List, [], ◌∷◌, ◌++◌, length, map, slice_get, Option, None, Some, refl, ap, ◌∙◌, sym, subst, ◌⊎◌, inl, inr, arith}
+use Rattle.std.proofs.Common.{◌≡◌, ◌<◌, ◌≤◌, ℕ, true, List, [], ◌∷◌, ◌++◌, length, map, slice_get, Option, None, Some, refl, ◌∙◌, sym, subst, ◌⊎◌, inl, inr, arith}
 use Rattle.std.specs.Prelude.{◌==◌}
 use Rattle.std.specs.List.{list_all, range_with_len}
 use Rattle.std.proofs.lemmas.Bool.{cases_lt, eqb-true}
@@ -14,6 +14,7 @@ use Rattle.blz_value.specs.Closure.{within, closure, IsLeastClosed}
 use Rattle.blz_value.proofs.Members.{in-within}
 use Rattle.blz_value.proofs.Least.{closure-least}
 use Rattle.blz_value.proofs.Reached.{closed-map, closure-trans}
+use Rattle.bloom_forms.proofs.Copies.AttributesLemmas.{same_roots}
 use Rattle.bloom_forms.specs.declared.module.Kind.{Kind}
 use Rattle.bloom_forms.specs.declared.module.Kind.TheVariants.{Input, Output, Table, Scratch}
 use Rattle.bloom_forms.specs.declared.module.Collection.{Collection}
@@ -50,11 +51,6 @@ pub record IsArrived (names : List Name) (a : Accepted) (all : List Sets) (read 
 
 -- ---- roots that rules agree on
 
-same_root : (b c : Option ℕ) (attribute : ℕ) → are_same b c ≡ true → b ≡ Some attribute → c ≡ Some attribute
-same_root None c attribute same is = cc
-same_root (Some b) None attribute same is = cc
-same_root (Some b) (Some c) attribute same is = let one : b ≡ c = eqb-true b c same in ap Some (sym one) ∙ is
-
 -- the root of a column that some rules agree on is that which each of them gives
 agreed-each : (lists : List Roots) (roots : Roots) (number attribute : ℕ) → Has roots lists → agreed_root lists number ≡ Some attribute → root_at roots number ≡ Some attribute
 agreed-each [] roots number attribute h is = absurd h
@@ -62,7 +58,7 @@ agreed-each (first ∷ lists) roots number attribute h is =
     let both = chosen (list_all (λ (other : Roots). are_same (root_at first number) (root_at other number)) lists) (root_at first number) attribute is in
     elim h [
       | inl e ↦ subst (λ (r : Roots). root_at r number ≡ Some attribute) e both.1
-      | inr m ↦ same_root (root_at first number) (root_at roots number) attribute (all_member (λ (other : Roots). are_same (root_at first number) (root_at other number)) lists roots both.0 m) both.1
+      | inr m ↦ same_roots (root_at first number) (root_at roots number) attribute (all_member (λ (other : Roots). are_same (root_at first number) (root_at other number)) lists roots both.0 m) both.1
     ]
 
 keeps-numbered : (f : ℕ → Option ℕ) (count : ℕ) (roots : Roots) → ((number attribute : ℕ) → f number ≡ Some attribute → root_at roots number ≡ Some attribute) → KeepsRoots roots (map f (range_with_len 0 count))

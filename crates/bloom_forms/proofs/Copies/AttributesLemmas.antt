@@ -107,7 +107,7 @@ pub in_set_has : (names columns : List Name) (n : ℕ)
     → meets (bit_of n) (set_of_roots (attribute_roots names columns)) ≡ true → has_attribute names columns n ≡ true
 in_set_has names columns n h = any_from_Has (are_same (Some n)) (Some n) (attribute_roots names columns) (in_roots (attribute_roots names columns) n h) (eq-eqb n n refl)
 
-same_roots : (a b : Option ℕ) (n : ℕ) → are_same a b ≡ true → a ≡ Some n → b ≡ Some n
+pub same_roots : (a b : Option ℕ) (n : ℕ) → are_same a b ≡ true → a ≡ Some n → b ≡ Some n
 same_roots None b n same is = cc
 same_roots (Some a) None n same is = cc
 same_roots (Some a) (Some b) n same is = let e : a ≡ b = eqb-true a b same in cc

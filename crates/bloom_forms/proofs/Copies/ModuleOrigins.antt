@@ -1,5 +1,5 @@
 -- Origins of the rows of a module, over any steps.
-use Rattle.std.proofs.Common.{◌≡◌, ℕ, zero, suc, true, false, List, [], ◌∷◌, ◌++◌, get_or, map, Option, None, Some, refl, ◌∙◌, sym, subst, ◌⊎◌, inl, inr}
+use Rattle.std.proofs.Common.{◌≡◌, ℕ, true, false, List, [], ◌∷◌, ◌++◌, get_or, Option, None, Some, refl, ◌∙◌, sym, subst, ◌⊎◌, inl, inr}
 use Rattle.std.specs.List.{fold}
 use Rattle.std.specs.Option.{option_map_or}
 use Rattle.std.proofs.lemmas.Bool.{eq-eqb}
@@ -9,6 +9,7 @@ use Rattle.blz_value.specs.Record.{Row}
 use Rattle.blz_value.proofs.Membership.{All-of_member, Has-append_left, Has-append_right, Has-filter}
 use Rattle.blz_value.specs.Bits.{bit_of, meets}
 use Rattle.blz_value.specs.Closure.{closure}
+use Rattle.bloom_forms.proofs.Ends.StepsLemmas.{no_row}
 use Rattle.bloom_forms.specs.declared.module.Kind.{Kind}
 use Rattle.bloom_forms.specs.declared.module.Kind.TheVariants.{Input, Output, Table, Scratch}
 use Rattle.bloom_forms.specs.declared.program.Program.TheVariants.{Module}
@@ -21,7 +22,7 @@ use Rattle.bloom_forms.specs.Program.{columns_of_kind, port_columns, table_colum
 use Rattle.bloom_forms.specs.ProgramStep.{tables_after_step, empty_tables}
 use Rattle.bloom_forms.specs.Query.{Name}
 use Rattle.bloom_forms.specs.Reads.{arrows, named}
-use Rattle.bloom_forms.specs.Step.{Sets, set_at, at_end}
+use Rattle.bloom_forms.specs.Step.{Sets, at_end}
 use Rattle.bloom_forms.specs.Widths.{AreSetsOf}
 use Rattle.bloom_forms.specs.KindNumbers.{number_in_kind}
 use Rattle.bloom_forms.specs.Steps.{tables_after_steps, AreArrivals}
@@ -39,12 +40,6 @@ use Rattle.bloom_forms.proofs.Copies.Runs.{KeptArrived, input_same, all_arrived,
 pub stays : (P : Sets → Type 0) (step : Sets → Sets → Sets) (all nows : List Sets) → ((kept now : Sets) → Has now all → P kept → P (step kept now)) → ((now : Sets) → Has now nows → Has now all) → (kept : Sets) → P kept → P (fold step kept nows)
 stays P step all [] each inside kept holds = holds
 stays P step all (now ∷ nows) each inside kept holds = stays P step all nows each (λ n h. inside n (inr h)) (step kept now) (each kept now (inside now (inl refl)) holds)
-
--- empty tables have no rows
-pub no_rows : {X : Type 0} (xs : List X) (k : ℕ) (row : Row) → Has row (set_at (map (λ (x : X). []) xs) k) → ⊥
-no_rows [] k row h = h
-no_rows (x ∷ xs) zero row h = h
-no_rows (x ∷ xs) (suc k) row h = no_rows xs k row h
 
 pub now_among : (earlier : List Sets) (now : Sets) → Has now (earlier ++ now ∷ [])
 now_among earlier now = Has-append_right now earlier (now ∷ []) (inl refl)
@@ -103,7 +98,7 @@ module _ (names : List Name) (a : Accepted) (checked : IsChecked a.form a.heads)
     kept_arrived =
         stays (KeptArrived names a all) (tables_after_step (Module a)) all earlier
         (λ old other h holds. tables_arrived names a all checked.few_collections checked.ordered old other h (sets_of other h) holds)
-        (earlier_among earlier now) (empty_tables (Module a)) (λ k is row h. absurd (no_rows (table_columns (Module a)) (place_in_kind Table a.form.collections k) row h))
+        (earlier_among earlier now) (empty_tables (Module a)) (λ k is row h. absurd (no_row (table_columns (Module a)) (place_in_kind Table a.form.collections k) row h))
 
     arrived : (k : ℕ) → HasArrived names a all checked.few_collections (at_end a kept now) k
     arrived = all_arrived names a all checked.few_collections checked.ordered kept now (now_among earlier now) (sets_of now (now_among earlier now)) kept_arrived

@@ -8,6 +8,7 @@ use Rattle.std.proofs.lemmas.List.FromFn.{length-map-range_with_len}
 use Rattle.blz_value.specs.Members.{Has}
 use Rattle.blz_value.proofs.Membership.{Has-append_left, Has-append_right}
 use Rattle.blz_value.specs.Names.{place_of}
+use Rattle.blz_value.proofs.Maps.{same_map}
 use Rattle.bloom_forms.specs.declared.module.Kind.TheVariants.{Input}
 use Rattle.bloom_forms.specs.declared.module.Collection.{Collection}
 use Rattle.bloom_forms.specs.Columns.{columns_of, pair_numbers}
@@ -39,10 +40,6 @@ same_roots columns env other (join a b pairs) same =
 same_roots columns env other (notin a b pairs) same = same_roots columns env other a (λ n h. same n (Has-append_left n (names_of a) (names_of b) h))
 same_roots columns env other (group q keys agg name) same = ap (λ (roots : Roots). roots_at roots (column_numbers (columns_of columns q) keys) ++ None ∷ []) (same_roots columns env other q same)
 same_roots columns env other (at_least q keys bound) same = ap (λ (roots : Roots). roots_at roots (column_numbers (columns_of columns q) keys)) (same_roots columns env other q same)
-
-same_map : {X Y : Type 0} (f g : X → Y) (xs : List X) → ((x : X) → Has x xs → f x ≡ g x) → map f xs ≡ map g xs
-same_map f g [] same = refl
-same_map f g (x ∷ xs) same = ap (λ y. y ∷ map f xs) (same x (inl refl)) ∙ ap (λ ys. g x ∷ ys) (same_map f g xs (λ y h. same y (inr h)))
 
 -- ---- the heads one after the other
 

@@ -16,6 +16,7 @@ use Rattle.blz_value.specs.Test.{cell}
 use Rattle.blz_value.proofs.Membership.{All-of_member, Has-append_cases, Has-from_filter, Has-from_map, Has-from_flat_map}
 use Rattle.blz_value.proofs.SetLaws.{Has-from_set_of}
 use Rattle.blz_value.specs.Names.{place_of}
+use Rattle.blz_value.proofs.Lists.{from_numbers}
 use Rattle.bloom_forms.specs.declared.program.Program.{Program}
 use Rattle.bloom_forms.specs.declared.program.Program.TheVariants.{Split, Latest, Number}
 use Rattle.bloom_forms.specs.Program.{port_columns}
@@ -83,18 +84,13 @@ split_outputs names columns split lt earlier now (suc output) row arrivals h = a
 
 -- ---- Number
 
-from_enumerate : {X : Type 0} (from : ℕ) (xs : List X) (place : ℕ × X) → Has place (enumerate_from from xs) → Has place.1 xs
-from_enumerate from [] place h = absurd h
-from_enumerate from (x ∷ xs) place (inl e) = inl (ap (λ (p : ℕ × _). p.1) e)
-from_enumerate from (x ∷ xs) place (inr h) = inr (from_enumerate (from + 1) xs place h)
-
 pub number_outputs : (names columns : List Name) → OutputsHaveOrigins names (Number columns)
 number_outputs names columns earlier now zero row arrivals h =
     let kept = set_at (tables_after_steps (Number columns) earlier) 0 in
     let new = filter (λ (r : Row). not (is_numbered kept r)) (set_of (set_at now 0)) in
     let m = Has-from_map (λ (place : ℕ × Row). place.1 ++ Int (pos place.0) ∷ []) row (enumerate_from (length kept + 1) new) (Has-from_set_of row (numbered kept (set_at now 0)) h) in
     let source = m.0.1 in
-    let arrived = Has-from_set_of source (set_at now 0) (Has-from_filter (λ (r : Row). not (is_numbered kept r)) source (set_of (set_at now 0)) (from_enumerate (length kept + 1) new m.0 m.1)).0 in
+    let arrived = Has-from_set_of source (set_at now 0) (Has-from_filter (λ (r : Row). not (is_numbered kept r)) source (set_of (set_at now 0)) (from_numbers (length kept + 1) new m.0 m.1)).0 in
     let roots = attribute_roots names columns in
     let keeps = keeps-append roots roots (None ∷ []) (λ number attribute is. is) (rootless-none {X = ℕ} (0 ∷ [])) in
     let full = full-attributes names columns source (wide_record (Number columns) earlier now 0 source arrivals arrived) in

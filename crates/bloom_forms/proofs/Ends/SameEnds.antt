@@ -19,7 +19,7 @@ same_by_places [] (y ∷ ys) many each = absurd (omega (arith, many))
 same_by_places (x ∷ xs) [] many each = absurd (omega (arith, many))
 same_by_places (x ∷ xs) (y ∷ ys) many each = λ i. each 0 i ∷ same_by_places xs ys (omega (arith, many)) (λ k. each (suc k)) i
 
-one_kind : (a b : Kind) → same_kind a b ≡ true → b ≡ a
+pub one_kind : (a b : Kind) → same_kind a b ≡ true → b ≡ a
 one_kind Input Input e = refl
 one_kind Input Output e = cc
 one_kind Input Table e = cc

@@ -8,6 +8,7 @@ use Rattle.blz_value.specs.Record.{Row}
 use Rattle.blz_value.specs.Sets.{set_of}
 use Rattle.blz_value.proofs.Membership.{Has-append_cases, Has-from_map, Has-from_filter, Has-get_or, All-of_member}
 use Rattle.blz_value.proofs.SetLaws.{Has-from_set_of}
+use Rattle.blz_value.proofs.Lists.{from_numbers}
 use Rattle.bloom_forms.specs.StockSteps.{has_key, is_latest, latest_kept, is_numbered, numbered, number_kept}
 use Rattle.bloom_forms.specs.Widths.{AreWide}
 
@@ -17,12 +18,6 @@ wide_by_rows n rows each k d lt = each (get_or rows k d) (Has-get_or rows k d lt
 
 pub row_wide : (n : ℕ) (rows : List Row) (r : Row) → AreWide n rows → Has r rows → length r ≡ n
 row_wide n rows r wide h = All-of_member (λ (q : Row). length q ≡ n) rows r wide h
-
--- a record that is enumerated is one of the records
-from_numbers : {X : Type 0} (from : ℕ) (xs : List X) (place : ℕ × X) → Has place (enumerate_from from xs) → Has place.1 xs
-from_numbers from [] place h = absurd h
-from_numbers from (x ∷ xs) place (inl e) = inl (ap (λ (p : ℕ × _). p.1) e)
-from_numbers from (x ∷ xs) place (inr h) = inr (from_numbers (from + 1) xs place h)
 
 -- records with their numbers have one value more
 pub numbered-wide : (n : ℕ) (kept arriving : List Row) → AreWide n arriving → (r : Row) → Has r (numbered kept arriving) → length r ≡ n + 1

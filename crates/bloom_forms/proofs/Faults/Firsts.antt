@@ -7,6 +7,7 @@ use Rattle.std.proofs.lemmas.Slice.Eq.{bytes_eq-Decides}
 use Rattle.blz_value.specs.FirstPlace.{first_place}
 use Rattle.blz_value.specs.Members.{Has}
 use Rattle.blz_value.proofs.FirstPlace.{NoneBad, none_bad, length-at_most}
+use Rattle.blz_value.proofs.Booleans.{not_false, neither}
 use Rattle.bloom_forms.specs.declared.fault.ModuleFault.{ModuleFault}
 use Rattle.bloom_forms.specs.declared.fault.ModuleKind.{ModuleKind}
 use Rattle.bloom_forms.specs.declared.fault.ModuleKind.TheVariants as kind
@@ -18,7 +19,6 @@ use Rattle.bloom_forms.specs.Fits.{is_width, repeats}
 use Rattle.bloom_forms.specs.Form.{RuleForm}
 use Rattle.bloom_forms.specs.Lookup.{is_named}
 use Rattle.bloom_forms.specs.Query.{Name}
-use Rattle.bloom_forms.proofs.Faults.Levels.{neither}
 
 -- no fault of a kind
 
@@ -54,10 +54,6 @@ bad_number bad at [] none k d lt = absurd (omega arith)
 bad_number bad at (y ∷ xs) none zero d lt = let z : at + 0 ≡ at = omega arith in rw z none.0
 bad_number bad at (y ∷ xs) none (suc k) d lt = let z : at + suc k ≡ at + 1 + k = omega arith in rw z (bad_number bad (at + 1) xs none.1 k d (omega arith))
 
-not_false : (b : Bool) → not b ≡ false → b ≡ true
-not_false true e = refl
-not_false false e = cc
-
 pub each_collection : (cs : List Collection) (f : Facts) (rules : List RuleForm) → kind_fault f kind.TooMany cs rules ≡ None → kind_fault f kind.Twice cs rules ≡ None → (c : Collection) → Has c cs → IsCollection c
 each_collection cs f rules many twice c n =
     let at = bad_at (bad_collection kind.TooMany cs) 0 cs (none_bad (bad_collection kind.TooMany cs) 0 cs (none_of cs f rules kind.TooMany many).0) c n in
@@ -71,13 +67,13 @@ each_collection cs f rules many twice c n =
 
 -- names of collections stand once
 
-any_take : {X : Type 0} (p : X → Bool) (xs : List X) (i j : ℕ) (d : X) → i < j → i < length xs → list_any p (take j xs) ≡ false → p (get_or xs i d) ≡ false
+pub any_take : {X : Type 0} (p : X → Bool) (xs : List X) (i j : ℕ) (d : X) → i < j → i < length xs → list_any p (take j xs) ≡ false → p (get_or xs i d) ≡ false
 any_take p [] i j d lt le e = absurd (omega arith)
 any_take p (x ∷ xs) i zero d lt le e = absurd (omega arith)
 any_take p (x ∷ xs) zero (suc j) d lt le e = (neither (p x) (list_any p (take j xs)) e).0
 any_take p (x ∷ xs) (suc i) (suc j) d lt le e = any_take p xs i j d (omega arith) (omega arith) (neither (p x) (list_any p (take j xs)) e).1
 
-other_name : (a b : Name) → bytes_eq a b ≡ false → a ≢ b
+pub other_name : (a b : Name) → bytes_eq a b ≡ false → a ≢ b
 other_name a b e same = let yes : bytes_eq a b ≡ true = (bytes_eq-Decides a b).1 same in let bad : true ≡ false = sym yes ∙ e in cc
 
 pub distinct_names : (cs : List Collection) (f : Facts) (rules : List RuleForm) → kind_fault f kind.Twice cs rules ≡ None → AllPairs (λ c d. c.name ≢ d.name) cs

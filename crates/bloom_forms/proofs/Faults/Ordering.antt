@@ -7,8 +7,7 @@ use Rattle.blz_value.proofs.Membership.{Has-append_cases}
 use Rattle.blz_value.specs.declared.attrs.Fd.{Fd}
 use Rattle.blz_value.specs.Bits.{bit_of, meets}
 use Rattle.blz_value.specs.Closure.{within, closure, IsLeastClosed}
-use Rattle.blz_value.proofs.Within.{within-refl}
-use Rattle.blz_value.proofs.Members.{within-meets, in-within, in-or}
+use Rattle.blz_value.proofs.Members.{in-within, in-or, own-in}
 use Rattle.blz_value.proofs.Least.{closure-least}
 use Rattle.blz_value.proofs.Reached.{closed-map, closure-trans, closure-lt}
 use Rattle.bloom_forms.specs.declared.module.Kind.{Kind}
@@ -26,15 +25,12 @@ use Rattle.bloom_forms.specs.Reads.{set_of_name, named, arrow, arrows, keys_of}
 
 -- a collection that stands in an expression is in its set
 
-own : (n : ℕ) → n < 64 → meets (bit_of n) (bit_of n) ≡ true
-own n lt = within-meets n (bit_of n) lt (within-refl (bit_of n))
-
 either : (b : Bool) → (b || true) ≡ true
 either true = refl
 either false = refl
 
 pub in_named : (cs : List Collection) (q : Query) (name : Name) → Has name (names_of q) → collection_number cs name < 64 → meets (bit_of (collection_number cs name)) (named cs q) ≡ true
-in_named cs (base n) name (inl e) lt = let same : collection_number cs n ≡ collection_number cs name = ap (collection_number cs) e in rw same (own (collection_number cs name) lt)
+in_named cs (base n) name (inl e) lt = let same : collection_number cs n ≡ collection_number cs name = ap (collection_number cs) e in rw same (own-in (collection_number cs name) lt)
 in_named cs (base n) name (inr m) lt = absurd m
 in_named cs (select q f) name m lt = in_named cs q name m lt
 in_named cs (project q items) name m lt = in_named cs q name m lt
@@ -56,7 +52,7 @@ module _ (cs : List Collection) (rules : List RuleForm) (free : (r : RuleForm) �
   smaller h m small_h small_m reads =
       let all = arrows cs rules in
       let body = named cs reads.rule.1 in
-      let own : IsLeastClosed (bit_of h) all (closure (bit_of h) all) = closure-least (bit_of h) all in
+      let own-in : IsLeastClosed (bit_of h) all (closure (bit_of h) all) = closure-least (bit_of h) all in
       let read : IsLeastClosed body all (closure body all) = closure-least body all in
       let m_in : meets (bit_of m) body ≡ true = subst (λ (k : ℕ). k < 64 → meets (bit_of k) body ≡ true) reads.is (in_named cs reads.rule.1 reads.name reads.read) small_m in
       let fires : within (set_of_name cs reads.rule.0) (closure (bit_of h) all) ≡ true = rw reads.head own.contains in

@@ -120,7 +120,7 @@ late_silent program w more arriving (inr never) port lt t = absurd never
 
 -- ---- one timestep with records
 
-w_some : (given : Option Note) → is_w given ≡ true → is_some given ≡ true
+pub w_some : (given : Option Note) → is_w given ≡ true → is_some given ≡ true
 w_some None h = h
 w_some (Some note) h = refl
 

@@ -10,8 +10,9 @@ use Rattle.blz_value.proofs.Within.{within-trans, within-or_l, and-within_r}
 use Rattle.blz_value.proofs.Members.{meets-within, in-within, in-empty, in-bit_same, in-bit_other, member_small}
 use Rattle.blz_value.proofs.Least.{closure-least}
 use Rattle.blz_value.proofs.Reached.{closed-map}
-use Rattle.bloom_forms.specs.declared.module.Kind.{Kind}
-use Rattle.bloom_forms.specs.declared.module.Kind.TheVariants.{Input, Output, Table, Scratch}
+use Rattle.bloom_forms.proofs.Reach.Quiet.{only_input}
+use Rattle.bloom_forms.proofs.Reach.MomentaryLemmas.{kind_is}
+use Rattle.bloom_forms.specs.declared.module.Kind.TheVariants.{Input, Table}
 use Rattle.bloom_forms.specs.declared.module.Collection.{Collection}
 use Rattle.bloom_forms.specs.Checks.{IsRule, IsChecked}
 use Rattle.bloom_forms.specs.Form.{RuleForm, Form, Accepted}
@@ -31,19 +32,10 @@ use Rattle.bloom_forms.proofs.Reach.Behind.{from_tables_read}
 
 -- kinds
 
-is_port : (kind : Kind) → is_input kind ≡ true → kind ≡ Input
-is_port Input e = refl
-is_port Output e = cc
-is_port Table e = cc
-is_port Scratch e = cc
-
 kind_there : (cs : List Collection) (n : ℕ) → n < length cs → kind_at cs n ≡ None → ⊥
 kind_there [] n lt none = absurd (omega arith)
 kind_there (c ∷ cs) zero lt none = let bad : Some c.kind ≡ None = none in cc
 kind_there (c ∷ cs) (suc n) lt none = kind_there cs n (omega arith) none
-
-some_kind : (a b : Kind) → Some a ≡ Some b → a ≡ b
-some_kind a b e = cc
 
 module _ (cs : List Collection) (rules : List RuleForm) where
   -- a set that has the ports and the heads taken so far: what it has reads nothing else
@@ -65,8 +57,8 @@ module _ (cs : List Collection) (rules : List RuleForm) (few : length cs ≤ 32)
   no_head r stands h =
       let port = from_kind_set is_input cs (collection_number cs r.0) (small_name cs rules few r.0) h in
       let head = kind-named is_head cs r.0 (each r stands).head in
-      let same : port.0 ≡ head.0 = some_kind port.0 head.0 (sym port.1 ∙ head.1) in
-      let input : head.0 ≡ Input = sym same ∙ is_port port.0 port.2 in
+      let same : port.0 ≡ head.0 = kind_is port.0 head.0 (sym port.1 ∙ head.1) in
+      let input : head.0 ≡ Input = sym same ∙ only_input port.0 port.2 in
       true≢false (sym head.2 ∙ ap is_head input)
 
   done_first : (heads : List ℕ) → IsOrdered cs rules heads → IsDone cs rules (kind_set is_input cs) heads
@@ -87,7 +79,7 @@ module _ (cs : List Collection) (rules : List RuleForm) (few : length cs ≤ 32)
           let derived = ordered.none_else n stands in
           let lt : n < length cs = get-within cs n derived.collection derived.stands in
           let port = from_kind_set is_input cs n (omega (arith, few)) h in
-          derived-no_port cs n derived (port.1 ∙ ap Some (is_port port.0 port.2))
+          derived-no_port cs n derived (port.1 ∙ ap Some (only_input port.0 port.2))
 
   found_first : IsFound cs rules 0 (kind_set is_input cs)
   found_first = record {
@@ -99,8 +91,8 @@ module _ (cs : List Collection) (rules : List RuleForm) (few : length cs ≤ 32)
       no_table : (t : ℕ) → t < 64 → kind_at cs t ≡ Some Table → meets (bit_of t) (kind_set is_input cs) ≡ true → ⊥
       no_table t lt is there =
           let port = from_kind_set is_input cs t lt there in
-          let same : Table ≡ port.0 = some_kind Table port.0 (sym is ∙ port.1) in
-          let bad : Table ≡ Input = same ∙ is_port port.0 port.2 in cc
+          let same : Table ≡ port.0 = kind_is Table port.0 (sym is ∙ port.1) in
+          let bad : Table ≡ Input = same ∙ only_input port.0 port.2 in cc
 
   -- one head more
 

@@ -8,6 +8,8 @@ use Rattle.std.proofs.lemmas.Slice.Eq.{bytes_eq-Decides}
 use Rattle.blz_value.specs.Members.{Has}
 use Rattle.blz_value.proofs.Membership.{Has-from_any, Has-from_filter, Has-from_map, Has-get_or, any_from_Has}
 use Rattle.blz_value.specs.Names.{place_of}
+use Rattle.blz_value.proofs.MembersInOrder.{from_range}
+use Rattle.blz_value.proofs.Booleans.{neither}
 use Rattle.bloom_forms.specs.declared.module.Collection.{Collection}
 use Rattle.bloom_forms.specs.declared.module.Kind.TheVariants.{Input}
 use Rattle.bloom_forms.specs.declared.program.Program.TheVariants.{Module, Split, Latest, Number}
@@ -19,7 +21,6 @@ use Rattle.bloom_forms.specs.Query.{Name}
 use Rattle.bloom_forms.specs.Program.{IsStock, port_columns}
 use Rattle.bloom_forms.specs.Proper.{IsProper}
 use Rattle.bloom_forms.specs.declared.program.Program.{Program}
-use Rattle.bloom_forms.proofs.Faults.Levels.{neither}
 
 -- a stock body that is proper is as it should be
 pub proper_is_stock : (program : Program) → IsProper program → IsStock program
@@ -57,11 +58,6 @@ module_own_columns a checked columns h =
     subst (λ (own : List Name). repeats own ≡ false) m.2 (checked.collections m.0 c.0).distinct
 
 -- ---- the key columns
-
-from_range : (from count i : ℕ) → Has i (range_with_len from count) → (from ≤ i) × (i < from + count)
-from_range from zero i h = absurd h
-from_range from (suc count) i (inl e) = (omega (arith, e), omega (arith, e))
-from_range from (suc count) i (inr h) = let m = from_range (from + 1) count i h in (omega (arith, m.0), omega (arith, m.1))
 
 module _ (columns : List Name) (distinct : repeats columns ≡ false) where
   abbrev at : ℕ → Name

@@ -11,6 +11,8 @@ use Rattle.blz_value.proofs.Membership.{Has-append_left, Has-append_right}
 use Rattle.blz_value.specs.Bits.{bit_of, meets}
 use Rattle.blz_value.proofs.Within.{within-refl}
 use Rattle.blz_value.proofs.Members.{meets-some, some-meets, in-bit, bit-in, in-or, within-meets, one_number}
+use Rattle.blz_value.proofs.Booleans.{neither}
+use Rattle.bloom_forms.proofs.Reach.MomentaryLemmas.{kind_is}
 use Rattle.bloom_forms.specs.declared.module.Kind.{Kind}
 use Rattle.bloom_forms.specs.declared.module.Kind.TheVariants.{Input, Output, Table, Scratch}
 use Rattle.bloom_forms.specs.declared.module.Collection.{Collection}
@@ -50,14 +52,7 @@ empty_rows columns env none (at_least q keys bound) = ap (λ rows. set_of (at_le
 
 -- ---- which expressions are momentary
 
-neither : (a b : Bool) → (a || b) ≡ false → (a ≡ false) × (b ≡ false)
-neither true b e = cc
-neither false b e = (refl, e)
-
-kind_is : (k l : Kind) → Some k ≡ Some l → k ≡ l
-kind_is k l e = cc
-
-only_input : (kind : Kind) → is_input kind ≡ true → kind ≡ Input
+pub only_input : (kind : Kind) → is_input kind ≡ true → kind ≡ Input
 only_input Input e = refl
 only_input Output e = cc
 only_input Table e = cc

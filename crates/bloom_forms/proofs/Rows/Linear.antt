@@ -8,6 +8,7 @@ use Rattle.blz_value.specs.Record.{Row}
 use Rattle.blz_value.specs.Sets.{set_of}
 use Rattle.blz_value.proofs.Membership.{Has-append_left, Has-append_right}
 use Rattle.blz_value.proofs.OperatorsLemmas.{from_select, in_select, from_project, in_project, from_join, in_join, from_notin, in_notin}
+use Rattle.blz_value.proofs.Booleans.{neither}
 use Rattle.bloom_forms.specs.Checks.{IsChecked}
 use Rattle.bloom_forms.specs.Columns.{columns_of, pair_numbers}
 use Rattle.bloom_forms.specs.Equations.{Env}
@@ -20,7 +21,6 @@ use Rattle.bloom_forms.specs.Query.Query.{base, select, project, join, notin, gr
 use Rattle.bloom_forms.specs.Reads.{facts_of}
 use Rattle.bloom_forms.specs.Rows.{formula_holds, item_numbers, column_numbers, numbered_agg, row_bound, rows_of}
 use Rattle.bloom_forms.proofs.Reach.MomentaryLemmas.{now, join_now, left_now, right_now}
-use Rattle.bloom_forms.proofs.Faults.Levels.{neither}
 
 -- a list has the members of all lists of a family
 pub record IsUnionOf {J : Type 0} (each : J → List Row) (whole : List Row) : Type 0 where

@@ -23,6 +23,7 @@ use Rattle.blz_value.specs.Names.{place_of}
 use Rattle.blz_value.proofs.Least.{closure-least}
 use Rattle.blz_value.proofs.Members.{in-within, member_small}
 use Rattle.blz_value.proofs.Places.{place_of-get}
+use Rattle.blz_value.proofs.Booleans.{and_true}
 use Rattle.bloom_forms.specs.declared.program.Program.TheVariants.{Module}
 use Rattle.bloom_forms.specs.Checks.{IsChecked}
 use Rattle.bloom_forms.specs.Columns.{column_number}
@@ -100,16 +101,11 @@ holds_below : (column : Name) (bound : ℤ) (value : Value) → is_lt (value_cmp
     → holds column (below_bound column bound) value ≡ true
 holds_below column bound value t = ap (λ (k : ℕ). is_lt (value_cmp (cell (value ∷ []) k) (Int bound))) (own_number column) ∙ t
 
-two_hold : (x y : Bool) → x ≡ true → y ≡ true → (x && y) ≡ true
-two_hold true true e f = refl
-two_hold true false e f = f
-two_hold false y e f = e
-
 later_cover : (column : Name) (bound : ℤ) (bounds : List ℤ) (value : Value) → is_ge (value_cmp value (Int bound)) ≡ true
     → (test : Formula) × Has test (buckets_from column bound bounds) × (holds column test value ≡ true)
 later_cover column bound [] value t = (from_bound column bound, inl refl, holds_from column bound value t)
 later_cover column bound (next ∷ bounds) value t = elim (cases_Bool (is_lt (value_cmp value (Int next)))) [
-  | inl below ↦ (both (from_bound column bound) (below_bound column next), inl refl, two_hold (holds column (from_bound column bound) value) (holds column (below_bound column next) value) (holds_from column bound value t) (holds_below column next value below))
+  | inl below ↦ (both (from_bound column bound) (below_bound column next), inl refl, and_true (holds column (from_bound column bound) value) (holds column (below_bound column next) value) (holds_from column bound value t) (holds_below column next value below))
   | inr above ↦ (let m = later_cover column next bounds value (not_less (value_cmp value (Int next)) above) in (m.0, inr m.1, m.2))
 ]
 

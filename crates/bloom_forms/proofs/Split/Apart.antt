@@ -21,6 +21,7 @@ use Rattle.blz_value.proofs.Within.{within-trans, within-or_l, within-or_r}
 use Rattle.blz_value.proofs.Members.{in-within, meets-within, member_small}
 use Rattle.blz_value.proofs.Least.{closure-least}
 use Rattle.blz_value.proofs.Reached.{closed-map, least-monotone}
+use Rattle.blz_value.proofs.Booleans.{neither}
 use Rattle.bloom_forms.specs.declared.module.Kind.TheVariants.{Input}
 use Rattle.bloom_forms.specs.declared.module.Collection.{Collection}
 use Rattle.bloom_forms.specs.declared.program.Program.TheVariants.{Module}
@@ -49,7 +50,6 @@ use Rattle.bloom_forms.proofs.Reach.PlainLemmas.{sorted_rows}
 use Rattle.bloom_forms.proofs.Reach.MomentaryLemmas.{now, port_now}
 use Rattle.bloom_forms.proofs.Reach.ReadsLemmas.{number_of, small_number, rules_named, rule_stands, IsRead, named_in}
 use Rattle.bloom_forms.proofs.Collections.KindNumbersLemmas.{number_at_place, at_place}
-use Rattle.bloom_forms.proofs.Faults.Levels.{neither}
 use Rattle.bloom_forms.specs.Copies.{IsCopyOf}
 use Rattle.bloom_forms.specs.CopiesLaw.{query_roots}
 use Rattle.bloom_forms.specs.Good.{good_tables}

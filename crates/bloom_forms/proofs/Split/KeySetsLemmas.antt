@@ -1,9 +1,10 @@
 -- A key that is a set of attributes is the list of its members.
-use Rattle.std.proofs.Common.{◌≡◌, Bool, true, false, List, refl, sym}
+use Rattle.std.proofs.Common.{◌≡◌, List}
 use Rattle.blz_value.proofs.Membership.{all_member, all_from}
 use Rattle.blz_value.specs.Bits.{members}
 use Rattle.blz_value.specs.Closure.{within, closure}
 use Rattle.blz_value.proofs.MembersInOrder.{from_members, within_by_members, members_within}
+use Rattle.blz_value.proofs.Booleans.{same_truth}
 use Rattle.bloom_forms.specs.declared.program.Program.{Program}
 use Rattle.bloom_forms.specs.Proper.{IsProper}
 use Rattle.bloom_forms.specs.Query.{Name}
@@ -13,11 +14,6 @@ use Rattle.bloom_forms.proofs.Copies.AttributesLemmas.{has_in_set, in_set_has}
 use Rattle.bloom_forms.specs.Classes.{has_key}
 use Rattle.bloom_forms.specs.KeySets.{attributes_in, HasSetByMembers, SetIsInClosureByMembers, AnswersBySet}
 use Rattle.bloom_forms.proofs.Split.SplitLaw.{answers_split}
-
-same_truth : (a b : Bool) → (a ≡ true → b ≡ true) → (b ≡ true → a ≡ true) → a ≡ b
-same_truth true b there back = sym (there refl)
-same_truth false true there back = back refl
-same_truth false false there back = refl
 
 pub has_set_by_members : HasSetByMembers
 has_set_by_members names columns key small = same_truth (has_key names columns (members key.bits)) (within key.bits (attributes_in names columns))

@@ -15,6 +15,9 @@ use Rattle.blz_value.specs.declared.attrs.Fd.{Fd}
 use Rattle.blz_value.specs.Bits.{bit_of, meets}
 use Rattle.blz_value.specs.Names.{place_of}
 use Rattle.blz_value.proofs.Within.{within-refl}
+use Rattle.blz_value.proofs.OperatorsLemmas.{not_any}
+use Rattle.blz_value.proofs.Ranges.{in_range}
+use Rattle.blz_value.proofs.Booleans.{implied}
 use Rattle.bloom_forms.specs.declared.program.Program.{Program}
 use Rattle.bloom_forms.specs.declared.program.Program.TheVariants.{Latest}
 use Rattle.bloom_forms.specs.Fits.{repeats}
@@ -47,11 +50,6 @@ use Rattle.bloom_forms.proofs.Split.ClassesLemmas.{from_class, in_class, same_ro
 
 -- ---- lists with places
 
-in_range : (from count i : ℕ) → i < count → Has (from + i) (range_with_len from count)
-in_range from zero i lt = absurd (omega arith)
-in_range from (suc count) zero lt = inl (omega arith)
-in_range from (suc count) (suc i) lt = inr (let e : (from + 1) + i ≡ from + suc i = omega arith in subst (λ (n : ℕ). Has n (range_with_len (from + 1) count)) e (in_range (from + 1) count i (omega arith)))
-
 from_places : (from : ℕ) (xs : List Name) (place : ℕ × Name) → Has place (enumerate_from from xs)
     → (j : ℕ) × (from + j ≡ place.0) × (j < length xs) × (get_or xs j [] ≡ place.1)
 from_places from [] place h = absurd h
@@ -68,10 +66,6 @@ NonePut keys put row = (other : Row) → Has other put → cells keys other ≡ 
 abbrev pub IsGreatest : List ℕ → List Row → Row → Type 0
 IsGreatest keys put row = (other : Row) → Has other put → cells keys other ≡ cells keys row → is_le (record_cmp other row) ≡ true
 
-implied : (a b : Bool) → (not a || b) ≡ true → a ≡ true → b ≡ true
-implied true b e t = e
-implied false b e t = cc
-
 implies : (a b : Bool) → (a ≡ true → b ≡ true) → (not a || b) ≡ true
 implies true b f = f refl
 implies false b f = refl
@@ -80,16 +74,12 @@ not_true : (b : Bool) → (b ≡ true → ⊥) → not b ≡ true
 not_true true n = absurd (n refl)
 not_true false n = refl
 
-true_not : (b : Bool) → not b ≡ true → b ≡ true → ⊥
-true_not true e t = cc
-true_not false e t = cc
-
 pub from_latest : (keys : List ℕ) (kept put : List Row) (row : Row) → Has row (latest_kept keys kept put)
     → (Has row kept × NonePut keys put row) ⊎ (Has row put × IsGreatest keys put row)
 from_latest keys kept put row h =
     let stays : Row → Bool = λ (r : Row). not (list_any (has_key keys (cells keys r)) put) in
     elim (Has-append_cases row (filter stays kept) (filter (is_latest keys put) put) (Has-from_set_of row (filter stays kept ++ filter (is_latest keys put) put) h)) [
-      | inl old ↦ let m = Has-from_filter stays row kept old in inl (m.0, λ other stands same. true_not (list_any (has_key keys (cells keys row)) put) m.1 (any_from_Has (has_key keys (cells keys row)) other put stands (row_itself (cells keys other) (cells keys row) same)))
+      | inl old ↦ let m = Has-from_filter stays row kept old in inl (m.0, λ other stands same. not_any (list_any (has_key keys (cells keys row)) put) m.1 (any_from_Has (has_key keys (cells keys row)) other put stands (row_itself (cells keys other) (cells keys row) same)))
       | inr new ↦
           let m = Has-from_filter (is_latest keys put) row put new in
           inr (m.0, λ other stands same. implied (has_key keys (cells keys row) other) (is_le (record_cmp other row)) (all_member (λ (o : Row). not (has_key keys (cells keys row) o) || is_le (record_cmp o row)) put other m.1 stands) (row_itself (cells keys other) (cells keys row) same))

@@ -1,6 +1,7 @@
 -- What is read as a list or an aggregate is one, a fault is where the machine stops, and each is read again.
 use Rattle.std.proofs.Common.{◌≡◌, ℕ, ◌<◌, Bool, true, false, cond, List, [], ◌∷◌, ◌++◌, map, length, drop, All, Result, Ok, Err, refl, sym, ap, subst, ◌∙◌, arith}
 use Rattle.blz_value.specs.declared.test.Op.TheVariants.{Eq}
+use Rattle.blz_value.proofs.Lists.{map_itself}
 use Rattle.bloom_forms.specs.Query.{Name}
 use Rattle.bloom_parse.specs.declared.lexing.terminal.Terminal.{Terminal}
 use Rattle.bloom_parse.specs.declared.lexing.terminal.Terminal.TheVariants as terminals
@@ -15,10 +16,6 @@ use Rattle.bloom_parse.proofs.Machine.Machine.{Sym, run}
 use Rattle.bloom_parse.proofs.Printed.TreesLemmas.{flat_keys}
 use Rattle.bloom_parse.proofs.Grammar.SingleCorrect.{bind_reads, Stuck, ReadsMark, mark_reads, ReadsName, name_reads, ReadsEquals, equals_reads}
 use Rattle.bloom_parse.proofs.Grammar.RepeatLemmas.{Repeated, ReadsOne, ReadsMany, Listed, many_reads, ReadsMore, more_reads, ReadAgain, listed, many_again}
-
-pub map_itself : {X : Type 0} (xs : List X) → map (λ x. x) xs ≡ xs
-map_itself [] = refl
-map_itself {X} (x ∷ xs) = ap (λ (t : List X). x ∷ t) (map_itself xs)
 
 pub all_fit : {T : Type 0} (ts : List T) → All (λ t. Unit {0}) ts
 all_fit ts = λ k d lt. tt

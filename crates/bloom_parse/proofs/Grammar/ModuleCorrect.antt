@@ -1,6 +1,7 @@
 -- What is read as a module is one, and a fault is where the machine stops.
 use Rattle.std.proofs.Common.{◌≡◌, ℕ, ◌<◌, ◌≤◌, true, false, List, [], ◌∷◌, ◌++◌, map, length, flat_map, Result, Ok, Err, refl, sym, ap, ◌∙◌, arith}
 use Rattle.blz_value.specs.declared.test.Op.TheVariants.{Le}
+use Rattle.blz_value.proofs.Lists.{map_itself}
 use Rattle.bloom_forms.specs.Query.{Name, Query}
 use Rattle.bloom_parse.specs.declared.lexing.terminal.Terminal.{Terminal}
 use Rattle.bloom_parse.specs.declared.lexing.terminal.Terminal.TheVariants as terminals
@@ -21,7 +22,7 @@ use Rattle.bloom_parse.proofs.Machine.Machine.{Sym, run, in_collection, in_rule}
 use Rattle.bloom_parse.proofs.Printed.TreesLemmas.{flat_collection, flat_rule, flat_module}
 use Rattle.bloom_parse.proofs.Grammar.SingleCorrect.{bind_reads, Stuck, ReadsMark, mark_reads, ReadsName, name_reads, ReadsArrow, arrow_reads, ReadsModuleWord, module_word_reads}
 use Rattle.bloom_parse.proofs.Grammar.RepeatLemmas.{Repeated, ReadsOne, ReadsMany, Listed, many_reads, ReadsMore}
-use Rattle.bloom_parse.proofs.Grammar.ListLemmas.{map_itself, name_kind, names_reads}
+use Rattle.bloom_parse.proofs.Grammar.ListLemmas.{name_kind, names_reads}
 use Rattle.bloom_parse.proofs.Grammar.ExprCorrect.{ReadsExpr, expr_reads}
 
 pub length_more : {X : Type 0} (xs ys : List X) → length ys ≤ length (xs ++ ys)

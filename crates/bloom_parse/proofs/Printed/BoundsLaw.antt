@@ -3,12 +3,12 @@ use Rattle.std.proofs.Common.{◌≡◌, ℕ, zero, suc, ◌+◌, ◌≤◌, ◌
 use Rattle.std.proofs.lemmas.Grind.{common_steps}
 use Rattle.std.proofs.lemmas.List.Folds.{list_any-append}
 use Rattle.std.specs.List.{list_any}
+use Rattle.blz_value.proofs.Booleans.{neither}
 use Rattle.bloom_forms.specs.Bounds as bounds
 use Rattle.bloom_forms.specs.Bounds.{is_long, has_long_literal, formulas_of, query_levels}
 use Rattle.bloom_forms.specs.Query.{Formula, Query}
 use Rattle.bloom_forms.specs.Query.Formula.{compare, both, either, not_so}
 use Rattle.bloom_forms.specs.Query.Query.{base, select, project, join, notin, group, at_least}
-use Rattle.bloom_forms.proofs.Faults.Levels.{neither}
 use Rattle.bloom_parse.specs.declared.lexing.terminal.Terminal.{Terminal}
 use Rattle.bloom_parse.specs.declared.lexing.terminal.Terminal.TheVariants as terminals
 use Rattle.bloom_parse.specs.declared.lexing.terminal.Word.TheVariants as words

@@ -1,8 +1,9 @@
 -- What is printed of an expression within the bounds is within them.
-use Rattle.std.proofs.Common.{◌≡◌, ◌≢◌, ◌≤◌, ◌+◌, ◌&&◌, ℕ, zero, suc, ℤ, pos, ◌≤ℤ◌, int_lt, Bool, true, false, nat_lt, List, [], ◌∷◌, map, length, refl, sym, ◌∙◌, arith, rules}
+use Rattle.std.proofs.Common.{◌≡◌, ◌≢◌, ◌≤◌, ◌+◌, ◌&&◌, ℕ, zero, suc, ℤ, pos, ◌≤ℤ◌, int_lt, true, false, nat_lt, List, [], ◌∷◌, map, length, refl, sym, ◌∙◌, arith, rules}
 use Rattle.std.specs.List.{list_any}
 use Rattle.std.proofs.lemmas.Grind.{common_steps}
 use Rattle.std.proofs.lemmas.List.Folds.{list_any-append}
+use Rattle.blz_value.proofs.Booleans.{both_true, neither}
 use Rattle.bloom_forms.specs.Bounds as bounds
 use Rattle.bloom_forms.specs.Bounds.{is_long, formulas_of, query_levels}
 use Rattle.bloom_forms.specs.Columns.{columns_of}
@@ -10,15 +11,10 @@ use Rattle.bloom_forms.specs.Fits.{is_width, are_columns, operator_fits, part_fi
 use Rattle.bloom_forms.specs.Query.{Name, Formula, Query}
 use Rattle.bloom_forms.specs.Query.Formula.{compare, both, either, not_so}
 use Rattle.bloom_forms.specs.Query.Query.{base, select, project, join, notin, group, at_least}
-use Rattle.bloom_forms.proofs.Faults.Levels.{neither}
 use Rattle.bloom_parse.specs.Bounds.{HasPositiveBounds}
 use Rattle.bloom_parse.specs.Layout.{Levels, levels, tree_of}
 use Rattle.bloom_parse.specs.Printable.{HasItems}
 use Rattle.bloom_parse.specs.Trees.{UnitFits, AndsFit, OrsFit, unit_size, ands_size, ors_size, ExprFits}
-
-pub both_true : (a b : Bool) → (a && b) ≡ true → (a ≡ true) × (b ≡ true)
-both_true true b e = (refl, e)
-both_true false b e = cc
 
 -- ---- predicates
 

@@ -3,6 +3,7 @@ use Rattle.std.proofs.Common.{◌≡◌, ◌≢◌, ◌≤◌, ℕ, false, nat_l
 use Rattle.std.proofs.lemmas.List.Elements.{All-nil, All-cons}
 use Rattle.std.specs.List.{All, AllByRecursion, flat_map, list_any}
 use Rattle.blz_value.specs.Members.{Has}
+use Rattle.blz_value.proofs.Booleans.{neither}
 use Rattle.bloom_forms.specs.declared.module.Collection.{Collection}
 use Rattle.bloom_forms.specs.Bounds.{query_levels, is_long, formulas_of}
 use Rattle.bloom_forms.specs.Checks.{IsCollection, IsRule, IsChecked}
@@ -10,7 +11,6 @@ use Rattle.bloom_forms.specs.Form.{RuleForm, Form}
 use Rattle.bloom_forms.specs.Lookup.{declared}
 use Rattle.bloom_forms.specs.Query.{Name}
 use Rattle.bloom_forms.specs.Reserved.{query_names}
-use Rattle.bloom_forms.proofs.Faults.Levels.{neither}
 use Rattle.bloom_parse.specs.declared.lexing.terminal.Terminal.TheVariants as terminals
 use Rattle.bloom_parse.specs.declared.lexing.terminal.Mark.TheVariants as marks
 use Rattle.bloom_parse.specs.Layout.{tree_of, first_name, collection_tree, rule_tree, module_tree, printed}

@@ -4,13 +4,10 @@ use Rattle.std.proofs.lemmas.List.{take_all}
 use Rattle.std.proofs.lemmas.Bool.{cases_lt}
 use Rattle.std.proofs.lemmas.List.Sums.{suffix_len-take_no, suffix_len-take_yes}
 use Rattle.std.proofs.Math.Numerals.{one-add}
-use Rattle.std.proofs.lemmas.Bool.Decides.{nat_tests}
-use Rattle.std.proofs.lemmas.Str.{IsUtf8-from_ascii}
-use Rattle.std.proofs.lemmas.Str.Ascii.{IsAscii-from_all}
-use Rattle.std.proofs.lemmas.List.Elements.{All-from_recursion}
-use Rattle.std.specs.List.{prefix_len, suffix_len, list_all, AllByRecursion}
+use Rattle.std.specs.List.{prefix_len, suffix_len, list_all}
 use Rattle.std.specs.Str.{IsUtf8}
 use Rattle.blz_value.specs.Name.{is_name_byte}
+use Rattle.blz_value.proofs.Lists.{utf8_of_all, name_byte_small}
 use Rattle.bloom_parse.specs.Tokens.{column_behind}
 
 run_step : {X : Type 0} (p : X → Bool) (x : X) (xs : List X) → list_all p (take (prefix_len p xs) xs) ≡ true → (b : Bool) → p x ≡ b → list_all p (take (cond b (1 + prefix_len p xs) 0) (x ∷ xs)) ≡ true
@@ -25,17 +22,6 @@ run_passes p (x ∷ xs) = run_step p x xs (run_passes p xs) (p x) refl
 pub and_true : (a b : Bool) → a && b ≡ true → (a ≡ true) × (b ≡ true)
 and_true true b h = (refl, h)
 and_true false b h = cc
-
-all_below : (p : ℕ → Bool) → ((b : ℕ) → p b ≡ true → b < 128) → (bs : List ℕ) → list_all p bs ≡ true → AllByRecursion (λ b. b < 128) bs
-all_below p h [] e = tt
-all_below p h (b ∷ bs) e = let both = and_true (p b) (list_all p bs) e in (h b both.0, all_below p h bs both.1)
-
--- a text of bytes that are below 128 is in UTF-8
-pub utf8_of_all : (p : ℕ → Bool) → ((b : ℕ) → p b ≡ true → b < 128) → (bs : List ℕ) → list_all p bs ≡ true → IsUtf8 bs
-utf8_of_all p h bs e = IsUtf8-from_ascii bs (IsAscii-from_all bs (All-from_recursion (λ b. b < 128) bs (all_below p h bs e)))
-
-pub name_byte_small : (b : ℕ) → is_name_byte b ≡ true → b < 128
-name_byte_small b h = grind (arith, nat_tests)
 
 pub utf8_of_name_bytes : (bs : List ℕ) → list_all is_name_byte bs ≡ true → IsUtf8 bs
 utf8_of_name_bytes = utf8_of_all is_name_byte name_byte_small

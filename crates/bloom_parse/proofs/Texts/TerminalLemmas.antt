@@ -8,6 +8,7 @@ use Rattle.std.specs.List.{AllByRecursion, find, list_any, list_all}
 use Rattle.std.specs.Str.{bytes_eq}
 use Rattle.blz_value.specs.declared.value.Value.TheVariants.{Int, Text}
 use Rattle.blz_value.specs.Name.{is_name}
+use Rattle.blz_value.proofs.Booleans.{not_true, both_true, neither}
 use Rattle.bloom_forms.specs.declared.expr.NamedAgg.{NamedAgg}
 use Rattle.bloom_forms.specs.declared.expr.NamedAgg.TheVariants.{Count, Sum, Min, Max}
 use Rattle.bloom_forms.specs.declared.expr.Term.{Term}
@@ -18,7 +19,6 @@ use Rattle.bloom_forms.specs.Query.{Name, Formula, Query}
 use Rattle.bloom_forms.specs.Query.Formula.{compare, both, either, not_so}
 use Rattle.bloom_forms.specs.Query.Query.{base, select, project, join, notin, group, at_least}
 use Rattle.bloom_forms.specs.Reserved.{is_own_name, is_reserved, term_names, formula_names, pair_names, aggregate_names, query_names}
-use Rattle.bloom_forms.proofs.Faults.Levels.{neither}
 use Rattle.bloom_parse.specs.declared.lexing.terminal.Terminal.{Terminal}
 use Rattle.bloom_parse.specs.declared.lexing.terminal.Terminal.TheVariants as terminals
 use Rattle.bloom_parse.specs.declared.lexing.terminal.Mark.TheVariants as marks
@@ -28,7 +28,7 @@ use Rattle.bloom_parse.specs.Layout.{Levels, levels, item_of, tree_of}
 use Rattle.bloom_parse.specs.Printable.{HasItems}
 use Rattle.bloom_parse.specs.Spelling.{IsTerminal, all_words, word_bytes}
 use Rattle.bloom_parse.specs.Trees.{term_token, unit_text, ands_text, ors_text, Item, item_text, more_items_text, more_pairs_text, more_names_text, keys_text, agg_text, expr_text}
-use Rattle.bloom_parse.proofs.Printed.BoundsLemmas.{both_true, short_parts}
+use Rattle.bloom_parse.proofs.Printed.BoundsLemmas.{short_parts}
 
 -- ---- names
 
@@ -40,10 +40,6 @@ none_found [] name e = refl
 none_found (w ∷ ws) name e =
     let parts = neither (bytes_eq (word_bytes w) name) (list_any (λ x. bytes_eq x name) (map word_bytes ws)) e in
     rw (other_way (word_bytes w) name parts.0) (none_found ws name parts.1)
-
-not_true : (b : Bool) → not b ≡ true → b ≡ false
-not_true true e = cc
-not_true false e = refl
 
 name_terminal : (name : Name) → is_own_name name ≡ true → IsTerminal (terminals.Name name)
 name_terminal name e =

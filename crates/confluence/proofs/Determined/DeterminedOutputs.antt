@@ -32,7 +32,7 @@ use Rattle.topo_forms.specs.Feeds.{Feed, no_feed}
 use Rattle.topo_forms.specs.Messages.{row, rows_in}
 use Rattle.topo_forms.specs.Valid.{IsCovered}
 use Rattle.topo_forms.specs.View.{View, origin_of, program_of, is_order, mode_key, replicas_of, component_at, note_at, has_stream, goes_to, port_at, port_attrs, stream_numbers}
-use Rattle.topo_forms.proofs.Regions.Spreading.{from_below, in_below, both_true, and_true}
+use Rattle.topo_forms.proofs.Regions.Spreading.{in_below}
 use Rattle.inbox.specs.Instances.{Instance}
 use Rattle.inbox.specs.Timesteps.{timesteps}
 use Rattle.inbox.specs.Lives.{Life, all_lives}
@@ -58,11 +58,14 @@ use Rattle.confluence.proofs.Honest.Partitions.{IsRestriction}
 use Rattle.confluence.proofs.Determined.Parts.{IsPart, by_parts}
 use Rattle.confluence.proofs.Determined.Rows.{AreInside, IsDetermined, from_once, once_inside, confluent_part, silent_part, IsOpen, apart_part}
 use Rattle.confluence.proofs.Contents.Instances.{inside, instance_is, determined_contents}
-use Rattle.confluence.proofs.Determined.Notes.{covers_o, covers_some, covers_read, w_some, not_o}
+use Rattle.confluence.proofs.Determined.Notes.{covers_o, covers_some, covers_read, not_o}
 use Rattle.confluence.proofs.Contents.Arriving.{runs, ports_same, output_column, note_covers, arrives_over, life_inside, inside_sent, long_all, long_life, all_inside}
 use Rattle.bloom_forms.specs.Given.{AreAllC, is_o, is_w}
 use Rattle.bloom_forms.specs.Note.{own_gate}
 use Rattle.blz_value.specs.Bits.{members}
+use Rattle.blz_value.proofs.Booleans.{and_true, both_true}
+use Rattle.blz_value.proofs.Ranges.{Has-below as from_below}
+use Rattle.bloom_forms.proofs.Ports.Rules.{w_some}
 
 -- The plan: the contents are the rows over the lives of an instance. Of each life the rows of a part have
 -- to be among those of all at once, and of the last life, which heard all, they have to be these. Where

@@ -67,11 +67,6 @@ covers_read (Some other) (Some one) note c is t =
     let same : other ≡ note = cc in
     not_write (is_write other) (is_write one) (and_parts (covers_write (is_write other) (is_write one)) (covers_gate (own_gate other) (own_gate one)) c).0 (rw same (reads_only note t))
 
--- what is W is there
-pub w_some : (given : Option Note) → is_w given ≡ true → is_some given ≡ true
-w_some None e = cc
-w_some (Some note) e = refl
-
 -- what isn't O has no gate
 pub not_o : (given : Option Note) (note : Note) → is_o given ≡ false → given ≡ Some note → own_gate note ≡ None
 not_o None note e is = cc

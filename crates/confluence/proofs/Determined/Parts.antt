@@ -18,8 +18,9 @@ use Rattle.bloom_forms.specs.Good.{good_tables}
 use Rattle.bloom_forms.specs.KindNumbers.{number_in_kind}
 use Rattle.bloom_forms.specs.Uses.{both_uses, all_uses}
 use Rattle.bloom_forms.proofs.Combining.Using.{uses_have_gate}
-use Rattle.bloom_forms.proofs.Combining.CoversLaw.{covers_law, combine_law}
+use Rattle.bloom_forms.proofs.Combining.CoversLaw.{combine_law}
 use Rattle.blz_value.specs.declared.attrs.Attrs.{Attrs}
+use Rattle.topo_forms.proofs.Views.ValidViews.{self_covered}
 use Rattle.topo_forms.specs.Data.{Data}
 use Rattle.topo_forms.specs.Valid.{IsCovered}
 use Rattle.topo_forms.specs.View.{View, program_of}
@@ -45,10 +46,6 @@ use Rattle.bloom_forms.specs.Note.{own_gate}
 
 -- ---- covers
 
-pub covered_self : (note : Option Note) → IsCovered note note
-covered_self None = tt
-covered_self (Some note) = covers_law.reflexive note
-
 pub covered_on : (a b c : Option Note) → IsCovered a b → IsCovered b c → IsCovered a c
 covered_on a b None p q = tt
 covered_on a None (Some c) p q = absurd q
@@ -61,7 +58,7 @@ both_first (Some a) None = covers_law.reflexive a
 both_first (Some a) (Some b) = (combine_law a b).first
 
 both_second : (a b : Option Note) → IsCovered (both_uses a b) b
-both_second None b = covered_self b
+both_second None b = self_covered b
 both_second (Some a) None = tt
 both_second (Some a) (Some b) = (combine_law a b).second
 
@@ -123,7 +120,7 @@ stock_part v program output proper silent gated = record {
   splits = all_split v.attributes program proper output;
   sees = outputs_see v.attributes program proper output;
   silent = silent;
-  covered = λ port. covered_self (note_of v.attributes program port output);
+  covered = λ port. self_covered (note_of v.attributes program port output);
   gated = gated;
   partitions = λ d x c j key batches value sealing body carrying. partitions_of_outputs v d x c j key batches program value sealing body output carrying;
 }

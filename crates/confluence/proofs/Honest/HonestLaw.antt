@@ -8,6 +8,7 @@ use Rattle.blz_value.specs.declared.attrs.Attrs.{Attrs}
 use Rattle.blz_value.specs.Members.{Has}
 use Rattle.blz_value.specs.Operators.{cells}
 use Rattle.blz_value.proofs.Membership.{Has-append_right, Has-from_flat_map, Has-get_or, all_member}
+use Rattle.blz_value.proofs.Booleans.{both_true}
 use Rattle.bloom_forms.specs.declared.program.Program.{Program}
 use Rattle.bloom_forms.specs.ProgramStep.{empty_tables}
 use Rattle.topo_forms.specs.Carried.{carries_key, key_before, carries}
@@ -17,7 +18,6 @@ use Rattle.topo_forms.specs.Messages.{Message, row, seal, rows_in, is_same_row, 
 use Rattle.topo_forms.specs.Regions.{region_of}
 use Rattle.topo_forms.specs.Valid.{IsValid}
 use Rattle.topo_forms.specs.View.{View, End, origin_of, stream_at, stream_replicas, component_at, output_at, mode_of, mode_key, program_of, replicas_of, has_stream, goes_to, senders_of, stream_of, streams_to, is_order_mode}
-use Rattle.topo_forms.proofs.Regions.Spreading.{both_true}
 use Rattle.inbox.specs.Instances.{Instance, is_carrying}
 use Rattle.inbox.specs.Timesteps.{timesteps}
 use Rattle.inbox.specs.Wiring.{Wiring, wiring_of, instance_for, carried_places}

@@ -33,7 +33,7 @@ use Rattle.topo_forms.specs.Dependencies.{usable_fds}
 use Rattle.topo_forms.specs.Valid.{IsValid, Runs, IsCovered}
 use Rattle.topo_forms.specs.ViewOf.{derived_note}
 use Rattle.topo_forms.specs.View.{View, component_at, output_at, own_attrs, own_root, note_at, program_of, mode_of, mode_key, replicas_of, ports_towards, port_numbers}
-use Rattle.topo_forms.proofs.Regions.Spreading.{in_below, both_true}
+use Rattle.topo_forms.proofs.Regions.Spreading.{in_below}
 use Rattle.messages.specs.Messages.{Batch, Entry, all_pairs}
 use Rattle.inbox.specs.Instances.{Instance, is_carrying, key_of_entry, entries_of}
 use Rattle.inbox.specs.Timesteps.{is_whole, timesteps, Stands}
@@ -48,7 +48,7 @@ use Rattle.inbox.proofs.Records.PutOut.{put_out_over, arrived_up, arrivals_up}
 use Rattle.inbox.proofs.Streams.CarriedKeys.{MayCarry, may_carry-is, towards_carries}
 use Rattle.inbox.proofs.Streams.InstancePorts.{carrying_is, ports_same, key_given}
 use Rattle.inbox.proofs.Columns.Attributes.{within-small}
-use Rattle.inbox.proofs.Dependencies.KeyedOutputs.{output_keyed_law}
+use Rattle.inbox.proofs.Dependencies.KeyedOutputs.{output_keyed_law, used_is}
 use Rattle.inbox.proofs.Records.CopiedLaw.{copied_law}
 use Rattle.confluence.proofs.Honest.LivesHeard.{by_mode, all_come, heard_standing, all_sent, all_arrive}
 use Rattle.confluence.specs.Partitions.{IsLived, IsFed}
@@ -60,6 +60,8 @@ use Rattle.inbox.specs.Folds.{rows_from}
 use Rattle.bloom_forms.specs.Steps.{AreArrivals}
 use Rattle.bloom_forms.specs.Given.{AreAllC, is_w}
 use Rattle.blz_value.specs.Bits.{members}
+use Rattle.blz_value.proofs.Booleans.{both_true}
+use Rattle.bloom_forms.proofs.Ports.Rules.{w_some}
 
 -- The plan: take two lives of one instance. By the split law a row is one over the records of its own key,
 -- since its columns are copies. In mode Pass all notes are C: what the second life has of the partition
@@ -67,11 +69,6 @@ use Rattle.blz_value.specs.Bits.{members}
 -- both, so both have all of it in one timestep, and what they have is the same.
 
 -- ---- notes that are used
-
-covered_some : (used derived : Option Note) → IsCovered used derived → is_some derived ≡ true → is_some used ≡ true
-covered_some used None c e = cc
-covered_some None (Some derived) c e = absurd c
-covered_some (Some used) (Some derived) c e = refl
 
 covers_c : (used derived : Option Attrs) → covers_gate used derived ≡ true → used ≡ None → derived ≡ None
 covers_c used None e none = refl
@@ -91,10 +88,6 @@ covered_c None (Some derived) c e = absurd c
 covered_c (Some used) (Some derived) c e =
     let both = both_true (covers_write (is_write used) (is_write derived)) (covers_gate (own_gate used) (own_gate derived)) c in
     covers_c (own_gate used) (own_gate derived) both.1 (confluent_gate used e)
-
-w_some : (note : Option Note) → is_w note ≡ true → is_some note ≡ true
-w_some None e = cc
-w_some (Some note) e = refl
 
 module _ (v : View) (d : Data) (x : Execution) (history : IsHistory v d x) (holds : Holds v d)
     (c o j : ℕ) (there : c < length v.components) (replica : j < replicas_of v c) (out : o < length (component_at v c).outputs)
@@ -149,7 +142,7 @@ module _ (v : View) (d : Data) (x : Execution) (history : IsHistory v d x) (hold
   -- ---- ports with a note
 
   used_towards : (port : ℕ) → port < length (component_at v c).ports → is_some (given port) ≡ true → Has port (ports_towards v c o)
-  used_towards port lt t = Has-filter (λ p. is_some (note_at v c p o)) port (port_numbers v c) (in_below (length (component_at v c).ports) port lt) (covered_some (note_at v c port o) (derived_note names (Some program) port o) (runs.notes port o lt out) t)
+  used_towards port lt t = Has-filter (λ p. is_some (note_at v c p o)) port (port_numbers v c) (in_below (length (component_at v c).ports) port lt) (used_is (note_at v c port o) (derived_note names (Some program) port o) (runs.notes port o lt out) t)
 
   used_carries : (port : ℕ) → port < length (component_at v c).ports → is_some (given port) ≡ true → port_carries v key.bits c port ≡ true
   used_carries port lt t = towards_carries v valid key.bits c o port may behind (used_towards port lt t)

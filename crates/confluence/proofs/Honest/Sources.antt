@@ -6,6 +6,7 @@ use Rattle.blz_value.specs.Record.{Row}
 use Rattle.blz_value.specs.Operators.{cells}
 use Rattle.blz_value.proofs.Membership.{Has-append_left, Has-append_right, Has-from_map}
 use Rattle.blz_value.specs.declared.attrs.Attrs.{Attrs}
+use Rattle.inbox.proofs.SourceMessages.{rows_of}
 use Rattle.bloom_forms.specs.Roots.{Roots}
 use Rattle.topo_forms.specs.Data.{SourceData, key_places}
 use Rattle.topo_forms.specs.Messages.{Message, row, seal, row_in, rows_in, is_same_row, distinct_rows, partitions, source_seals, source_messages}
@@ -37,10 +38,6 @@ no_row_again (b ∷ before) after m r none (inl e) g =
 no_row_again (b ∷ before) after m r none (inr h) g = no_row_again before after m r none.1 h g
 
 -- ---- records, and then seals
-
-rows_of : (rows : List Row) → rows_in (map row rows) ≡ rows
-rows_of [] = refl
-rows_of (r ∷ rows) = ap (λ l. r ∷ l) (rows_of rows)
 
 no_rows : (messages : List Message) → ((m : Message) → Has m messages → row_in m ≡ None) → rows_in messages ≡ []
 no_rows [] none = refl

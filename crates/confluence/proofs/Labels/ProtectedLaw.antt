@@ -15,7 +15,6 @@ use Rattle.topo_forms.specs.Carried.{carries_key}
 use Rattle.topo_forms.specs.Dependencies.{usable_fds}
 use Rattle.topo_forms.specs.Valid.{IsValid}
 use Rattle.topo_forms.specs.View.{View, End, no_attrs, mode_of, note_at, has_stream, port_attrs, streams_to}
-use Rattle.topo_forms.proofs.Regions.Spreading.{both_true, and_true}
 use Rattle.label_rules.specs.declared.label.Label.{Label}
 use Rattle.label_rules.specs.declared.label.Label.TheVariants.{Seal}
 use Rattle.label_rules.specs.declared.label.PathLabel.{PathLabel}
@@ -29,6 +28,7 @@ use Rattle.confluence.proofs.Labels.Cells.{IsCovered, covered_tells}
 use Rattle.confluence.proofs.Labels.Paths.{has_path}
 use Rattle.confluence.proofs.Labels.SealLaw.{seal_carries}
 use Rattle.blz_value.proofs.Membership.{all_member, all_from}
+use Rattle.blz_value.proofs.Booleans.{and_true, both_true}
 use Rattle.inbox.proofs.Streams.IntoPorts.{Leads, leads, some_stream, has_some, into_port, attrs_into}
 use Rattle.inbox.proofs.Streams.CarriedKeys.{stream_key_law, carries-from}
 use Rattle.inbox.proofs.Dependencies.JointLaw.{closure_law}

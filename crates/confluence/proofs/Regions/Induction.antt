@@ -18,7 +18,7 @@ use Rattle.topo_forms.specs.Regions.{region_of, region_set, is_in_cycle}
 use Rattle.blz_value.specs.NumberSets.{below}
 use Rattle.topo_forms.specs.Valid.{IsValid}
 use Rattle.topo_forms.specs.View.{View, End, origin_of, program_of, is_order, is_replicated, replicas_of, senders_of, goes_to, stream_numbers}
-use Rattle.topo_forms.proofs.Regions.Spreading.{from_below, in_below}
+use Rattle.topo_forms.proofs.Regions.Spreading.{in_below}
 use Rattle.topo_forms.proofs.Regions.OrderAlone.{order_acyclic}
 use Rattle.label_rules.specs.declared.label.Label.{Label}
 use Rattle.label_rules.specs.declared.label.Label.TheVariants.{Seal, Async, Run, Inst, Diverge}
@@ -44,6 +44,7 @@ use Rattle.confluence.proofs.Labels.CyclicLaw.{inputs_of_async, inputs_of_run}
 use Rattle.confluence.proofs.Labels.GoodPathsLaw.{good_of_async, good_of_run}
 use Rattle.confluence.proofs.Labels.ProtectedLaw.{protected_guarded}
 use Rattle.blz_value.specs.Bits.{members}
+use Rattle.blz_value.proofs.Ranges.{Has-below as from_below}
 
 -- The plan: one claim for each stream, over any two complete histories: equal contents where it is Seal or
 -- Async, and for one history alone where it is Run. A source has its contents whatever happens. A stream

@@ -7,6 +7,7 @@ use Rattle.blz_value.specs.Record.{Row}
 use Rattle.blz_value.proofs.Membership.{Has-from_filter}
 use Rattle.blz_value.specs.Bits.{bit_of, meets}
 use Rattle.blz_value.specs.Closure.{within, closure, step}
+use Rattle.blz_value.proofs.Ranges.{Has-below as from_below}
 use Rattle.bloom_forms.specs.declared.program.Program.{Program}
 use Rattle.bloom_forms.specs.declared.program.Program.TheVariants.{Module, Split}
 use Rattle.bloom_forms.specs.ProgramStep.{answer_of}
@@ -19,7 +20,6 @@ use Rattle.topo_forms.specs.Feeds.{Feed}
 use Rattle.topo_forms.specs.Messages.{row, seal}
 use Rattle.topo_forms.specs.View.{comes_from, has_body, End, origin_of, stream_numbers, stream_replicas}
 use Rattle.topo_forms.proofs.Worked.WordCount.{batch, count_module, commit_module}
-use Rattle.topo_forms.proofs.Regions.Spreading.{from_below}
 use Rattle.label_walk.specs.Paths.{label_at}
 use Rattle.inbox.specs.Instances.{Instance}
 use Rattle.inbox.specs.Wiring.{Wiring, wiring_of, is_there, carried_places}

@@ -11,12 +11,11 @@ use Rattle.blz_value.specs.Members.{Has}
 use Rattle.blz_value.specs.Record.{Row}
 use Rattle.blz_value.specs.Test.{cell}
 use Rattle.blz_value.proofs.Membership.{Has-get_or, Has-map, Has-from_map, Has-from_any}
-use Rattle.blz_value.specs.Bits.{bit_of, meets}
+use Rattle.blz_value.specs.Bits.{bit_of}
 use Rattle.blz_value.specs.Closure.{within}
 use Rattle.blz_value.specs.Names.{place_of}
-use Rattle.blz_value.proofs.Members.{within-meets}
 use Rattle.blz_value.proofs.Places.{place_of-get, place_of-none}
-use Rattle.blz_value.proofs.Within.{within-trans, within-refl, within-empty, within-or_l, within-or_r, or-within, within-le}
+use Rattle.blz_value.proofs.Within.{within-trans, within-empty, within-or_r, or-within, within-le}
 use Rattle.bloom_forms.specs.Fits.{repeats}
 use Rattle.bloom_forms.specs.Query.{Name}
 use Rattle.blz_value.specs.Arrows.{with_all}
@@ -28,6 +27,7 @@ use Rattle.bloom_forms.proofs.Copies.Copying.{root-within}
 use Rattle.topo_forms.proofs.Columns.OwnPorts.{distinct_places}
 use Rattle.topo_forms.specs.Data.{place_of_attribute}
 use Rattle.blz_value.specs.NumberSets.{set_of_numbers}
+use Rattle.blz_value.proofs.Lists.{all_keeps}
 use Rattle.topo_forms.specs.View.{Output, own_root}
 use Rattle.inbox.specs.Agreement.{value_at}
 use Rattle.bloom_forms.specs.Attributes.{has_attribute, value_in}
@@ -163,22 +163,15 @@ module _ (names : List Name) where
 
 -- ---- sets of attributes
 
-start_within : (s : ℕ) (sets : List ℕ) → within s (with_all s sets) ≡ true
-start_within s [] = within-refl s
-start_within s (set ∷ sets) = within-trans s (bit_or s set) (with_all (bit_or s set) sets) (within-or_l s set) (start_within (bit_or s set) sets)
-
 has_within : (s : ℕ) (sets : List ℕ) (set : ℕ) → Has set sets → within set (with_all s sets) ≡ true
 has_within s [] set h = absurd h
 has_within s (first ∷ sets) set (inl e) =
-    subst (λ (z : ℕ). within z (with_all (bit_or s first) sets) ≡ true) e (within-trans first (bit_or s first) (with_all (bit_or s first) sets) (within-or_r s first) (start_within (bit_or s first) sets))
+    subst (λ (z : ℕ). within z (with_all (bit_or s first) sets) ≡ true) e (within-trans first (bit_or s first) (with_all (bit_or s first) sets) (within-or_r s first) (all_keeps (bit_or s first) sets))
 has_within s (first ∷ sets) set (inr h) = has_within (bit_or s first) sets set h
 
 -- an attribute of some columns, as a set
 pub root_within : (columns : Roots) (a : ℕ) → Has (Some a) columns → within (bit_of a) (set_of_roots columns) ≡ true
 root_within columns a h = has_within 0 (map root_set columns) (bit_of a) (Has-map root_set (Some a) columns h)
-
-pub in_columns : (columns : Roots) (a : ℕ) → a < 64 → Has (Some a) columns → meets (bit_of a) (set_of_roots columns) ≡ true
-in_columns columns a lt h = within-meets a (set_of_roots columns) lt (root_within columns a h)
 
 all_within : (s t : ℕ) (roots : Roots) → within s t ≡ true → ((a : ℕ) → Has (Some a) roots → within (bit_of a) t ≡ true) → within (with_all s (map root_set roots)) t ≡ true
 all_within s t [] inside each = inside

@@ -1,5 +1,5 @@
 -- A usable dependency is whole at each port of a component, and holds between any two records that were sent there.
-use Rattle.std.proofs.Common.{◌≡◌, ◌<◌, ◌≤◌, ◌^◌, ℕ, Bool, true, false, not, ◌&&◌, ◌||◌, List, [], ◌∷◌, length, map, get_or, refl, ap, ◌∙◌, sym, subst, inl, inr, arith, Option, None, Some}
+use Rattle.std.proofs.Common.{◌≡◌, ◌<◌, ◌≤◌, ◌^◌, ℕ, true, ◌&&◌, ◌||◌, List, [], ◌∷◌, length, map, get_or, refl, ap, ◌∙◌, sym, subst, inl, inr, arith, Option, None, Some}
 use Rattle.std.specs.List.{list_all}
 use Rattle.std.proofs.lemmas.Bool.{eq-eqb, eqb-true, and_parts, and_from}
 use Rattle.blz_value.specs.declared.value.Value.{Value}
@@ -18,7 +18,7 @@ use Rattle.bloom_forms.specs.Gates.{set_of_roots}
 use Rattle.bloom_forms.specs.HeadRoots.{attribute_roots}
 use Rattle.bloom_forms.specs.Roots.{Roots, are_same}
 use Rattle.bloom_forms.specs.Classes.{columns_at, Arriving}
-use Rattle.bloom_forms.proofs.Copies.AttributesLemmas.{in_roots}
+use Rattle.bloom_forms.proofs.Copies.AttributesLemmas.{in_roots, in_set_of_roots as in_columns}
 use Rattle.topo_forms.specs.Data.{Data, key_value, agree_on, has_both, place_of_attribute}
 use Rattle.topo_forms.specs.Dependencies.{upholds, has_to_with_from, is_usable, usable_fds}
 use Rattle.topo_forms.specs.Messages.{is_same_row}
@@ -31,7 +31,7 @@ use Rattle.messages.proofs.MessagesLemmas.{is_same_row-is, is_same_row-itself}
 use Rattle.inbox.specs.Agreement.{port_roots, value_at, HaveSameValues, IsTraced}
 use Rattle.inbox.specs.Sent.{IsHistory, IsSentTo}
 use Rattle.inbox.specs.StreamLaws.{WholeLaw, ClosureLaw, JointLaw, KeyedLaw}
-use Rattle.inbox.proofs.Columns.Attributes.{numbers_are_roots, in_columns, value_in_is, attribute_within}
+use Rattle.inbox.proofs.Columns.Attributes.{numbers_are_roots, value_in_is, attribute_within}
 use Rattle.inbox.proofs.Records.TracedLaw.{traced_law}
 use Rattle.inbox.proofs.Columns.Viewed.{port_is}
 use Rattle.inbox.proofs.Streams.IntoPorts.{stream_into, attrs_into, goes_in, some_stream, has_some}
@@ -40,6 +40,7 @@ use Rattle.blz_value.proofs.MembersInOrder.{within_by_members, from_members}
 use Rattle.bloom_forms.specs.Attributes.{has_attribute, value_in}
 use Rattle.blz_value.proofs.Maps.{same_map}
 use Rattle.blz_value.specs.Bits.{members}
+use Rattle.blz_value.proofs.Booleans.{implied}
 
 -- ---- the usable dependencies
 
@@ -53,17 +54,13 @@ usable_stream v c p u fd h within goes =
     let both = all_member (λ s. upholds v fd s && has_to_with_from v fd s) (streams_into v c) u (usable_declared v c fd h).1 (goes_in v c p u within goes) in
     ((and_parts (upholds v fd u) (has_to_with_from v fd u) both).0, (and_parts (upholds v fd u) (has_to_with_from v fd u) both).1)
 
-whole_case : (a b : Bool) → (not a || b) ≡ true → a ≡ true → b ≡ true
-whole_case true b h e = h
-whole_case false b h e = cc
-
 pub whole_law : WholeLaw
 whole_law v c p fd valid has usable from =
     let one = some_stream v c p has in
     let attrs = attrs_into v valid c p one.0 one.1.stands one.1.goes in
     let both = usable_stream v c p one.0 fd usable one.1.stands one.1.goes in
     subst (λ (s : ℕ). within fd.to.bits s ≡ true) (sym attrs)
-    (whole_case (within fd.from.bits (stream_attrs v one.0).bits) (within fd.to.bits (stream_attrs v one.0).bits) both.1 (subst (λ (s : ℕ). within fd.from.bits s ≡ true) attrs from))
+    (implied (within fd.from.bits (stream_attrs v one.0).bits) (within fd.to.bits (stream_attrs v one.0).bits) both.1 (subst (λ (s : ℕ). within fd.from.bits s ≡ true) attrs from))
 
 pub closure_law : ClosureLaw
 closure_law v c p gate valid has inside =

@@ -25,7 +25,7 @@ use Rattle.blz_value.proofs.Members.{member_small}
 use Rattle.blz_value.proofs.MembersInOrder.{members_within}
 use Rattle.blz_value.specs.Bits.{members}
 
-used_is : (used derived : Option Note) → IsCovered used derived → is_some derived ≡ true → is_some used ≡ true
+pub used_is : (used derived : Option Note) → IsCovered used derived → is_some derived ≡ true → is_some used ≡ true
 used_is None None h e = cc
 used_is (Some a) None h e = refl
 used_is None (Some b) h e = absurd h

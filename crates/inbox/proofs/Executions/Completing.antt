@@ -9,6 +9,7 @@ use Rattle.std.proofs.lemmas.List.FromFn.{get_or-enumerate_from, length-enumerat
 use Rattle.blz_value.specs.Members.{Has}
 use Rattle.blz_value.proofs.Membership.{Has-get_or, Has-filter}
 use Rattle.blz_value.proofs.MembersInOrder.{in_range}
+use Rattle.blz_value.proofs.Booleans.{not_false}
 use Rattle.topo_forms.specs.Data.{Data}
 use Rattle.topo_forms.specs.Feeds.{no_feed}
 use Rattle.topo_forms.specs.View.{is_order_mode}
@@ -36,10 +37,6 @@ none_left p x xs e h = elim (p x) as (λ b. p x ≡ b → b ≡ false) [
     no_member : {X : Type 0} (ys : List X) (q : X) → length ys ≡ 0 → ¬ Has q ys
     no_member [] q e h = h
     no_member (y ∷ ys) q e h = absurd (omega arith)
-
-not_not : (b : Bool) → not b ≡ false → b ≡ true
-not_not true e = refl
-not_not false e = cc
 
 Has-enumerate : {X : Type 0} (xs : List X) (n : ℕ) (d : X) → n < length xs → Has (n, get_or xs n d) (enumerate_from 0 xs)
 Has-enumerate {X} xs n d within =
@@ -89,7 +86,7 @@ module _ (w : Wiring) (given : Data) (x : Execution) (complete : IsComplete w gi
       let here : length (unheard heard feed (emitted_list w given x (feed_numbered i feed).stream (feed_numbered i feed).sender)) ≡ 0 =
       sum_none (λ place. length (unheard heard place.0 (emitted_list w given x place.1.stream place.1.sender))) (feed, feed_numbered i feed) (enumerate_from 0 i.feeds) none (Has-enumerate i.feeds feed no_feed within) in
       same-from_any is_same_pair is_same_pair-is is_same_pair-itself (feed, message) heard
-      (not_not (list_any (is_same_pair (feed, message)) heard) (none_left (λ m. not (list_any (is_same_pair (feed, m)) heard)) message (emitted_list w given x (feed_numbered i feed).stream (feed_numbered i feed).sender) here sent))
+      (not_false (list_any (is_same_pair (feed, message)) heard) (none_left (λ m. not (list_any (is_same_pair (feed, m)) heard)) message (emitted_list w given x (feed_numbered i feed).stream (feed_numbered i feed).sender) here sent))
 
   -- a replica of an Order component took its whole log in its last life
   pub all_taken : (component replica : ℕ) → is_there w component replica ≡ true → is_order_mode (instance_at w component replica).mode ≡ true → length (x.logs component) ≤ (x.lives component replica).last.taken

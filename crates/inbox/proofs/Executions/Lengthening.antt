@@ -1,5 +1,5 @@
 -- Each legal step lengthens emitted lists and logs, and takes stay within logs.
-use Rattle.std.proofs.Common.{◌≡◌, refl, ap, sym, subst, ◌∙◌, ℕ, ◌+◌, ◌<◌, ◌≤◌, ◌==◌, ◌&&◌, not, Bool, true, false, List, [], ◌∷◌, ◌++◌, length, map, get_or, length-append, arith, Option, None, Some, inl, inr, slice_get}
+use Rattle.std.proofs.Common.{◌≡◌, refl, ap, sym, subst, ◌∙◌, ℕ, ◌+◌, ◌<◌, ◌≤◌, ◌==◌, ◌&&◌, not, Bool, true, false, List, [], ◌∷◌, ◌++◌, length, map, get_or, arith, Option, None, Some, inl, inr, slice_get}
 use Rattle.std.specs.Prelude.{Ok, if◌then◌else◌}
 use Rattle.std.specs.List.{fold, list_any}
 use Rattle.std.specs.Option.{option_map_or}
@@ -7,6 +7,7 @@ use Rattle.std.proofs.lemmas.Bool.{eqb-true, eq-eqb, ltb-true}
 use Rattle.std.proofs.lemmas.List.{take-append-le, get_or_default}
 use Rattle.blz_value.specs.Members.{Has}
 use Rattle.blz_value.proofs.Membership.{Has-append_left, Has-append_right, Has-append_cases}
+use Rattle.messages.proofs.ListsLemmas.{length-continues}
 use Rattle.topo_forms.specs.Data.{Data}
 use Rattle.topo_forms.specs.Messages.{Message, row, seal}
 use Rattle.messages.specs.Messages.{Batch, Entry, is_same_entry, with_new, all_pairs}
@@ -127,9 +128,6 @@ pub with_logged-logs : (component port : ℕ) (message : Message) (x : Execution
 with_logged-logs component port (row record_in) x c = with_entry-logs component (port, record_in) x c (c == component)
 with_logged-logs component port (seal key count) x c = continues_itself (x.logs c)
 
-continues-length : {X : Type 0} (xs ys : List X) → Continues xs ys → length xs ≤ length ys
-continues-length xs ys c = subst (λ l. length xs ≤ length l) c.with_more (let e : length (xs ++ c.more) ≡ length xs + length c.more = length-append xs c.more in omega (arith, e))
-
 -- the lives that hear, take or forget: each of them took no more than an old one, or one entry more than the last
 hear-lives : (batch : Batch) (lives : Lives) (n : ℕ) → ((life : Life) → Has life (all_lives lives) → life.taken ≤ n) → (life : Life) → Has life (all_lives (hear_batch batch lives)) → life.taken ≤ n
 hear-lives batch lives n within life h =
@@ -181,7 +179,7 @@ step_takes w given x y within (hears component replica parts pairs h p e) =
 step_takes w given x y within (logs component part pair s p e) =
     subst TakesWithinLogs e (λ c r life h.
     let old : life.taken ≤ length (x.logs c) = within c r life (subst (λ l. Has life (all_lives l)) (with_logged-lives component part.port pair.1 x c r) h) in
-    let longer = continues-length (x.logs c) ((with_logged component part.port pair.1 x).logs c) (with_logged-logs component part.port pair.1 x c) in
+    let longer = length-continues (x.logs c) ((with_logged component part.port pair.1 x).logs c) (with_logged-logs component part.port pair.1 x c) in
     omega (arith, old, longer))
 step_takes w given x y within (takes component replica t n e) =
     subst TakesWithinLogs e (one_instance_takes component replica take_entry x within (take-lives (x.lives component replica) (length (x.logs component)) (ltb-true _ _ n) (within component replica)))

@@ -1,11 +1,11 @@
 -- What instances have heard and what logs hold was emitted before, in lists that only grow.
-use Rattle.std.proofs.Common.{◌≡◌, refl, ap, sym, subst, ◌∙◌, ℕ, ◌<◌, ◌==◌, ◌&&◌, Bool, true, false, List, [], ◌∷◌, length, inl, inr, ◌⊎◌, Option, None, Some, slice_get}
+use Rattle.std.proofs.Common.{◌≡◌, refl, ap, sym, subst, ◌∙◌, ℕ, ◌<◌, ◌==◌, ◌&&◌, Bool, true, false, List, [], ◌∷◌, length, inl, inr, ◌⊎◌, Option, None, Some}
 use Rattle.std.specs.Prelude.{Ok, if◌then◌else◌}
 use Rattle.std.proofs.lemmas.Bool.{eqb-true, and_parts}
-use Rattle.std.proofs.lemmas.Option.{slice_get_within, get_or_from_slice_get}
 use Rattle.std.proofs.lemmas.List.Quantifiers.{position-Some}
 use Rattle.blz_value.specs.Members.{Has}
 use Rattle.blz_value.proofs.Membership.{Has-append_left, Has-append_right, Has-append_cases, Has-get_or}
+use Rattle.blz_value.proofs.Options.{Has-slice_get}
 use Rattle.topo_forms.specs.Data.{Data}
 use Rattle.topo_forms.specs.Feeds.{Feed, no_feed}
 use Rattle.topo_forms.specs.Messages.{Message, row, seal}
@@ -75,9 +75,6 @@ feed_of-is i part number e =
       stream = eqb-true f.stream part.sent.stream (and_parts (f.stream == part.sent.stream) (f.sender == part.sent.replica) rest).0;
       sender = eqb-true f.sender part.sent.replica (and_parts (f.stream == part.sent.stream) (f.sender == part.sent.replica) rest).1;
     }
-
-Has-slice_get : {X : Type 0} (xs : List X) (n : ℕ) (q : X) → slice_get xs n ≡ Some q → Has q xs
-Has-slice_get xs n q e = subst (λ z. Has z xs) (get_or_from_slice_get xs n q q e) (Has-get_or xs n q (slice_get_within xs n q e))
 
 pub pair-comes : (w : Wiring) (given : Data) (x : Execution) (i : Instance) (part : Part) (pair : Pair) → IsPairOf w given x i part pair → ComesFrom w given x i pair
 pair-comes w given x i part pair is =

@@ -11,8 +11,8 @@ use Rattle.blz_value.specs.Record.{Row, record_cmp}
 use Rattle.blz_value.specs.Sets.{set_of}
 use Rattle.blz_value.proofs.Membership.{Has-append_cases, any_from_Has}
 use Rattle.blz_value.proofs.SetLaws.{Has-set_of, Has-from_set_of}
+use Rattle.blz_value.proofs.Booleans.{same_truth}
 use Rattle.topo_forms.specs.Messages.{Message, row, seal, is_same_row, row_in}
-use Rattle.topo_forms.proofs.Regions.Spreading.{same_truth}
 use Rattle.messages.specs.Messages.{Pair, Batch, Entry}
 use Rattle.inbox.specs.Instances.{Instance, port_of_feed, entries_of, key_of_entry}
 use Rattle.inbox.specs.Timesteps.{is_whole, is_due}

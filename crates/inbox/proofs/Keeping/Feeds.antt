@@ -17,8 +17,8 @@ use Rattle.blz_value.specs.Sets.{set_of}
 use Rattle.blz_value.proofs.Membership.{Has-append_cases, Has-filter, Has-from_filter, Has-get_or, Has-map, Has-from_map}
 use Rattle.blz_value.proofs.RowSets.{set_of-push, set_of-push_present, length-insert_key-new}
 use Rattle.blz_value.proofs.SetLaws.{Has-from_set_of}
+use Rattle.blz_value.proofs.Booleans.{same_truth, or_false}
 use Rattle.topo_forms.specs.Messages.{Message, row, seal, is_same_row}
-use Rattle.topo_forms.proofs.Regions.Spreading.{same_truth}
 use Rattle.messages.specs.Messages.{Pair, Entry}
 use Rattle.inbox.specs.Instances.{PortKey, Instance, port_of_feed, is_carrying, entries_of, key_of_entry, is_of_key}
 use Rattle.inbox.specs.Timesteps.{is_seal_within, from_feed}
@@ -33,10 +33,6 @@ use Rattle.inbox.proofs.TimestepLemmas.UnderSeal.{of_key-is, is-of_key}
 use Rattle.inbox.proofs.TimestepLemmas.Whole.{entries_of-append}
 
 -- ---- truth values
-
-or_false : (b : Bool) → (b || false) ≡ b
-or_false true = refl
-or_false false = refl
 
 or_turned : (a b c : Bool) → a ≡ c → (a || b) ≡ (b || (c || false))
 or_turned true true c e = refl

@@ -11,12 +11,13 @@ use Rattle.blz_value.specs.Sets.{set_of}
 use Rattle.blz_value.proofs.Membership.{Has-from_map, Has-from_filter, Has-get_or}
 use Rattle.bloom_forms.specs.Step.{Sets}
 use Rattle.blz_value.specs.declared.attrs.Attrs.{Attrs}
+use Rattle.blz_value.proofs.Booleans.{same_truth}
+use Rattle.blz_value.proofs.Lists.{filter-map, filter_same}
 use Rattle.bloom_forms.specs.declared.mode.Mode.{Mode}
 use Rattle.bloom_forms.specs.declared.mode.Mode.TheVariants.{Free, Pass, Order}
 use Rattle.bloom_forms.specs.declared.mode.Mode.TheVariants as mode
 use Rattle.topo_forms.specs.Messages.{row_in}
 use Rattle.topo_forms.specs.View.{is_order_mode}
-use Rattle.topo_forms.proofs.Regions.Spreading.{same_truth}
 use Rattle.messages.specs.Messages.{Pair, Batch, Entry, is_same_entry, all_pairs, firsts}
 use Rattle.inbox.specs.Instances.{Instance, port_of_feed, is_carrying, entry_of, entries_of}
 use Rattle.inbox.specs.Timesteps.{is_due, is_of_some, timestep_of, one_timestep, one_by_one, first_part, second_part, newly_whole, steps_in, held_count}
@@ -37,12 +38,12 @@ use Rattle.inbox.specs.declared.inbox.Inbox.{Inbox}
 use Rattle.messages.proofs.LogLemmas.{one_id, any-with_ids}
 use Rattle.messages.proofs.MessagesLemmas.{is_same_entry-is, is_same_entry-itself, any-from_same, same-from_any, Has-firsts, Has-from_firsts}
 use Rattle.inbox.proofs.TimestepLemmas.AtOnce.{GoesAtOnce}
-use Rattle.inbox.proofs.TimestepLemmas.Held.{filter_same, seal_held, at_once_held}
+use Rattle.inbox.proofs.TimestepLemmas.Held.{seal_held, at_once_held}
 use Rattle.inbox.proofs.TimestepLemmas.UnderSeal.{all_pairs-more}
 use Rattle.inbox.proofs.Keeping.Feeds.{port_in-is, carries_in-is}
 use Rattle.inbox.proofs.Keeping.Batches.{all_wait}
 use Rattle.inbox.proofs.Keeping.Whole.{due_in-is, newly-is}
-use Rattle.inbox.proofs.Keeping.Released.{filter-map, released-is, first_steps-are, held-after}
+use Rattle.inbox.proofs.Keeping.Released.{released-is, first_steps-are, held-after}
 
 -- ---- the records of a batch
 

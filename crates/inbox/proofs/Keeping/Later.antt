@@ -8,8 +8,8 @@ use Rattle.blz_pool.specs.Pool.{number_of}
 use Rattle.blz_value.specs.Members.{Has}
 use Rattle.blz_value.specs.Record.{Row}
 use Rattle.blz_value.proofs.Membership.{Has-get_or}
+use Rattle.blz_value.proofs.Booleans.{same_truth}
 use Rattle.topo_forms.specs.Messages.{is_same_row}
-use Rattle.topo_forms.proofs.Regions.Spreading.{same_truth}
 use Rattle.messages.specs.Messages.{Pair, Entry, all_pairs}
 use Rattle.messages.specs.Whole.{feeds_view}
 use Rattle.messages.specs.Feeds.{FeedView, FeedsView}

@@ -17,6 +17,8 @@ use Rattle.blz_value.specs.Sets.{set_of, set_by}
 use Rattle.blz_value.proofs.Membership.{Has-filter, Has-from_filter, Has-flat_map, Has-from_flat_map, any_from_Has, Has-from_any, filter_members, map_members}
 use Rattle.blz_value.proofs.RowSets.{same_set_of}
 use Rattle.blz_value.proofs.SetLemmas.{sorted_set_by, Has-from_set_by, Has-set_by, same_sorted}
+use Rattle.blz_value.proofs.Ranges.{Has-range as Has-from_range, in_range}
+use Rattle.blz_value.proofs.Lists.{filter-map}
 use Rattle.topo_forms.specs.Messages.{is_same_row}
 use Rattle.messages.specs.Messages.{Pair, Batch, Entry, is_same_entry, with_new, firsts}
 use Rattle.inbox.specs.Instances.{Instance, is_carrying, key_of_entry, is_of_key}
@@ -31,14 +33,6 @@ use Rattle.inbox.proofs.TimestepLemmas.Whole.{BecomesWhole, newly-becomes, becom
 use Rattle.inbox.proofs.TimestepLemmas.UnderSeal.{of_key-is, is-of_key}
 
 -- ---- filters
-
-pub filter-map : {X Y : Type 0} (f : X → Y) (p : Y → Bool) (xs : List X) → filter p (map f xs) ≡ map f (filter (λ x. p (f x)) xs)
-filter-map f p [] = refl
-filter-map f p (x ∷ xs) =
-    elim (p (f x)) as (λ b. cond b (f x ∷ filter p (map f xs)) (filter p (map f xs)) ≡ map f (cond b (x ∷ filter (λ y. p (f y)) xs) (filter (λ y. p (f y)) xs))) [
-      | true ↦ ap (λ l. f x ∷ l) (filter-map f p xs)
-      | false ↦ filter-map f p xs
-    ]
 
 -- of the numbers below a length those whose elements pass, and then the elements, are the elements that pass
 filter_places : {X : Type 0} (xs : List X) (f : ℕ → Option X) (q : ℕ → Bool) (p : X → Bool) (a : ℕ) → ((k : ℕ) (d : X) → k < length xs → f (a + k) ≡ Some (get_or xs k d)) → ((k : ℕ) (d : X) → k < length xs → q (a + k) ≡ p (get_or xs k d))
@@ -69,16 +63,6 @@ sorted_range a n = sorted_from_strictly_increasing (range_with_len a n) (λ k wi
     let at : get_or (range_with_len a n) k 0 ≡ a + k = get_or-range_with_len a n k 0 k_in in
     let next : get_or (range_with_len a n) (k + 1) 0 ≡ a + (k + 1) = get_or-range_with_len a n (k + 1) 0 next_in in
     omega (arith, at, next))
-
-Has-range : (a n q : ℕ) → q < n → Has (a + q) (range_with_len a n)
-Has-range a zero q less = absurd (omega arith)
-Has-range a (suc n) zero less = inl (let e : a ≡ a + 0 = omega arith in e)
-Has-range a (suc n) (suc q) less = inr (let e : a + 1 + q ≡ a + suc q = omega arith in subst (λ k. Has k (range_with_len (a + 1) n)) e (Has-range (a + 1) n q (omega arith)))
-
-Has-from_range : (a n q : ℕ) → Has q (range_with_len a n) → q < a + n
-Has-from_range a zero q h = absurd h
-Has-from_range a (suc n) q (inl e) = omega (arith, e)
-Has-from_range a (suc n) q (inr h) = let b : q < a + 1 + n = Has-from_range (a + 1) n q h in omega (arith, b)
 
 -- ---- each element once, of those that pass
 
@@ -152,7 +136,7 @@ module _ (i : Instance) (records : List Row) (waits : Entry → Bool) (heard : L
       let m = Has-from_flat_map (places_of w.places) place keys (Has-from_set_by nat_cmp place gathered h) in
       let zero_more : 0 + place ≡ place = omega arith in
       Has-filter goes_at place (range_with_len 0 (length w.log))
-      (subst (λ k. Has k (range_with_len 0 (length w.log))) zero_more (Has-range 0 (length w.log) place (s.within m.0 place m.2)))
+      (subst (λ k. Has k (range_with_len 0 (length w.log))) zero_more (in_range 0 (length w.log) place (s.within m.0 place m.2)))
       (any_from_Has (λ key. is_of_key i key (entry_with_id records (get_or w.log place (0, 0)))) m.0 keys m.1 (s.placed m.0 place m.2)))
       (λ place h.
       let kept = Has-from_filter goes_at place (range_with_len 0 (length w.log)) h in

@@ -2,7 +2,7 @@
 use Rattle.std.proofs.Common.{if◌then◌else◌, ◌≡◌, refl, ap, sym, subst, ◌∙◌, ℕ, ◌<◌, ◌&&◌, nat_lt, true, false, List, length, map, inl, inr, Option, None, Some, arith}
 use Rattle.std.specs.List.{list_all, zip}
 use Rattle.std.specs.Option.{option_map, option_and_then, unwrap_or}
-use Rattle.std.proofs.lemmas.Bool.{eqb-true, or_cases, true≢false, and_from}
+use Rattle.std.proofs.lemmas.Bool.{or_cases, and_from}
 use Rattle.std.proofs.lemmas.Option.{slice_get-get_or}
 use Rattle.blz_value.specs.Members.{Has}
 use Rattle.blz_value.proofs.Membership.{Has-flat_map, all_member, all_from, Has-get_or}
@@ -16,13 +16,14 @@ use Rattle.bloom_forms.specs.declared.mode.Mode.{Mode}
 use Rattle.bloom_forms.specs.declared.mode.Mode.TheVariants.{Free, Pass, Seal, Order}
 use Rattle.topo_forms.specs.Carried.{may_carry, allows_notes, streams_towards, carries_key, key_before, carries, port_carries}
 use Rattle.blz_value.specs.Arrows.{is_key}
+use Rattle.blz_value.proofs.Booleans.{both_true}
+use Rattle.blz_value.proofs.Options.{is_key-is}
 use Rattle.topo_forms.specs.Data.{key_places}
 use Rattle.topo_forms.specs.Dependencies.{usable_fds}
 use Rattle.topo_forms.specs.Laws.{carries_next}
 use Rattle.topo_forms.specs.Regions.{region_of, is_in_cycle}
 use Rattle.topo_forms.specs.Valid.{IsValid}
 use Rattle.topo_forms.specs.View.{View, End, origin_of, stream_at, port_at, output_at, own_attrs, component_at, mode_of, mode_key, is_order, is_order_mode, has_body, has_stream, goes_to, streams_to, ports_towards, stream_of, Output, own_root, stream_attrs}
-use Rattle.topo_forms.proofs.Regions.Spreading.{both_true}
 use Rattle.topo_forms.proofs.Found.OneLevel.{carries_law}
 use Rattle.topo_forms.proofs.Regions.Lower.{feeds_edge, lower_outside}
 use Rattle.inbox.specs.Emission.{output_key}
@@ -34,10 +35,6 @@ use Rattle.inbox.proofs.Columns.Attributes.{root_within, roots_within, own_colum
 use Rattle.inbox.proofs.Streams.IntoPorts.{goes_is, own_stream, stream_into, attrs_into, into_port, some_stream}
 
 -- ---- keys
-
-is_key-is : (key : ℕ) (o : Option Attrs) → is_key key o ≡ true → (own : Attrs) × (o ≡ Some own) × (own.bits ≡ key)
-is_key-is key None e = absurd (true≢false (sym e))
-is_key-is key (Some own) e = (own, refl, eqb-true own.bits key e)
 
 carried_by : (v : View) (s : ℕ) (o : Option End) (own : Attrs) → origin_of v s ≡ o → key_before v s o ≡ Some own → carries_key v own.bits s ≡ true → carries v s ≡ Some own
 unfolding carries

@@ -5,10 +5,12 @@ use Rattle.std.specs.Option.{option_map_or}
 use Rattle.std.proofs.lemmas.Bool.{eqb-true, eq-eqb, and_from}
 use Rattle.blz_value.specs.Members.{Has}
 use Rattle.blz_value.proofs.Membership.{Has-filter, Has-from_filter, Has-from_any, any_from_Has}
+use Rattle.blz_value.proofs.Booleans.{both_true}
+use Rattle.blz_value.proofs.Ranges.{Has-below as from_below}
 use Rattle.bloom_forms.specs.Gates.{set_of_roots}
 use Rattle.topo_forms.specs.Valid.{IsValid}
 use Rattle.topo_forms.specs.View.{View, Stream, End, no_stream, origin_of, ends_of, stream_at, port_at, component_at, port_attrs, stream_attrs, has_stream, same_end, goes_to, goes_into, streams_to, streams_into, stream_numbers, stream_of}
-use Rattle.topo_forms.proofs.Regions.Spreading.{in_below, from_below, both_true}
+use Rattle.topo_forms.proofs.Regions.Spreading.{in_below}
 use Rattle.inbox.specs.Agreement.{port_roots}
 use Rattle.inbox.proofs.Columns.Attributes.{numbers_are_roots}
 

@@ -1,14 +1,15 @@
 -- Outside Seal nothing is held, and under Seal the records whose partition isn't whole.
-use Rattle.std.proofs.Common.{◌≡◌, refl, ap, ◌∙◌, ◌<◌, Bool, true, false, not, cond, List, [], ◌∷◌, length, filter, arith, inl, inr}
+use Rattle.std.proofs.Common.{◌≡◌, refl, ap, ◌∙◌, ◌<◌, true, false, not, List, [], ◌∷◌, length, filter, arith}
 use Rattle.std.specs.List.{list_any}
 use Rattle.std.proofs.lemmas.Bool.{not_from_false}
 use Rattle.blz_value.specs.Members.{Has}
 use Rattle.blz_value.proofs.Membership.{any_from_Has, Has-from_any, Has-filter}
 use Rattle.bloom_forms.specs.Step.{Sets, set_at}
 use Rattle.blz_value.specs.declared.attrs.Attrs.{Attrs}
+use Rattle.blz_value.proofs.Booleans.{same_truth}
+use Rattle.blz_value.proofs.Lists.{filter_same}
 use Rattle.bloom_forms.specs.declared.mode.Mode.TheVariants.{Seal}
 use Rattle.topo_forms.specs.Messages.{is_same_row}
-use Rattle.topo_forms.proofs.Regions.Spreading.{same_truth}
 use Rattle.messages.specs.Messages.{Batch, Entry, is_same_entry, all_pairs, firsts}
 use Rattle.inbox.specs.Instances.{Instance, entries_of}
 use Rattle.inbox.specs.Timesteps.{is_due, timesteps, is_in_some, held_entries, held_count}
@@ -26,12 +27,6 @@ is_in_some-is steps entry e =
 
 pub is-is_in_some : (steps : List Sets) (entry : Entry) → Stands steps entry → is_in_some steps entry ≡ true
 is-is_in_some steps entry s = any_from_Has (λ now. list_any (is_same_row entry.1) (set_at now entry.0)) s.now steps s.among (any-from_same is_same_row is_same_row-is is_same_row-itself entry.1 (set_at s.now entry.0) s.there)
-
-pub filter_same : {X : Type 0} (p q : X → Bool) (xs : List X) → ((x : X) → Has x xs → p x ≡ q x) → filter p xs ≡ filter q xs
-filter_same p q [] same = refl
-filter_same p q (x ∷ xs) same =
-    ap (λ b. cond b (x ∷ filter p xs) (filter p xs)) (same x (inl refl))
-    ∙ ap (λ l. cond (q x) (x ∷ l) l) (filter_same p q xs (λ y h. same y (inr h)))
 
 -- ---- what is held
 

@@ -1,11 +1,12 @@
 -- What stands in a timestep of a life was heard in the life, or was taken from the log; and a timestep has one set for each port.
-use Rattle.std.proofs.Common.{◌≡◌, refl, ap, sym, subst, ◌∙◌, ℕ, Bool, true, false, List, [], ◌∷◌, length, map, take, inl, inr, ◌⊎◌, zero, suc}
+use Rattle.std.proofs.Common.{◌≡◌, refl, ap, sym, subst, ◌∙◌, ℕ, Bool, true, false, List, [], ◌∷◌, length, map, take, inl, inr, ◌⊎◌}
 use Rattle.std.specs.Prelude.{if◌then◌else◌}
 use Rattle.std.specs.List.{flat_map}
 use Rattle.std.proofs.lemmas.Bool.{cases_Bool}
 use Rattle.blz_value.specs.Members.{Has}
 use Rattle.blz_value.specs.Record.{Row}
 use Rattle.blz_value.proofs.Membership.{Has-from_map, Has-from_flat_map}
+use Rattle.blz_value.proofs.Lists.{Has-take}
 use Rattle.bloom_forms.specs.Step.{Sets, set_at}
 use Rattle.bloom_forms.specs.declared.mode.Mode.{Mode}
 use Rattle.bloom_forms.specs.declared.mode.Mode.TheVariants.{Free, Pass, Seal, Order}
@@ -42,13 +43,6 @@ life_timesteps-many i log life now h = elim (cases_Bool (is_order_mode i.mode)) 
 ]
 
 -- ---- where the entries come from
-
-Has-take : {X : Type 0} (n : ℕ) (q : X) (xs : List X) → Has q (take n xs) → Has q xs
-Has-take zero q [] h = absurd h
-Has-take (suc n) q [] h = absurd h
-Has-take zero q (x ∷ xs) h = absurd h
-Has-take (suc n) q (x ∷ xs) (inl e) = inl e
-Has-take (suc n) q (x ∷ xs) (inr h) = inr (Has-take n q xs h)
 
 -- the entries of an instance that isn't Order were heard
 pub batches_heard : (i : Instance) (mode : Mode) (batches : List Batch) (entry : Entry) → i.mode ≡ mode → is_order_mode mode ≡ false → Stands (timesteps i batches) entry → Has entry (entries_of i (all_pairs batches))

@@ -9,6 +9,7 @@ use Rattle.blz_value.specs.Members.{Has}
 use Rattle.blz_value.specs.Record.{Row}
 use Rattle.blz_value.specs.Sets.{set_of}
 use Rattle.blz_value.proofs.Membership.{any_from_Has, Has-from_any, Has-from_filter}
+use Rattle.blz_value.proofs.Booleans.{or_false}
 use Rattle.topo_forms.specs.Messages.{Message, row, seal, is_same_row, row_in}
 use Rattle.messages.specs.Messages.{Pair, Batch, Entry}
 use Rattle.inbox.specs.Instances.{Instance, port_of_feed, carrying_feeds, entry_of, entries_of, is_of_key}
@@ -27,10 +28,6 @@ is_touching i key pair = is_message_of i key pair.0 pair.1
 pub none_of : {X : Type 0} (p : X → Bool) (xs : List X) → ((x : X) → Has x xs → p x ≡ false) → filter p xs ≡ []
 none_of p [] none = refl
 none_of p (x ∷ xs) none = ap (λ b. cond b (x ∷ filter p xs) (filter p xs)) (none x (inl refl)) ∙ none_of p xs (λ y h. none y (inr h))
-
-or_false : (b : Bool) → (b || false) ≡ b
-or_false true = refl
-or_false false = refl
 
 entry_touches : (i : Instance) (key : Row) (feed : ℕ) (message : Message) (entry : Entry) → option_map (λ r. (port_of_feed i feed, r)) (row_in message) ≡ Some entry → is_of_key i key entry ≡ true → is_message_of i key feed message ≡ true
 entry_touches i key feed (seal k n) entry e of = cc

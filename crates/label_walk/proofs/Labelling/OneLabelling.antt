@@ -1,6 +1,5 @@
 -- A valid topology has one labelling: the one that is made region by region.
-use Rattle.std.proofs.Common.{◌≡◌, ◌<◌, inl, inr, ℕ, zero, suc, nat_eq, not, Bool, true, false, if◌then◌else◌, Option, None, Some, List, [], ◌∷◌, ◌++◌, length, map, filter, refl, arith, rules, ap, sym, subst, ◌∙◌}
-use Rattle.std.specs.List.{flat_map}
+use Rattle.std.proofs.Common.{◌≡◌, ◌<◌, ℕ, zero, suc, nat_eq, not, Bool, true, false, if◌then◌else◌, Option, None, Some, List, [], ◌∷◌, ◌++◌, length, map, filter, refl, arith, rules, ap, sym, subst, ◌∙◌}
 use Rattle.std.specs.Option.{option_map_or}
 use Rattle.std.proofs.lemmas.Bool.{true≢false}
 use Rattle.std.proofs.lemmas.List.{ext_get_or}
@@ -10,10 +9,12 @@ use Rattle.bloom_forms.specs.declared.note.Note.{Note}
 use Rattle.bloom_forms.specs.declared.mode.Mode.TheVariants.{Free}
 use Rattle.topo_forms.specs.Dependencies.{usable_fds}
 use Rattle.blz_value.specs.Graph.{Edge, is_in}
+use Rattle.blz_value.proofs.Maps.{same_map, flat_map_same}
+use Rattle.blz_value.proofs.Booleans.{both_true}
+use Rattle.blz_value.proofs.Ranges.{Has-below as from_below}
 use Rattle.topo_forms.specs.Regions.{edges, region_of, region_set, is_in_cycle}
 use Rattle.topo_forms.specs.Valid.{IsValid}
 use Rattle.topo_forms.specs.View.{View, End, same_end, goes_to, no_attrs, port_attrs, origin_of, ends_of, mode_of, is_order, is_replicated, note_at, port_numbers, stream_numbers, streams_to}
-use Rattle.topo_forms.proofs.Regions.Spreading.{from_below, both_true}
 use Rattle.topo_forms.proofs.Regions.Lower.{feeds_edge, none_ordered, lower_outside, lower_into}
 use Rattle.label_rules.specs.declared.label.Label.{Label}
 use Rattle.label_rules.specs.declared.label.Label.TheVariants.{Async, Run}
@@ -26,14 +27,6 @@ use Rattle.label_walk.specs.LabelLaws.{HasOneLabelling}
 use Rattle.label_walk.proofs.Labelling.Computed.{computed}
 
 -- ---- lists made alike
-
-map_alike : {X Y : Type 0} (f g : X → Y) (xs : List X) → ((x : X) → Has x xs → f x ≡ g x) → map f xs ≡ map g xs
-map_alike f g [] same = refl
-map_alike f g (x ∷ xs) same = let one : f x ≡ g x = same x (inl refl) in let more = map_alike f g xs (λ y has. same y (inr has)) in λ i. one i ∷ more i
-
-flat_alike : {X Y : Type 0} (f g : X → List Y) (xs : List X) → ((x : X) → Has x xs → f x ≡ g x) → flat_map f xs ≡ flat_map g xs
-flat_alike f g [] same = refl
-flat_alike f g (x ∷ xs) same = let one : f x ≡ g x = same x (inl refl) in let more = flat_alike f g xs (λ y has. same y (inr has)) in λ i. one i ++ more i
 
 -- ---- labels depend on what feeds
 
@@ -55,7 +48,7 @@ module _ (v : View) (valid : IsValid v) where
     -- outside cycles
     same_port : (c p : ℕ) → is_order v c ≡ false → is_in_cycle v c ≡ false → Feeds Kind c → (note : Option Note) → port_paths v a c p note ≡ port_paths v b c p note
     same_port c p free outside feeds None = refl
-    same_port c p free outside feeds (Some note) = map_alike (path_label v a c p note) (path_label v b c p note) (streams_to v c p) (λ u has.
+    same_port c p free outside feeds (Some note) = same_map (path_label v a c p note) (path_label v b c p note) (streams_to v c p) (λ u has.
         let kept = Has-from_filter (goes_to v c p) u (stream_numbers v) has in
         let lt : u < length v.streams = from_below (length v.streams) u kept.0 in
         let goes = Has-from_any (λ (end : End). same_end (c, p) end) (ends_of v u) kept.1 in
@@ -68,11 +61,11 @@ module _ (v : View) (valid : IsValid v) where
         same_number m n e = search rules
 
     same_outputs : (c o : ℕ) → is_order v c ≡ false → is_in_cycle v c ≡ false → Feeds Kind c → output_paths v a c o ≡ output_paths v b c o
-    same_outputs c o free outside feeds = flat_alike (λ p. port_paths v a c p (note_at v c p o)) (λ p. port_paths v b c p (note_at v c p o)) (port_numbers v c) (λ p has. same_port c p free outside feeds (note_at v c p o))
+    same_outputs c o free outside feeds = flat_map_same (λ p. port_paths v a c p (note_at v c p o)) (λ p. port_paths v b c p (note_at v c p o)) (port_numbers v c) (λ p has. same_port c p free outside feeds (note_at v c p o))
 
     -- in a cycle
     same_region : (c : ℕ) → c < length v.components → is_order v c ≡ false → Feeds Kind c → region_paths v a (region_set v c) ≡ region_paths v b (region_set v c)
-    same_region c lc free feeds = map_alike _ _ (region_inputs v (region_set v c)) (λ input has.
+    same_region c lc free feeds = same_map _ _ (region_inputs v (region_set v c)) (λ input has.
         let from = Has-from_flat_map (λ s. map (λ end. (s, end)) (ends_in v (region_set v c) s)) input (filter (is_from_outside v (region_set v c)) (stream_numbers v)) has in
         let outside = Has-from_filter (is_from_outside v (region_set v c)) from.0 (stream_numbers v) from.1 in
         let made = Has-from_map (λ (end : End). (from.0, end)) input (ends_in v (region_set v c) from.0) from.2 in

@@ -7,11 +7,12 @@ use Rattle.blz_value.specs.declared.attrs.Fd.{Fd}
 use Rattle.bloom_forms.specs.declared.mode.Mode.{Mode}
 use Rattle.topo_forms.specs.Dependencies.{usable_fds}
 use Rattle.blz_value.specs.Graph.{is_in, is_cyclic_set}
+use Rattle.blz_value.proofs.Maps.{same_map as map_alike}
+use Rattle.blz_value.proofs.Ranges.{Has-below as from_below}
 use Rattle.topo_forms.specs.Regions.{edges, region_set, regions, is_in_cycle, is_cyclic}
 use Rattle.topo_forms.specs.Valid.{IsValid}
 use Rattle.topo_forms.specs.View.{View, End, origin_of, mode_of, is_order, is_replicated, stream_numbers}
 use Rattle.topo_forms.proofs.Regions.OrderAlone.{order_acyclic}
-use Rattle.topo_forms.proofs.Regions.Spreading.{from_below}
 use Rattle.label_rules.specs.declared.label.Label.{Label}
 use Rattle.label_rules.specs.declared.label.Label.TheVariants.{Run}
 use Rattle.label_rules.specs.declared.label.PathLabel.{PathLabel}
@@ -19,7 +20,6 @@ use Rattle.label_rules.specs.Reconciliation.{reconcile}
 use Rattle.label_walk.specs.Paths.{label_at, output_paths, region_at}
 use Rattle.label_walk.specs.Labels.{AreLabels, as_carried, first_labels, labels_of, region_label, outside_label, label_by, label_after, with_region}
 use Rattle.label_walk.specs.Code.Remade.{cycle_label, alone_label, member_label, remade_label, remade_labels}
-use Rattle.label_walk.proofs.Upstream.ListsAlike.{map_alike}
 use Rattle.label_walk.proofs.Labelling.RegionByRegion.{are_labels}
 use Rattle.topo_forms.proofs.Regions.RegionSets.{region_of_member}
 

@@ -15,6 +15,7 @@ use Rattle.topo_forms.specs.Dependencies.{usable_fds}
 use Rattle.blz_value.specs.Graph.{is_in}
 use Rattle.topo_forms.specs.Regions.{region_of, region_set}
 use Rattle.blz_value.specs.NumberSets.{below, set_of_numbers}
+use Rattle.blz_value.proofs.Maps.{flat_map_same as flat_alike}
 use Rattle.topo_forms.specs.View.{View, End, Component, no_port, no_attrs, origin_of, is_order, is_order_mode, is_replicated, mode_of, note_at, port_numbers, streams_to}
 use Rattle.topo_forms.proofs.Regions.Lower.{lower_outside, lower_into}
 use Rattle.label_rules.specs.declared.label.Label.{Label}
@@ -24,7 +25,7 @@ use Rattle.label_rules.specs.Reconciliation.{reconcile}
 use Rattle.label_walk.specs.Labels.{AreLabels, as_carried, label_by, region_label, outside_label}
 use Rattle.label_walk.specs.Paths.{label_at, port_paths, output_paths, notes_in, without_gate, region_inputs}
 use Rattle.label_walk.proofs.Upstream.Alike.{holding, Alike}
-use Rattle.label_walk.proofs.Upstream.ListsAlike.{any_alike, flat_alike}
+use Rattle.label_walk.proofs.Upstream.ListsAlike.{any_alike}
 use Rattle.label_walk.proofs.Labelling.Computed.{computed}
 use Rattle.label_walk.proofs.Labelling.OneLabelling.{Feeds, same_by}
 use Rattle.label_walk.proofs.Upstream.UpstreamRegions.{region_same, region_inside, cycle_same}

@@ -15,10 +15,11 @@ use Rattle.bloom_forms.proofs.Collections.Chosen.{from_chosen}
 use Rattle.blz_value.specs.Graph.{Edge, arrow, arrows, is_in, up, together, region, is_cyclic_set}
 use Rattle.topo_forms.specs.Regions.{edges, region_set, is_in_cycle}
 use Rattle.blz_value.specs.NumberSets.{below, set_where}
+use Rattle.blz_value.proofs.Booleans.{same_truth, both_true}
+use Rattle.blz_value.proofs.Ranges.{Has-below as from_below}
 use Rattle.topo_forms.specs.View.{View, Component}
 use Rattle.topo_forms.proofs.Regions.Classes.{together-up}
 use Rattle.topo_forms.proofs.Regions.RegionOrder.{edge_within, where_same}
-use Rattle.topo_forms.proofs.Regions.Spreading.{both_true, same_truth, from_below}
 use Rattle.label_walk.proofs.Upstream.Alike.{holding, Alike, swapped, same_length, edge_kept}
 use Rattle.label_walk.proofs.Tests.{and_false}
 

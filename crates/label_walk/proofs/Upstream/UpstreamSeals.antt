@@ -17,14 +17,15 @@ use Rattle.blz_value.specs.Graph.{Edge, is_in}
 use Rattle.topo_forms.specs.Laws.{upholds_next, carries_next}
 use Rattle.topo_forms.specs.Regions.{edges, region_of, is_in_cycle}
 use Rattle.blz_value.specs.NumberSets.{below}
+use Rattle.blz_value.proofs.Booleans.{not_true as not_so, both_true}
+use Rattle.blz_value.proofs.Ranges.{Has-below as from_below}
+use Rattle.blz_value.proofs.Lists.{all_on as all_alike, filter_same as filter_alike}
 use Rattle.topo_forms.specs.View.{View, End, Component, no_output, stream_at, component_at, same_end, goes_to, goes_into, origin_of, ends_of, mode_of, mode_key, is_order, is_order_mode, has_body, has_stream, own_attrs, ports_towards, stream_numbers, streams_to, streams_into}
 use Rattle.topo_forms.proofs.Found.OneLevel.{upholds_law, carries_law}
 use Rattle.topo_forms.proofs.Regions.Lower.{feeds_edge, lower_outside}
-use Rattle.topo_forms.proofs.Regions.Spreading.{both_true, from_below}
 use Rattle.label_walk.proofs.Upstream.Alike.{holding, Alike, same_component}
-use Rattle.label_walk.proofs.Upstream.ListsAlike.{all_alike, filter_alike}
 use Rattle.label_walk.proofs.Upstream.UpstreamRegions.{cycle_same}
-use Rattle.label_walk.proofs.Tests.{not_so, and_false}
+use Rattle.label_walk.proofs.Tests.{and_false}
 
 -- a later region has a higher rank, and sources have the least
 abbrev pub rank_from : View → Option End → ℕ

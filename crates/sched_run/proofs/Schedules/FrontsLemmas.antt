@@ -1,5 +1,5 @@
 -- The front of a list has the elements of the whole, is no longer, and what a test finds in it is found in the whole.
-use Rattle.std.proofs.Common.{◌≡◌, ◌<◌, ◌≤◌, ◌+◌, ◌||◌, not, ℕ, zero, suc, Bool, true, false, List, [], ◌∷◌, ◌++◌, length, slice_get, refl, ap, ◌∙◌, sym, subst, length-append, arith}
+use Rattle.std.proofs.Common.{◌≡◌, ◌<◌, ◌≤◌, ◌+◌, ◌||◌, not, ℕ, zero, suc, Bool, true, false, List, [], ◌∷◌, ◌++◌, length, slice_get, refl, ap, ◌∙◌, sym, arith}
 use Rattle.std.specs.List.{list_any}
 use Rattle.std.proofs.lemmas.List.Folds.{list_any-append}
 use Rattle.inbox.specs.Growth.{Continues}
@@ -12,12 +12,6 @@ append_get (x ∷ xs) more (suc n) within = append_get xs more n (omega arith)
 
 pub front_get : {X : Type 0} (xs ys : List X) (n : ℕ) → Continues xs ys → n < length xs → slice_get ys n ≡ slice_get xs n
 front_get {X} xs ys n more within = ap (λ (l : List X). slice_get l n) (sym more.with_more) ∙ append_get xs more.more n within
-
--- a front is no longer
-pub front_length : {X : Type 0} (xs ys : List X) → Continues xs ys → length xs ≤ length ys
-front_length {X} xs ys more =
-    subst (λ (l : List X). length xs ≤ length l) more.with_more
-    (let e : length (xs ++ more.more) ≡ length xs + length more.more = length-append xs more.more in omega (arith, e))
 
 -- what isn't found in the whole isn't found in a front
 pub none_in_front : {X : Type 0} (test : X → Bool) (xs ys : List X) → Continues xs ys → not (list_any test ys) ≡ true → not (list_any test xs) ≡ true

@@ -4,10 +4,10 @@ use Rattle.std.specs.Prelude.{if◌then◌else◌}
 use Rattle.std.specs.List.{enumerate_from, flat_map, range_with_len}
 use Rattle.std.proofs.lemmas.Bool.{and_from, and_parts, cases_lt, eq-eqb, eqb-true}
 use Rattle.std.proofs.lemmas.List.{get_or_past}
-use Rattle.std.proofs.lemmas.Option.{slice_get_within, get_or_from_slice_get}
 use Rattle.blz_value.specs.Members.{Has}
-use Rattle.blz_value.proofs.Membership.{Has-filter, Has-flat_map, Has-from_any, Has-from_filter, Has-from_flat_map, Has-from_map, Has-get_or, Has-map}
-use Rattle.blz_value.proofs.MembersInOrder.{from_range, in_range}
+use Rattle.blz_value.proofs.Membership.{Has-filter, Has-flat_map, Has-from_any, Has-from_filter, Has-from_flat_map, Has-from_map, Has-map}
+use Rattle.blz_value.proofs.Options.{Has-slice_get}
+use Rattle.blz_value.proofs.Ranges.{is_below, Has-from_below}
 use Rattle.topo_forms.specs.Feeds.{Feed}
 use Rattle.topo_forms.specs.Valid.{IsValid}
 use Rattle.topo_forms.specs.View.{View, End, Stream, ends_of, is_order, is_order_mode, replicas_of, same_end, stream_at}
@@ -45,19 +45,10 @@ at_enumerated {X} (y ∷ xs) from (suc k) x at =
     let number : (from + 1) + k ≡ from + suc k = omega arith in
     inr (subst (λ n. Has (n, x) (enumerate_from (from + 1) xs)) number (at_enumerated xs (from + 1) k x at))
 
-pub stands_at : {X : Type 0} (xs : List X) (n : ℕ) (x : X) → slice_get xs n ≡ Some x → Has x xs
-stands_at {X} xs n x e = subst (λ (z : X). Has z xs) (get_or_from_slice_get xs n x x e) (Has-get_or xs n x (slice_get_within xs n x e))
-
 pub place_of : {X : Type 0} (x : X) (xs : List X) → Has x xs → (n : ℕ) × (slice_get xs n ≡ Some x)
 place_of x [] h = absurd h
 place_of x (y ∷ xs) (inl same) = (0, ap (λ z. Some z) same)
 place_of x (y ∷ xs) (inr h) = let r = place_of x xs h in (suc r.0, r.1)
-
-pub below_is : (count n : ℕ) → Has n (range_with_len 0 count) → n < count
-below_is count n h = omega (arith, (from_range 0 count n h).1)
-
-pub is_below : (count n : ℕ) → n < count → Has n (range_with_len 0 count)
-is_below count n within = in_range 0 count n (omega arith) (omega arith)
 
 -- ---- of any wiring
 
@@ -117,7 +108,7 @@ module _ (w : Wiring) where
         | true ↦ λ is g. log_lanes_are s end.0 end.1 lane is g
         | false ↦ λ is g.
             let m = Has-from_flat_map (instance_lanes w s end.0 end.1) lane (replicas_at w end.0) g in
-            instance_lanes_are s end.0 end.1 m.0 lane is (below_is (length (instances_at w end.0)) m.0 m.1) m.2
+            instance_lanes_are s end.0 end.1 m.0 lane is (Has-from_below (length (instances_at w end.0)) m.0 m.1) m.2
       ] refl h
 
   pub lanes_in : (lane : Lane) → Has lane (all_lanes w) → IsLaneIn w lane
@@ -132,7 +123,7 @@ module _ (w : Wiring) where
       elim (is_sequencer w c) as (λ b. is_sequencer w c ≡ b → Has taker (if b then map make (replicas_at w c) else []) → TakesIn w taker) [
         | true ↦ λ is g.
             let m = Has-from_map make taker (replicas_at w c) g in
-            let own : TakesIn w (make m.0) = record { order = is; there = below_is (length (instances_at w c)) m.0 m.1 } in
+            let own : TakesIn w (make m.0) = record { order = is; there = Has-from_below (length (instances_at w c)) m.0 m.1 } in
             subst (TakesIn w) m.2 own
         | false ↦ λ is g. absurd g
       ] refl h
@@ -206,7 +197,7 @@ module _ (v : View) (valid : IsValid v) where
   mode_wired c r there within = ap (λ (i : Instance). is_order_mode i.mode) (instance-wired v c r there within)
 
   feed_is : (c r n : ℕ) (feed : Feed) → slice_get (feeds_for v c r) n ≡ Some feed → IsFeedInto v c feed
-  feed_is c r n feed at = instance-feeds v c r feed (stands_at (feeds_for v c r) n feed at)
+  feed_is c r n feed at = instance-feeds v c r feed (Has-slice_get (feeds_for v c r) n feed at)
 
   is_feed : (c : ℕ) (feed : Feed) → c < length v.components → IsFeedInto v c feed → IsFeed v c feed
   is_feed c feed there is = record { there = there; port = is.port; stream = is.stream; sender = is.sender }

@@ -7,6 +7,7 @@ use Rattle.blz_value.specs.Members.{Has}
 use Rattle.blz_value.proofs.Membership.{Has-get_or, Has-from_filter, Has-from_flat_map, Has-from_map}
 use Rattle.topo_forms.specs.Feeds.{Feed}
 use Rattle.blz_value.specs.NumberSets.{below}
+use Rattle.blz_value.proofs.Ranges.{Has-below}
 use Rattle.topo_forms.specs.Valid.{IsValid}
 use Rattle.topo_forms.specs.View.{View, End, Stream, no_stream, replicas_of, is_order}
 use Rattle.inbox.specs.Wiring.{Wiring, feeds_for, instance_at, is_sequencer, wiring_of}
@@ -17,7 +18,6 @@ use Rattle.sched_run.specs.declared.making.lanes.Lane.{Lane}
 use Rattle.sched_run.specs.declared.making.lanes.Lane.TheVariants.{Deliver, Order}
 use Rattle.sched_run.specs.declared.making.lanes.Taker.{Taker}
 use Rattle.sched_run.proofs.Schedules.LanesLemmas.{streams_wired, many_wired, replicas_wired, feeds_wired, order_wired}
-use Rattle.inbox.proofs.PlacesLemmas.{Has-below}
 
 -- a numbered element stands at its number
 from_enumerated : {X : Type 0} (n : ℕ) (xs : List X) (place : ℕ × X) → Has place (enumerate_from n xs) → (k : ℕ) × (place.0 ≡ n + k) × (slice_get xs k ≡ Some place.1)

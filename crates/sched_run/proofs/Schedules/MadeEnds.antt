@@ -15,6 +15,7 @@ use Rattle.blz_value.proofs.Membership.{Has-flat_map}
 use Rattle.topo_forms.specs.Data.{Data}
 use Rattle.topo_forms.specs.Messages.{Message, row, seal, row_in, rows_in}
 use Rattle.blz_value.specs.NumberSets.{below}
+use Rattle.blz_value.proofs.Ranges.{Has-from_below as below_is}
 use Rattle.topo_forms.specs.Valid.{IsValid}
 use Rattle.topo_forms.specs.View.{View, replicas_of}
 use Rattle.inbox.specs.Completeness.{left_at, left_count, left_of, left_out, undelivered, unheard, unordered, untaken}
@@ -29,7 +30,7 @@ use Rattle.sched_run.specs.declared.making.lanes.Lane.{Lane}
 use Rattle.sched_run.specs.declared.making.lanes.Lane.TheVariants.{Deliver, Order}
 use Rattle.sched_run.specs.declared.making.lanes.Taker.{Taker}
 use Rattle.sched_run.proofs.Counting.{numbers_counted}
-use Rattle.sched_run.proofs.Schedules.LanesKnown.{below_is, component_wired, count_wired, delivery_stands, enumerated_at, mode_wired, ordering_stands, place_of, taker_stands}
+use Rattle.sched_run.proofs.Schedules.LanesKnown.{component_wired, count_wired, delivery_stands, enumerated_at, mode_wired, ordering_stands, place_of, taker_stands}
 use Rattle.sched_run.proofs.Schedules.LanesLemmas.{order_wired}
 
 -- ---- lists without members

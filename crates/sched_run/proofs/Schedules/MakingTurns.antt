@@ -2,6 +2,7 @@
 use Rattle.std.proofs.Common.{◌≡◌, ◌∙◌, ◌+◌, ◌<◌, ◌≤◌, ◌%◌, ◌++◌, ℕ, suc, List, [], ◌∷◌, Option, Some, Result, Ok, Err, IsErrAnd, length, map, sum, slice_get, refl, sym, subst, ap, arith}
 use Rattle.std.proofs.lemmas.List.{length-append}
 use Rattle.std.proofs.lemmas.Option.{get_or_from_slice_get}
+use Rattle.messages.proofs.ListsLemmas.{length-continues as front_length}
 use Rattle.bloom_forms.specs.declared.program.Program.{Program}
 use Rattle.bloom_forms.specs.Step.{Sets}
 use Rattle.topo_forms.specs.Data.{Data}
@@ -28,7 +29,6 @@ use Rattle.sched_run.specs.declared.making.works.Work.{Work}
 use Rattle.sched_run.specs.declared.making.works.Works.{Works}
 use Rattle.sched_run.proofs.Schedules.MakingApplies.{handed_fault}
 use Rattle.sched_run.proofs.Schedules.MakingRuns.{after_is, events_run}
-use Rattle.sched_run.proofs.Schedules.FrontsLemmas.{front_length}
 use Rattle.sched_run.proofs.Schedules.TurnsLemmas.{chosen_first, limit_on_front, made_ends, made_overflows, made_stops}
 use Rattle.sched_run.proofs.Schedules.WorksLemmas.{total_is}
 use Rattle.sched_run.proofs.Schedules.WrittenLemmas.{written_there}

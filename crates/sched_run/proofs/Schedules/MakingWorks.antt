@@ -2,9 +2,9 @@
 use Rattle.std.proofs.Common.{◌≡◌, ◌∙◌, ◌<◌, ◌+◌, ◌-◌, ◌++◌, ◌&&◌, ℕ, Bool, true, false, not, List, [], ◌∷◌, Option, Some, Result, Ok, map, length, get_or, slice_get, append_assoc, refl, sym, subst, ap, inl, inr, arith}
 use Rattle.std.specs.Prelude.{if◌then◌else◌}
 use Rattle.std.proofs.lemmas.Bool.{cases_lt}
-use Rattle.std.proofs.lemmas.Option.{get_or_from_slice_get, slice_get-get_or, slice_get_within}
+use Rattle.std.proofs.lemmas.Option.{slice_get-get_or}
 use Rattle.blz_value.specs.Members.{Has}
-use Rattle.blz_value.proofs.Membership.{Has-get_or}
+use Rattle.blz_value.proofs.Options.{Has-slice_get}
 use Rattle.bloom_forms.specs.declared.program.Program.{Program}
 use Rattle.bloom_forms.specs.Step.{Sets}
 use Rattle.topo_forms.specs.Data.{Data}
@@ -52,16 +52,13 @@ takes (Message (Deliver component replica number feed) index) = refl
 takes (Message (Order component feed) index) = refl
 takes (Take taker) = refl
 
-has_at : {X : Type 0} (xs : List X) (k : ℕ) (x : X) → slice_get xs k ≡ Some x → Has x xs
-has_at xs k x at = subst (λ q. Has q xs) (get_or_from_slice_get xs k x x at) (Has-get_or xs k x (slice_get_within xs k x at))
-
 module _ (v : View) (loaded : List (Option Program)) (tables : List Sets) (old : Books) (events : List Event) where
   -- an open work is due
   pub due_found : (number : ℕ) (work : Work) → Goes v loaded tables old events → IsOpenWork v old number work → IsDue v loaded tables old events (work_event work)
   due_found number work goes is = record {
     given = goes.given;
     run = goes.run;
-    open_now = has_at (open_works (wiring_of v) goes.given (execution_in goes.run.stands.books)) number (work_event work) (is goes.given (map event events) goes.run.stands.books);
+    open_now = Has-slice_get (open_works (wiring_of v) goes.given (execution_in goes.run.stands.books)) number (work_event work) (is goes.given (map event events) goes.run.stands.books);
   }
 
   module _ (valid : IsValid v) (e : Event) (due : IsDue v loaded tables old events e) where
@@ -180,7 +177,7 @@ module _ (v : View) (loaded : List (Option Program)) (tables : List Sets) (old :
       pub may_look_again : (number : ℕ) (work : Work) → work_event work ≡ e → (k : Works) → AreWorksOf v k → after ≡ events ++ chosen_events number e → AreShown v old k → (place : ℕ) → MayLookAt v new k work place
       may_look_again number work of k works are shown place lane at =
           let opens : OpensOnlyNew w due.given x y lane = opens_by number (not (is_take e) && says_again number) refl are lane in
-          let there : IsLaneIn w lane = lanes_in w lane (subst (Has lane) works.lanes_are (has_at k.lanes.items place lane at)) in
+          let there : IsLaneIn w lane = lanes_in w lane (subst (Has lane) works.lanes_are (Has-slice_get k.lanes.items place lane at)) in
           let stays : StaysOpen w due.given x y lane (stale_on work lane) = stays_by work of number (not (is_take e) && says_again number) refl are lane there in
           let window = (shown due.given (map event events) due.run.stands.books).windows place lane at in
           record {
@@ -201,7 +198,7 @@ module _ (v : View) (loaded : List (Option Program)) (tables : List Sets) (old :
 
           window_still : (lane : Lane) → slice_get k.lanes.items place ≡ Some lane → LooksAt v new lane (window_at k place)
           window_still lane at given steps stand =
-              let has : Has lane (all_lanes w) = subst (Has lane) works.lanes_are (has_at k.lanes.items place lane at) in
+              let has : Has lane (all_lanes w) = subst (Has lane) works.lanes_are (Has-slice_get k.lanes.items place lane at) in
               let there : IsLaneIn w lane = lanes_in w lane has in
               let apart : touches v work lane ≡ false = off.lane lane at in
               let opens : OpensOnlyNew w due.given x y lane = opens_by number (not (is_take e) && says_again number) refl are lane in
@@ -225,7 +222,7 @@ module _ (v : View) (loaded : List (Option Program)) (tables : List Sets) (old :
               of_taker : (given : Data) (steps : List Step) (stand : BooksStand v given steps new) (n : ℕ) → place ≡ length k.windows.items + n → (taker : Taker) → slice_get k.takers.items n ≡ Some taker → get_or k.sizes place 0 ≡ get_or (sizes_shown (execution_in stand) k) place 0
               of_taker given steps stand n number_at taker at =
                   let apart : touches_taker work taker ≡ false = off.taker n taker (omega (arith, number_at, works.many)) at in
-                  let is : IsTaker v taker = takers_are v valid taker (subst (Has taker) works.takers_are (has_at k.takers.items n taker at)) in
+                  let is : IsTaker v taker = takers_are v valid taker (subst (Has taker) works.takers_are (Has-slice_get k.takers.items n taker at)) in
                   ap (λ (l : List ℕ). get_or l place 0) before.sizes
                   ∙ taker_size_is x k place n taker number_at at
                   ∙ ap (λ b. if b then 1 else 0) (take_by work of number (not (is_take e) && says_again number) refl are taker apart ∙ takes_same v new valid due.given given (map event after) steps later.stands.books stand taker is)

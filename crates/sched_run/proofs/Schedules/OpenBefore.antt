@@ -5,6 +5,8 @@ use Rattle.std.specs.List.{list_any, range_with_len}
 use Rattle.std.specs.Option.{option_map_or, option_and_then}
 use Rattle.std.proofs.lemmas.Grind.{flat_map-append}
 use Rattle.blz_value.specs.Members.{Has}
+use Rattle.blz_value.proofs.Ranges.{Has-from_below as below_is}
+use Rattle.messages.proofs.ListsLemmas.{length-continues as front_length}
 use Rattle.topo_forms.specs.Data.{Data}
 use Rattle.topo_forms.specs.Messages.{Message, row_in}
 use Rattle.topo_forms.specs.View.{is_order_mode}
@@ -21,8 +23,7 @@ use Rattle.sched_turns.specs.Windows.{IsWindow, Looked, MayShow}
 use Rattle.sched_run.specs.Made.{is_open_in, is_undelivered, is_unordered, lane_list}
 use Rattle.sched_run.specs.declared.making.lanes.Lane.{Lane}
 use Rattle.sched_run.specs.declared.making.lanes.Lane.TheVariants.{Deliver, Order}
-use Rattle.sched_run.proofs.Schedules.FrontsLemmas.{front_get, front_length, none_in_front}
-use Rattle.sched_run.proofs.Schedules.LanesKnown.{below_is}
+use Rattle.sched_run.proofs.Schedules.FrontsLemmas.{front_get, none_in_front}
 
 -- ---- what an event makes
 

@@ -2,14 +2,16 @@
 --
 -- A work of a lane is of a message that stands in the lane's list, and the lane's feed is one of the instance or log to which
 -- it comes. Lists only grow, so the message stands there after the event too.
-use Rattle.std.proofs.Common.{◌≡◌, ◌<◌, ◌+◌, ◌==◌, ◌&&◌, not, nat_lt, ℕ, suc, Bool, true, false, cond, None, Some, List, [], ◌∷◌, length, take, drop, get_or, slice_get, refl, ap, ◌∙◌, sym, subst, inl, inr, arith}
+use Rattle.std.proofs.Common.{◌≡◌, ◌<◌, ◌+◌, ◌==◌, ◌&&◌, not, nat_lt, ℕ, suc, Bool, true, false, cond, None, Some, List, [], ◌∷◌, length, take, get_or, slice_get, refl, ap, ◌∙◌, sym, subst, inl, inr, arith}
 use Rattle.std.specs.Prelude.{Ok, Err, if◌then◌else◌}
 use Rattle.std.specs.List.{flat_map, position, position_or_len, range_with_len}
 use Rattle.std.proofs.lemmas.Bool.{and_from, eq-eqb, lt-ltb}
-use Rattle.std.proofs.lemmas.List.{take-append-drop}
 use Rattle.std.proofs.lemmas.Option.{slice_get-get_or, slice_get_within}
 use Rattle.blz_value.specs.Members.{Has}
-use Rattle.blz_value.proofs.Membership.{Has-append_cases, Has-append_left, Has-from_filter, Has-from_flat_map, Has-from_map}
+use Rattle.blz_value.proofs.Membership.{Has-append_cases, Has-from_filter, Has-from_flat_map, Has-from_map}
+use Rattle.blz_value.proofs.Options.{Has-slice_get as stands_at}
+use Rattle.blz_value.proofs.Ranges.{Has-from_below as below_is}
+use Rattle.blz_value.proofs.Lists.{Has-take}
 use Rattle.topo_forms.specs.Data.{Data}
 use Rattle.topo_forms.specs.Feeds.{Feed}
 use Rattle.topo_forms.specs.Messages.{Message, row}
@@ -32,7 +34,7 @@ use Rattle.sched_run.specs.declared.making.lanes.Lane.TheVariants.{Deliver, Orde
 use Rattle.sched_run.specs.declared.making.lanes.Taker.{Taker}
 use Rattle.sched_run.specs.Code.Looking.{IsLane, IsTaker}
 use Rattle.sched_run.proofs.Schedules.FrontsLemmas.{front_get}
-use Rattle.sched_run.proofs.Schedules.LanesKnown.{IsLaneIn, TakesIn, lanes_in, takers_in, lanes_are, takers_are, mode_wired, stands_at, below_is}
+use Rattle.sched_run.proofs.Schedules.LanesKnown.{IsLaneIn, TakesIn, lanes_in, takers_in, lanes_are, takers_are, mode_wired}
 
 -- ---- what an open work is
 
@@ -41,12 +43,9 @@ pub data IsOpenWork (w : Wiring) (given : Data) (x : Execution) (e : Event) : Ty
   on_lane : (lane : Lane) (index : ℕ) → Has lane (all_lanes w) → index < length (lane_list w given x lane) → is_open_in w given x lane index ≡ true → event_in lane index ≡ e → IsOpenWork w given x e
   by_taker : (taker : Taker) → Has taker (all_takers w) → can_take x taker ≡ true → take_one taker.component taker.replica ≡ e → IsOpenWork w given x e
 
-in_front : {X : Type 0} (n : ℕ) (x : X) (xs : List X) → Has x (take n xs) → Has x xs
-in_front {X} n x xs h = subst (λ (l : List X). Has x l) (take-append-drop n xs) (Has-append_left x (take n xs) (drop n xs) h)
-
 -- the first open indexes are open
 first_are_open : (is_open : ℕ → Bool) (count index : ℕ) → Has index (first_open is_open count) → Has index (open_below is_open count)
-first_are_open is_open count index h = in_front 8 index (open_below is_open count) h
+first_are_open is_open count index h = Has-take 8 index (open_below is_open count) h
 
 module _ (w : Wiring) (given : Data) (x : Execution) where
   -- the works of a lane

@@ -6,8 +6,8 @@ use Rattle.std.proofs.lemmas.Bool.{cases_eq}
 use Rattle.std.proofs.lemmas.Grind.{flat_map-append}
 use Rattle.std.proofs.lemmas.List.{length-append, length-set, get_or-map, get_or-set_other, get_or-set_same}
 use Rattle.std.proofs.lemmas.List.Folds.{flat_map-map}
-use Rattle.std.proofs.lemmas.List.Sums.{sum_by-cons}
 use Rattle.std.proofs.lemmas.Option.{slice_get_within, get_or_from_slice_get}
+use Rattle.blz_value.proofs.Lists.{sum-cons}
 use Rattle.sched_turns.specs.Windows.{Looked}
 
 -- ---- parts and their sizes
@@ -21,9 +21,6 @@ slice_get-right : {A : Type 0} (xs ys : List A) (n m : ℕ) → m ≡ length xs 
 slice_get-right [] ys n m e = ap (slice_get ys) (let same : m ≡ n = omega (arith, e) in same)
 slice_get-right (x ∷ xs) ys n zero e = absurd (omega (arith, e))
 slice_get-right (x ∷ xs) ys n (suc m) e = slice_get-right xs ys n m (omega (arith, e))
-
-sum-cons : (x : ℕ) (xs : List ℕ) → sum (x ∷ xs) ≡ x + sum xs
-sum-cons x xs = sum_by-cons (λ n. n) x xs
 
 -- the sizes of all parts together
 pub lengths_together : {A : Type 0} (parts : List (List A)) → sum (map (λ (l : List A). length l) parts) ≡ length (flat_map (λ (l : List A). l) parts)

@@ -6,6 +6,7 @@ use Rattle.std.proofs.lemmas.List.{get_or-map, length-map}
 use Rattle.blz_value.specs.Members.{Has}
 use Rattle.blz_value.specs.Name.{is_name}
 use Rattle.blz_value.proofs.Membership.{Has-append_left, Has-flat_map, Has-from_filter, Has-from_map, Has-get_or, all_member}
+use Rattle.blz_value.proofs.Booleans.{both_true}
 use Rattle.bloom_forms.specs.declared.module.Collection.{Collection}
 use Rattle.bloom_forms.specs.declared.module.Kind.TheVariants.{Input}
 use Rattle.bloom_forms.specs.declared.program.Program.TheVariants as program
@@ -27,7 +28,6 @@ use Rattle.topo_forms.specs.Valid.{IsWhole, Validated}
 use Rattle.topo_forms.specs.View.{View, Component, Port, Stream, no_port, component_at, port_at, stream_at}
 use Rattle.topo_forms.specs.ViewOf.{modules_in, port_view, view_of}
 use Rattle.topo_forms.proofs.Faults.NoFault.{length_sites, no_source, no_written}
-use Rattle.topo_forms.proofs.Regions.Spreading.{both_true}
 use Rattle.topo_forms.proofs.Views.ViewNumbers.{length_components}
 use Rattle.topo_forms.proofs.Views.ViewParts.{at_component, attributes, each_stream, seen, sites}
 use Rattle.topo_forms.proofs.Views.ViewRuns.{Made, made}

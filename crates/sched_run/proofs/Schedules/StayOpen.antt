@@ -11,6 +11,8 @@ use Rattle.std.proofs.lemmas.List.Folds.{list_any-append}
 use Rattle.std.proofs.lemmas.Option.{get_or_from_slice_get}
 use Rattle.blz_value.specs.Members.{Has}
 use Rattle.blz_value.proofs.Membership.{Has-from_filter}
+use Rattle.blz_value.proofs.Ranges.{Has-from_below as below_is}
+use Rattle.inbox.proofs.TimestepLemmas.UnderSeal.{all_pairs-more as pairs_with}
 use Rattle.topo_forms.specs.Data.{Data}
 use Rattle.topo_forms.specs.Feeds.{Feed, no_feed}
 use Rattle.topo_forms.specs.Messages.{Message, row, seal, row_in}
@@ -37,8 +39,8 @@ use Rattle.sched_run.specs.declared.making.lanes.Lane.TheVariants.{Deliver, Orde
 use Rattle.sched_run.specs.declared.making.works.Work.{Work}
 use Rattle.sched_run.specs.declared.making.works.Work.TheVariants.{Message as Comes, Take}
 use Rattle.sched_run.proofs.Schedules.FrontsLemmas.{front_get}
-use Rattle.sched_run.proofs.HeardBatch.{one_index, pairs_with}
-use Rattle.sched_run.proofs.Schedules.LanesKnown.{IsLaneIn, below_is}
+use Rattle.sched_run.proofs.HeardBatch.{one_index}
+use Rattle.sched_run.proofs.Schedules.LanesKnown.{IsLaneIn}
 use Rattle.sched_run.proofs.Schedules.OpenBefore.{OpensOnlyNew}
 
 -- ---- one index

@@ -9,6 +9,8 @@ use Rattle.std.specs.Option.{option_map, option_and_then}
 use Rattle.std.proofs.lemmas.Bool.{cases_lt, le-ltb, lt-ltb}
 use Rattle.std.proofs.lemmas.List.{take_all, take-append-le, take-append-drop, length-take}
 use Rattle.std.proofs.Math.Seq.{take-append_seam}
+use Rattle.blz_value.proofs.Options.{slice_get-last}
+use Rattle.messages.proofs.ListsLemmas.{length-continues as front_length}
 use Rattle.topo_forms.specs.Data.{Data}
 use Rattle.inbox.specs.Events.{Event}
 use Rattle.inbox.specs.Growth.{Continues}
@@ -19,13 +21,9 @@ use Rattle.inbox.specs.Limits.{Limit, limit_of_event}
 use Rattle.sched_run.specs.declared.fault.MakeFault.{MakeFault}
 use Rattle.sched_run.specs.declared.fault.MakeFault.TheVariants.{TooManyEvents}
 use Rattle.sched_run.specs.Made.{event_limit, Course, after_turns, chosen_events, execution_after, fault_by, faults_in, generated, is_take, limit_at_place, made_of, made_within, open_works, says_again, turn, turn_among, unless_at_fault}
-use Rattle.sched_run.proofs.Schedules.FrontsLemmas.{append_get, front_length}
+use Rattle.sched_run.proofs.Schedules.FrontsLemmas.{append_get}
 
 -- ---- lists
-
-next_get : {X : Type 0} (xs : List X) (x : X) → slice_get (xs ++ x ∷ []) (length xs) ≡ Some x
-next_get [] x = refl
-next_get (y ∷ xs) x = next_get xs x
 
 -- where a function gives nothing of the numbers of a range
 none_found : {Y : Type 0} (f : ℕ → Option Y) (a n : ℕ) → ((i : ℕ) → a ≤ i → i < a + n → f i ≡ None) → filter_map f (range_with_len a n) ≡ []
@@ -152,7 +150,7 @@ module _ (w : Wiring) (given : Data) where
   -- the next event after some
   pub limit_next : (events : List Event) (e : Event) → limit_at_place w given (events ++ e ∷ []) (length events) ≡ limit_of_event w given e (execution_after w given events)
   limit_next events e =
-      ap (λ o. option_and_then (λ d. limit_of_event w given d (execution_after w given (take (length events) (events ++ e ∷ [])))) o) (next_get events e)
+      ap (λ o. option_and_then (λ d. limit_of_event w given d (execution_after w given (take (length events) (events ++ e ∷ [])))) o) (slice_get-last events e)
       ∙ ap (λ l. limit_of_event w given e (execution_after w given l)) (take-append_seam events (e ∷ []))
 
   -- where each event of a list meets none

@@ -5,6 +5,7 @@ use Rattle.std.specs.List.{list_any}
 use Rattle.std.specs.Option.{option_map_or, option_and_then}
 use Rattle.std.proofs.lemmas.Bool.{cases_lt, or_parts}
 use Rattle.std.proofs.lemmas.Option.{get_or_from_slice_get, slice_get_past}
+use Rattle.blz_value.proofs.Booleans.{same_truth}
 use Rattle.topo_forms.specs.Data.{Data}
 use Rattle.topo_forms.specs.Feeds.{Feed}
 use Rattle.topo_forms.specs.Messages.{Message, row, seal, row_in}
@@ -46,11 +47,6 @@ stale_nothing v (Take taker) lane off = refl
 
 -- ---- what is open
 
-both_ways : (a b : Bool) → (a ≡ true → b ≡ true) → (b ≡ true → a ≡ true) → a ≡ b
-both_ways true b there back = sym (there refl)
-both_ways false true there back = back refl
-both_ways false false there back = refl
-
 -- nothing is open past the end of a list
 open_past : (w : Wiring) (given : Data) (x : Execution) (lane : Lane) (index : ℕ) → length (lane_list w given x lane) ≤ index → is_open_in w given x lane index ≡ false
 open_past w given x (Deliver c r n feed) index past =
@@ -61,7 +57,7 @@ open_past w given x (Order c feed) index past =
 -- where the list is the same, and nothing is stale, the same is open
 pub open_still : (w : Wiring) (given : Data) (x y : Execution) (lane : Lane) → OpensOnlyNew w given x y lane → StaysOpen w given x y lane Nothing → lane_list w given y lane ≡ lane_list w given x lane → (index : ℕ) → is_open_in w given x lane index ≡ is_open_in w given y lane index
 open_still w given x y lane opens stays same index = elim (cases_lt index (length (lane_list w given x lane))) [
-  | inl less ↦ both_ways (is_open_in w given x lane index) (is_open_in w given y lane index) (λ e. stays index less refl e) (λ e. opens.before index less e)
+  | inl less ↦ same_truth (is_open_in w given x lane index) (is_open_in w given y lane index) (λ e. stays index less refl e) (λ e. opens.before index less e)
   | inr past ↦ open_past w given x lane index past ∙ sym (open_past w given y lane index (subst (λ (l : List Message). length l ≤ index) (sym same) past))
 ]
 

@@ -1,5 +1,5 @@
 -- Events that can be written: one more of them has names, and one line more is numbered on and can be printed.
-use Rattle.std.proofs.Common.{◌≡◌, ◌∙◌, ◌+◌, ◌<◌, ◌≤◌, ◌++◌, ℕ, zero, suc, true, List, [], ◌∷◌, get_or, length, map, take, refl, sym, subst, ap, append-nil, arith, add-zero}
+use Rattle.std.proofs.Common.{◌≡◌, ◌∙◌, ◌+◌, ◌<◌, ◌≤◌, ◌++◌, ℕ, suc, true, List, [], ◌∷◌, get_or, length, map, take, refl, sym, subst, ap, append-nil, arith}
 use Rattle.std.specs.Prelude.{codes}
 use Rattle.std.specs.List.{All, enumerate_from, range_with_len}
 use Rattle.std.proofs.lemmas.Bool.{and_from}
@@ -7,6 +7,7 @@ use Rattle.std.proofs.lemmas.List.{get_or-map, length-append, length-map, length
 use Rattle.std.proofs.lemmas.List.Elements.{All-nil, All-push}
 use Rattle.std.proofs.lemmas.Grind.{flat_map-append}
 use Rattle.std.proofs.lemmas.List.Folds.{list_all-append}
+use Rattle.blz_value.proofs.Ranges.{range_more}
 use Rattle.sched_text.specs.Reading.{ReadsAs, event_reading, line_limit}
 use Rattle.sched_text.specs.Small.{IsSmall}
 use Rattle.sched_text.specs.Text.{event_text, is_printable, numbered_again, schedule_text}
@@ -27,10 +28,6 @@ use Rattle.sched_run.proofs.Schedules.WrittenSoFar.{AreLinesOf, IsTextSoFar}
 use Rattle.sched_run.specs.declared.making.lanes.Lane.TheVariants.{Deliver, Order}
 use Rattle.sched_run.specs.declared.making.works.Work.{Work}
 use Rattle.sched_run.specs.declared.making.works.Work.TheVariants.{Message, Take}
-
-range_more : (a n : ℕ) → range_with_len a (suc n) ≡ range_with_len a n ++ (a + n) ∷ []
-range_more a zero = ap (λ m. m ∷ []) (sym (add-zero a))
-range_more a (suc n) = ap (λ (l : List ℕ). a ∷ l) (range_more (a + 1) n ∙ ap (λ m. range_with_len (a + 1) n ++ m ∷ []) (let e : (a + 1) + n ≡ a + suc n = omega arith in e))
 
 one_longer : {X : Type 0} (xs : List X) (x : X) → length (xs ++ x ∷ []) ≡ suc (length xs)
 one_longer xs x = let e : length (xs ++ x ∷ []) ≡ length xs + 1 = length-append xs (x ∷ []) in omega (arith, e)

@@ -13,6 +13,8 @@ use Rattle.std.proofs.lemmas.Map.Made.{IsDistinct-from_count, AllPairs-from_IsDi
 use Rattle.std.proofs.lemmas.Slice.Eq.{bytes_eq-Decides}
 use Rattle.blz_value.specs.Members.{Has}
 use Rattle.blz_value.proofs.Membership.{Has-get_or, Has-from_map, Has-from_filter, Has-from_any, Contains-from_Has, any_from_Has}
+use Rattle.blz_value.proofs.Booleans.{not_false, neither}
+use Rattle.blz_value.proofs.Ranges.{Has-below as from_below}
 use Rattle.bloom_forms.specs.declared.module.Kind.TheVariants.{Input}
 use Rattle.bloom_forms.specs.declared.module.Collection.{Collection}
 use Rattle.bloom_forms.specs.declared.program.Program.{Program}
@@ -23,13 +25,10 @@ use Rattle.bloom_forms.specs.Kinds.{same_kind, of_kind}
 use Rattle.bloom_forms.specs.Query.{Name}
 use Rattle.bloom_forms.specs.StockSteps.{keys_in_order}
 use Rattle.bloom_forms.specs.Program.{port_columns}
-use Rattle.bloom_forms.proofs.Faults.Levels.{neither}
 use Rattle.topo_forms.specs.declared.topology.Stock.{Stock}
 use Rattle.topo_forms.specs.declared.topology.Stock.TheVariants as stock
 use Rattle.topo_forms.specs.Validity.Twice.{names_are_distinct, repeats_in_stock}
 use Rattle.topo_forms.specs.Sites.{stock_program}
-use Rattle.topo_forms.proofs.Faults.NoFault.{not_false}
-use Rattle.topo_forms.proofs.Regions.Spreading.{from_below}
 
 -- no port of it has a column twice
 abbrev pub HasOwnPorts : Program → Type 0

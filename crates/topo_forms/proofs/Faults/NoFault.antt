@@ -1,5 +1,5 @@
 -- What it says of each part that a topology has no fault.
-use Rattle.std.proofs.Common.{◌≡◌, ◌≤◌, ◌<◌, ◌+◌, ◌||◌, inl, inr, not, ℕ, ℤ, zero, suc, pos, negsuc, nat_lt, nat_le, nat_eq, Bool, true, false, Option, None, Some, List, [], ◌∷◌, length, take, get_or, refl, arith, ap, sym, subst}
+use Rattle.std.proofs.Common.{◌≡◌, ◌≤◌, ◌<◌, ◌+◌, ◌||◌, inl, inr, not, ℕ, ℤ, zero, suc, pos, negsuc, nat_lt, nat_le, nat_eq, true, false, Option, None, Some, List, [], ◌∷◌, length, take, get_or, refl, arith, ap, sym, subst}
 use Rattle.std.specs.List.{flat_map}
 use Rattle.std.specs.Option.{option_or}
 use Rattle.std.proofs.lemmas.Bool.{cases_Bool, true≢false}
@@ -11,8 +11,8 @@ use Rattle.blz_value.proofs.FirstPlace.{none_bad}
 use Rattle.bloom_forms.specs.Form.{Accepted}
 use Rattle.bloom_forms.specs.Query.{Name}
 use Rattle.bloom_forms.proofs.Faults.Firsts.{bad_number}
-use Rattle.bloom_forms.proofs.Faults.Levels.{neither}
 use Rattle.blz_value.specs.Names.{added}
+use Rattle.blz_value.proofs.Booleans.{not_false, both_true, neither}
 use Rattle.topo_forms.specs.declared.fault.TopoFault.{TopoFault}
 use Rattle.topo_forms.specs.declared.fault.TopoKind.{TopoKind}
 use Rattle.topo_forms.specs.declared.fault.TopoKind.TheVariants as kind
@@ -25,7 +25,6 @@ use Rattle.topo_forms.specs.Validity.{Written, written, bad_source, bad_componen
 use Rattle.topo_forms.specs.Validity.TooMany.{is_wide, has_wide, are_many, passes_attributes, is_replica_count, replica_sum}
 use Rattle.topo_forms.specs.Sites.{Site, no_site, sites_of, attributes_in}
 use Rattle.topo_forms.specs.ViewOf.{count_from}
-use Rattle.topo_forms.proofs.Regions.Spreading.{both_true}
 
 pub no_places : (k : TopoKind) (a b c d : Option ℕ) → at_places k a b c d ≡ None → (a ≡ None) × (b ≡ None) × (c ≡ None) × (d ≡ None)
 no_places k None None None None e = (refl, refl, refl, refl)
@@ -55,10 +54,6 @@ at_most n m none = elim (cases_Bool (nat_lt n m)) [
   | inl lt ↦ absurd (none (let h : n < m = grind (arith, nat_tests) in h))
   | inr e ↦ above n m e
 ]
-
-pub not_false : (b : Bool) → not b ≡ false → b ≡ true
-not_false true e = refl
-not_false false e = cc
 
 -- what stands past the end
 

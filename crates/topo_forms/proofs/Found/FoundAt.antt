@@ -1,11 +1,10 @@
 -- What is found of a view, looked up at a number.
-use Rattle.std.proofs.Common.{◌≡◌, ◌<◌, ℕ, Bool, Option, List, map, length, get_or, arith, ap, ◌∙◌, ◌+◌, inl, inr, ◌∷◌, [], Some, None}
+use Rattle.std.proofs.Common.{◌≡◌, ◌<◌, ℕ, Bool, Option, List, length, get_or, arith, ap, ◌∙◌, ◌+◌, inl, inr, ◌∷◌, [], Some, None}
 use Rattle.std.specs.BTreeMap.{BTreeMap, get}
-use Rattle.std.specs.List.{range_with_len, position_from}
+use Rattle.std.specs.List.{position_from}
 use Rattle.std.specs.Str.{bytes_eq}
 use Rattle.std.proofs.lemmas.Bool.{cases_Bool}
 use Rattle.std.proofs.lemmas.List.{get_or-map, length-map}
-use Rattle.std.proofs.lemmas.List.FromFn.{length-map-range_with_len}
 use Rattle.blz_value.specs.declared.attrs.Attrs.{Attrs}
 use Rattle.topo_forms.specs.declared.graph_facts.GraphFacts.{GraphFacts}
 use Rattle.topo_forms.specs.declared.index.Index.{Index}
@@ -14,15 +13,13 @@ use Rattle.topo_forms.specs.Carried.{carries}
 use Rattle.topo_forms.specs.Found.{found_of, usable_at}
 use Rattle.topo_forms.specs.Dependencies.{upholders, is_usable}
 use Rattle.blz_value.specs.Graph.{is_in}
+use Rattle.blz_value.proofs.Ranges.{at_below, length_below}
 use Rattle.topo_forms.specs.Regions.{regions, region_of, is_cyclic}
 use Rattle.topo_forms.specs.Bounded.{IsBounded}
 use Rattle.topo_forms.specs.Code.Index.{IsIndex, name_cmp}
 use Rattle.topo_forms.specs.Valid.{IsValid}
 use Rattle.topo_forms.specs.View.{View, no_fd, fd_at, component_at, find_stream, find_component, find_port}
-use Rattle.topo_forms.proofs.Lists.Tables.{at_below, where-is}
-
-length_below : {X : Type 0} (f : ℕ → X) (n : ℕ) → length (map f (range_with_len 0 n)) ≡ n
-length_below f n = length-map-range_with_len f 0 n
+use Rattle.topo_forms.proofs.Lists.Tables.{where-is}
 
 module _ (f : GraphFacts) (v : View) (is : f ≡ found_of v) where
   pub number_within : (c : ℕ) → c < length v.components → c < length f.numbers

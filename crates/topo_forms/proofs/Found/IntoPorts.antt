@@ -8,10 +8,12 @@ use Rattle.blz_value.proofs.Members.{in-empty}
 use Rattle.topo_forms.specs.declared.graph_facts.GraphFacts.{GraphFacts}
 use Rattle.topo_forms.specs.Found.{found_of, into_port, into_ports}
 use Rattle.blz_value.specs.Graph.{is_in}
+use Rattle.blz_value.proofs.Booleans.{both_true}
+use Rattle.blz_value.proofs.Ranges.{at_below}
+use Rattle.blz_value.proofs.Lists.{same_count as same_number}
 use Rattle.topo_forms.specs.Valid.{IsValid}
 use Rattle.topo_forms.specs.View.{View, component_at, component_numbers, ends_of, goes_to, same_end}
-use Rattle.topo_forms.proofs.Lists.Tables.{at_below, where-is}
-use Rattle.topo_forms.proofs.Regions.Spreading.{both_true, same_number}
+use Rattle.topo_forms.proofs.Lists.Tables.{where-is}
 
 module _ (v : View) (valid : IsValid v) (c p s : ℕ) (lt : s < length v.streams) where
   -- a stream goes to ports that are there

@@ -1,7 +1,7 @@
 -- In a valid topology no other streams fit the equations of upheld dependencies and of carried keys.
 -- An output that hands something on stands outside cycles, so what its equation asks of other streams
 -- comes from earlier regions: two solutions agree region by region.
-use Rattle.std.proofs.Common.{◌≡◌, ◌<◌, ◌==◌, ◌&&◌, ◌||◌, not, ℕ, zero, suc, Bool, true, false, Option, None, Some, length, refl, arith, ap, sym, subst, ◌∙◌}
+use Rattle.std.proofs.Common.{◌≡◌, ◌<◌, ◌==◌, ◌&&◌, ◌||◌, ℕ, zero, suc, Bool, true, false, Option, None, Some, length, refl, arith, ap, sym, subst, ◌∙◌}
 use Rattle.std.specs.List.{list_all}
 use Rattle.std.proofs.lemmas.Bool.{true≢false, false_from_ne_true, eqb-true}
 use Rattle.blz_value.specs.Members.{Has}
@@ -12,19 +12,16 @@ use Rattle.bloom_forms.specs.declared.mode.Mode.{Mode}
 use Rattle.bloom_forms.specs.declared.mode.Mode.TheVariants.{Free, Pass, Seal, Order}
 use Rattle.topo_forms.specs.Carried.{may_carry, streams_towards, carries_key}
 use Rattle.blz_value.specs.Arrows.{is_key}
+use Rattle.blz_value.proofs.Booleans.{not_true, both_true}
+use Rattle.blz_value.proofs.Ranges.{Has-below as from_below}
+use Rattle.blz_value.proofs.Lists.{all_on}
 use Rattle.topo_forms.specs.Dependencies.{upholds_alone, hands_on, upholds}
 use Rattle.topo_forms.specs.Laws.{upholds_next, carries_next, UpholdsOnce, CarriesOnce}
 use Rattle.topo_forms.specs.Regions.{region_of, is_in_cycle}
 use Rattle.topo_forms.specs.Valid.{IsValid}
 use Rattle.topo_forms.specs.View.{View, End, stream_at, origin_of, ends_of, is_order, is_order_mode, mode_of, mode_key, stream_numbers, streams_into, streams_to, ports_towards, goes_into, goes_to, same_end}
 use Rattle.topo_forms.proofs.Found.OneLevel.{upholds_law, carries_law}
-use Rattle.topo_forms.proofs.Lists.Tables.{all_on}
 use Rattle.topo_forms.proofs.Regions.Lower.{feeds_edge, lower_outside}
-use Rattle.topo_forms.proofs.Regions.Spreading.{from_below, both_true}
-
-not_true : (b : Bool) → not b ≡ true → b ≡ false
-not_true true e = absurd (true≢false (sym e))
-not_true false e = refl
 
 module _ (v : View) (valid : IsValid v) where
   few : length v.streams < 65

@@ -7,10 +7,11 @@ use Rattle.blz_value.specs.declared.attrs.Fd.{Fd}
 use Rattle.blz_value.specs.Closure.{within}
 use Rattle.topo_forms.specs.Carried.{may_carry, streams_behind, streams_towards, carriers, carries_key}
 use Rattle.blz_value.specs.Arrows.{is_key}
+use Rattle.blz_value.proofs.Ranges.{Has-below as from_below}
 use Rattle.topo_forms.specs.Dependencies.{upholds_alone, hands_on, streams_before, upholders, upholds}
 use Rattle.topo_forms.specs.Laws.{upholds_next, carries_next, UpholdsLaw, CarriesLaw}
 use Rattle.topo_forms.specs.View.{View, End, origin_of, stream_at, stream_numbers, streams_to, streams_into, ports_towards, goes_into, goes_to}
-use Rattle.topo_forms.proofs.Regions.Spreading.{from_below, in_below, numbers_within, one_level, belongs}
+use Rattle.topo_forms.proofs.Regions.Spreading.{in_below, numbers_within, one_level, belongs}
 
 module _ (v : View) (few : length v.streams < 65) where
   small : (s : ℕ) → Has s (stream_numbers v) → s < 64

@@ -10,7 +10,8 @@ use Rattle.blz_value.proofs.Reached.{closure-self, closure-trans, closed-map}
 use Rattle.bloom_forms.proofs.Collections.Chosen.{in_chosen, from_chosen}
 use Rattle.blz_value.specs.Graph.{Edge, arrow, arrows, is_in, up, together, region}
 use Rattle.blz_value.specs.NumberSets.{below}
-use Rattle.topo_forms.proofs.Regions.Spreading.{in_below, same_truth, both_true}
+use Rattle.blz_value.proofs.Booleans.{same_truth, both_true}
+use Rattle.topo_forms.proofs.Regions.Spreading.{in_below}
 
 module _ (ar : List Fd) where
   together-parts : (c d : ℕ) → together ar c d ≡ true → (is_in d (up ar c) ≡ true) × (is_in c (up ar d) ≡ true)

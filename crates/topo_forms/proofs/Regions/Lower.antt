@@ -12,10 +12,11 @@ use Rattle.blz_value.proofs.Within.{within-refl}
 use Rattle.blz_value.proofs.Members.{in-within, within-meets, one_number}
 use Rattle.blz_value.proofs.Least.{closure-least}
 use Rattle.blz_value.specs.Graph.{Edge, arrow, arrows, is_in, up, together, is_cyclic_set, IsNumbered, numbered_regions}
+use Rattle.blz_value.proofs.Booleans.{same_truth}
 use Rattle.topo_forms.specs.Regions.{edges, edges_of, counting_ends, region_of, region_set, regions, is_in_cycle}
 use Rattle.topo_forms.specs.Valid.{IsValid}
 use Rattle.topo_forms.specs.View.{View, End, origin_of, ends_of, is_order, stream_numbers}
-use Rattle.topo_forms.proofs.Regions.Spreading.{in_below, same_truth}
+use Rattle.topo_forms.proofs.Regions.Spreading.{in_below}
 use Rattle.topo_forms.proofs.Regions.Classes.{together-self, together-sym, together-trans, together-up, region-is}
 use Rattle.topo_forms.proofs.Regions.Numbering.{regions_law}
 use Rattle.topo_forms.proofs.Regions.RegionOrder.{edge_within, classes_at, region_order}

@@ -12,7 +12,9 @@ use Rattle.blz_value.proofs.Membership.{Has-from_any}
 use Rattle.blz_value.specs.Graph.{Edge, arrows, is_in, up, together, region, is_blocked, is_next, next, regions_from, SomeHas, AreRegions, InOrder, IsNumbered}
 use Rattle.topo_forms.specs.Laws.{RegionsLaw}
 use Rattle.blz_value.specs.NumberSets.{below}
-use Rattle.topo_forms.proofs.Regions.Spreading.{from_below, in_below, both_true}
+use Rattle.blz_value.proofs.Booleans.{not_true, both_true}
+use Rattle.blz_value.proofs.Ranges.{Has-below as from_below}
+use Rattle.topo_forms.proofs.Regions.Spreading.{in_below}
 use Rattle.topo_forms.proofs.Regions.Classes.{are-together, together-up, together-self, same-class, region-is, fed-up}
 
 -- ---- tests of lists
@@ -38,10 +40,6 @@ find-some p (y ∷ xs) x e = elim (cases_Bool (p y)) [
   | inr f ↦ let later = find-some p xs x (rw f at e) in (inr later.0, later.1)
 ]
 
-not-true : (x : Bool) → not x ≡ true → x ≡ false
-not-true true e = absurd (true≢false (sym e))
-not-true false e = refl
-
 -- ---- blocked regions
 
 record Block (es : List Edge) (set done : ℕ) : Type 0 where
@@ -56,7 +54,7 @@ block es set done h =
     let found = Has-from_any (λ (e : Edge). is_in e.1 set && (not (is_in e.0 done) && not (is_in e.0 set))) es h in
     let first = both_true (is_in found.0.1 set) (not (is_in found.0.0 done) && not (is_in found.0.0 set)) found.2 in
     let last = both_true (not (is_in found.0.0 done)) (not (is_in found.0.0 set)) first.1 in
-    record { edge = found.0; stands = found.1; into = first.0; fresh = not-true (is_in found.0.0 done) last.0; outside = not-true (is_in found.0.0 set) last.1 }
+    record { edge = found.0; stands = found.1; into = first.0; fresh = not_true (is_in found.0.0 done) last.0; outside = not_true (is_in found.0.0 set) last.1 }
 
 open_edge : (es : List Edge) (set done : ℕ) → is_blocked es set done ≡ false → (e : Edge) → Has e es → is_in e.1 set ≡ true → (is_in e.0 done ≡ true) ⊎ (is_in e.0 set ≡ true)
 open_edge es set done h e n i =

@@ -10,11 +10,11 @@ use Rattle.blz_value.specs.Graph.{Edge, arrows, is_in, together, region, is_cycl
 use Rattle.topo_forms.specs.Laws.{OrderIsAcyclic}
 use Rattle.topo_forms.specs.Regions.{edges, region_set, is_in_cycle}
 use Rattle.blz_value.specs.NumberSets.{below}
+use Rattle.blz_value.proofs.Booleans.{both_true}
 use Rattle.topo_forms.specs.Valid.{IsValid}
 use Rattle.topo_forms.specs.View.{View, is_order}
 use Rattle.topo_forms.proofs.Regions.Classes.{together-up}
 use Rattle.topo_forms.proofs.Regions.Lower.{edge_free, order_alone}
-use Rattle.topo_forms.proofs.Regions.Spreading.{both_true}
 
 -- a filter that keeps one number of a range at most
 one_kept : (p : ℕ → Bool) (c at n : ℕ) → ((k : ℕ) → at ≤ k → p k ≡ true → k ≡ c) → length (filter p (range_with_len at n)) ≤ 1

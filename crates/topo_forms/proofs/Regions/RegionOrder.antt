@@ -13,9 +13,10 @@ use Rattle.blz_value.specs.Graph.{Edge, arrows, is_in, together, region, is_cycl
 use Rattle.topo_forms.specs.Laws.{RegionOrder}
 use Rattle.topo_forms.specs.Regions.{edges, edges_of, counting_ends, region_set, regions, is_in_cycle}
 use Rattle.blz_value.specs.NumberSets.{below, set_where}
+use Rattle.blz_value.proofs.Ranges.{Has-below as from_below}
 use Rattle.topo_forms.specs.Valid.{IsValid}
 use Rattle.topo_forms.specs.View.{View, End, origin_of, ends_of, is_order, stream_numbers}
-use Rattle.topo_forms.proofs.Regions.Spreading.{from_below, in_below}
+use Rattle.topo_forms.proofs.Regions.Spreading.{in_below}
 use Rattle.topo_forms.proofs.Regions.Classes.{together-self, same-class, region-is}
 use Rattle.topo_forms.proofs.Regions.Numbering.{regions_law}
 

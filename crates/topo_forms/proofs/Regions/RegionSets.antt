@@ -9,12 +9,12 @@ use Rattle.topo_forms.specs.Found.{found_of}
 use Rattle.blz_value.specs.Graph.{Edge, arrows, is_in, together, region, is_next, next, regions_from}
 use Rattle.topo_forms.specs.Regions.{edges, region_set, regions}
 use Rattle.blz_value.specs.NumberSets.{below}
+use Rattle.blz_value.proofs.Ranges.{Has-below as from_below}
 use Rattle.topo_forms.specs.Valid.{IsValid}
 use Rattle.topo_forms.specs.View.{View}
 use Rattle.topo_forms.proofs.Regions.Classes.{same-class}
 use Rattle.topo_forms.proofs.Regions.Numbering.{find-some}
 use Rattle.topo_forms.proofs.Regions.RegionOrder.{where_same}
-use Rattle.topo_forms.proofs.Regions.Spreading.{from_below}
 
 -- the regions from here on, by the next component
 abbrev from_next : List Edge → List Fd → (count left done : ℕ) → Option ℕ → List ℕ

@@ -1,7 +1,7 @@
 -- Sets that spread: one level.
-use Rattle.std.proofs.Common.{◌≡◌, ◌<◌, ◌≤◌, ◌+◌, ◌⊎◌, inl, inr, ℕ, zero, suc, nat_eq, Bool, true, false, ◌&&◌, ◌||◌, bit_or, List, [], ◌∷◌, map, refl, arith, rules, ap, sym, subst, ◌∙◌}
+use Rattle.std.proofs.Common.{◌≡◌, ◌<◌, ◌≤◌, ◌+◌, ◌⊎◌, inl, inr, ℕ, zero, suc, Bool, true, false, ◌&&◌, ◌||◌, bit_or, List, [], ◌∷◌, map, refl, arith, ap, sym, subst, ◌∙◌}
 use Rattle.std.specs.List.{list_all, range_with_len}
-use Rattle.std.proofs.lemmas.Bool.{cases_Bool, cases_eq, or_cases, true≢false}
+use Rattle.std.proofs.lemmas.Bool.{cases_Bool, cases_eq, or_cases}
 use Rattle.std.proofs.Math.Bool.{and-true}
 use Rattle.blz_value.specs.Members.{Has}
 use Rattle.blz_value.proofs.Membership.{Has-from_map}
@@ -15,13 +15,9 @@ use Rattle.blz_value.proofs.Reached.{closed-map}
 use Rattle.blz_value.specs.Arrows.{with_all, bit_if}
 use Rattle.bloom_forms.proofs.Collections.Chosen.{in_chosen, from_chosen}
 use Rattle.blz_value.specs.NumberSets.{below, set_of_numbers, set_where, spreading, spread}
+use Rattle.blz_value.proofs.Booleans.{same_truth, and_true, both_true, or_right, or_left}
 
 -- ---- numbers below a count
-
-from_range : (at n k : ℕ) → Has k (range_with_len at n) → (at ≤ k) × (k < at + n)
-from_range at zero k h = absurd h
-from_range at (suc n) k (inl e) = (omega (arith, e), omega (arith, e))
-from_range at (suc n) k (inr h) = let later = from_range (at + 1) n k h in (omega (arith, later.0), omega (arith, later.1))
 
 in_range : (at n k : ℕ) → at ≤ k → k < at + n → Has k (range_with_len at n)
 in_range at zero k low high = absurd (omega (arith, low, high))
@@ -30,35 +26,10 @@ in_range at (suc n) k low high = elim (cases_eq at k) [
   | inr other ↦ inr (in_range (at + 1) n k (omega (arith, low, other)) (omega (arith, high)))
 ]
 
-pub from_below : (count k : ℕ) → Has k (below count) → k < count
-from_below count k h = let both = from_range 0 count k h in omega (arith, both.1)
-
 pub in_below : (count k : ℕ) → k < count → Has k (below count)
 in_below count k lt = in_range 0 count k (omega arith) (omega (arith, lt))
 
-pub same_number : (a b : ℕ) → nat_eq a b ≡ true → a ≡ b
-same_number a b e = search rules
-
 -- ---- truth values
-
-pub same_truth : (a b : Bool) → (a ≡ true → b ≡ true) → (b ≡ true → a ≡ true) → a ≡ b
-same_truth true b there back = sym (there refl)
-same_truth false true there back = back refl
-same_truth false false there back = refl
-
-pub both_true : (a b : Bool) → (a && b) ≡ true → (a ≡ true) × (b ≡ true)
-both_true true b h = (refl, h)
-both_true false b h = absurd (true≢false (sym h))
-
-pub and_true : (a b : Bool) → a ≡ true → b ≡ true → (a && b) ≡ true
-and_true a b p q = rw (p, q) refl
-
-or_left : (a b : Bool) → a ≡ true → (a || b) ≡ true
-or_left a b p = rw p refl
-
-or_right : (a b : Bool) → b ≡ true → (a || b) ≡ true
-or_right true b q = refl
-or_right false b q = q
 
 and_assoc : (a b c : Bool) → ((a && b) && c) ≡ (a && (b && c))
 and_assoc true b c = refl

@@ -7,12 +7,13 @@ use Rattle.std.proofs.lemmas.List.{get_or-map, length-map}
 use Rattle.std.proofs.lemmas.List.FromFn.{length-enumerate_from, get_or-enumerate_from}
 use Rattle.blz_value.specs.Members.{Has}
 use Rattle.blz_value.proofs.Membership.{Has-get_or, Has-flat_map}
+use Rattle.blz_value.proofs.Booleans.{not_false, both_true, neither}
+use Rattle.bloom_forms.proofs.Combining.CoversLaw.{covers-refl as covers_refl}
 use Rattle.bloom_forms.specs.declared.program.Program.{Program}
 use Rattle.bloom_forms.specs.declared.program.Program.TheVariants as module_of
 use Rattle.bloom_forms.specs.Form.{Accepted}
 use Rattle.bloom_forms.specs.Query.{Name}
 use Rattle.bloom_forms.specs.Proper.{IsProper}
-use Rattle.bloom_forms.proofs.Faults.Levels.{neither}
 use Rattle.bloom_forms.specs.declared.note.Note.{Note}
 use Rattle.bloom_forms.specs.HeadRoots.{attribute_roots}
 use Rattle.bloom_forms.specs.Note.{covers}
@@ -36,18 +37,17 @@ use Rattle.topo_forms.specs.Valid.{Runs, IsCovered, IsComponent, IsValid, AreMod
 use Rattle.topo_forms.specs.View.{View, Component, Output, program_of, note_at, component_at}
 use Rattle.topo_forms.specs.ViewOf.{view_of, note_view, note_used, declared_note, derived_note, note_from, roots_with, gate_with}
 use Rattle.topo_forms.proofs.Columns.AttributeNames.{port_column-has}
-use Rattle.topo_forms.proofs.Faults.NoFault.{not_false, length_sites, site_fine}
+use Rattle.topo_forms.proofs.Faults.NoFault.{length_sites, site_fine}
 use Rattle.topo_forms.proofs.Regions.Numbering.{any-none, find-some}
 use Rattle.topo_forms.proofs.Columns.OwnPorts.{HasOwnPorts, own_ports, stock_distinct}
-use Rattle.topo_forms.proofs.Regions.Spreading.{both_true}
 use Rattle.topo_forms.proofs.Views.ViewParts.{same_bytes, sites, attributes, seen, at_component}
 use Rattle.topo_forms.proofs.Views.ViewNumbers.{length_components, length_ports, length_outputs}
 use Rattle.topo_forms.proofs.Views.ViewColumns.{are_numbered, have_columns, are_paired_ends, some_replicas, no_seal, at_output}
-use Rattle.topo_forms.proofs.Views.ViewRuns.{Made, made, program_cases, proper_stock, covers_refl, columns_of_ports, columns_of_outputs, port_lists, output_lists, ports_apart, outputs_apart, numbered_side}
+use Rattle.topo_forms.proofs.Views.ViewRuns.{Made, made, program_cases, proper_stock, columns_of_ports, columns_of_outputs, port_lists, output_lists, ports_apart, outputs_apart, numbered_side}
 
 -- ---- notes that are covered
 
-self_covered : (o : Option Note) → IsCovered o o
+pub self_covered : (o : Option Note) → IsCovered o o
 self_covered None = tt
 self_covered (Some n) = covers_refl n
 

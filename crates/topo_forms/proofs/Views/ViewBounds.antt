@@ -15,8 +15,9 @@ use Rattle.blz_value.proofs.Membership.{Has-get_or, Has-map, Has-from_map, Has-f
 use Rattle.bloom_forms.specs.Form.{Accepted}
 use Rattle.bloom_forms.specs.Query.{Name}
 use Rattle.bloom_forms.proofs.Faults.Firsts.{bad_number}
-use Rattle.bloom_forms.proofs.Faults.Levels.{neither}
 use Rattle.blz_value.specs.Names.{place_of}
+use Rattle.blz_value.proofs.Booleans.{not_false, neither}
+use Rattle.blz_value.proofs.Lists.{same_count as same_number}
 use Rattle.bloom_forms.specs.HeadRoots.{attribute_roots}
 use Rattle.topo_forms.specs.declared.fault.TopoKind.TheVariants as kind
 use Rattle.topo_forms.specs.declared.topology.FdEntry.{FdEntry}
@@ -31,8 +32,7 @@ use Rattle.topo_forms.specs.Validity.Twice.{has_source, has_stream, has_start, n
 use Rattle.topo_forms.specs.Validity.Unknown.{misses_port}
 use Rattle.topo_forms.specs.View.{Component, stream_at, ends_of, component_at}
 use Rattle.topo_forms.specs.ViewOf.{view_of, component_view, port_view, output_view, fd_view, output_columns_at}
-use Rattle.topo_forms.proofs.Regions.Spreading.{same_number}
-use Rattle.topo_forms.proofs.Faults.NoFault.{no_places, none_in, above, at_most, not_false, no_source, no_written, source_fine, site_fine, stream_fine, few_components}
+use Rattle.topo_forms.proofs.Faults.NoFault.{no_places, none_in, above, at_most, no_source, no_written, source_fine, site_fine, stream_fine, few_components}
 use Rattle.topo_forms.proofs.Regions.Numbering.{any-none}
 use Rattle.topo_forms.proofs.Views.ViewParts.{sites, attributes, seen, at_component, each_stream, located}
 

@@ -11,14 +11,16 @@ use Rattle.blz_value.specs.Bits.{bit_of, meets}
 use Rattle.blz_value.specs.Closure.{within}
 use Rattle.blz_value.specs.Names.{place_of}
 use Rattle.blz_value.proofs.Places.{place_of-get}
-use Rattle.blz_value.proofs.Within.{within-refl, within-trans, within-or_l, within-or_r}
+use Rattle.blz_value.proofs.Within.{within-trans, within-or_r}
 use Rattle.blz_value.proofs.Members.{within-meets}
 use Rattle.blz_value.specs.Members.{Has}
 use Rattle.blz_value.proofs.Membership.{Has-get_or, Has-from_any, Has-from_map, Has-map, Has-flat_map}
 use Rattle.bloom_forms.specs.Form.{Accepted}
 use Rattle.bloom_forms.specs.Query.{Name}
 use Rattle.blz_value.specs.Arrows.{with_all}
-use Rattle.bloom_forms.proofs.Faults.Levels.{neither}
+use Rattle.blz_value.proofs.Booleans.{not_false, both_true, neither}
+use Rattle.blz_value.proofs.Lists.{all_keeps, all_pass}
+use Rattle.bloom_forms.proofs.Faults.Firsts.{any_take, other_name}
 use Rattle.bloom_forms.specs.Gates.{set_of_roots, root_set}
 use Rattle.bloom_forms.specs.HeadRoots.{attribute_roots}
 use Rattle.topo_forms.specs.declared.fault.TopoKind.TheVariants as kind
@@ -39,12 +41,12 @@ use Rattle.topo_forms.specs.Valid.{AreNumbered, HasColumns, IsPaired}
 use Rattle.topo_forms.specs.View.{View, Stream, Port, Output, Component, End, no_stream, no_component, no_port, no_output, component_at, stream_at, port_at, output_at, ends_of, stream_replicas, senders_of, replicas_of, is_order, mode_of, mode_key}
 use Rattle.topo_forms.specs.ViewOf.{view_of, output_view, port_view, key_of, attribute_set}
 use Rattle.topo_forms.proofs.Columns.AttributeNames.{attributes-distinct, source_column-has, port_column-has, place-is, roots-are}
-use Rattle.topo_forms.proofs.Faults.NoFault.{no_source, no_written, not_false, length_sites, source_fine, site_fine, stream_fine, few_components, few_streams, few_attributes, replicas}
+use Rattle.topo_forms.proofs.Faults.NoFault.{no_source, no_written, length_sites, source_fine, site_fine, stream_fine, few_components, few_streams, few_attributes, replicas}
 use Rattle.topo_forms.proofs.Regions.Numbering.{any-none}
 use Rattle.topo_forms.proofs.Columns.SmallSides.{small_sides}
-use Rattle.topo_forms.proofs.Regions.Spreading.{numbers_within, both_true}
+use Rattle.topo_forms.proofs.Regions.Spreading.{numbers_within}
 use Rattle.topo_forms.proofs.Views.ViewParts.{same_bytes, sites, attributes, seen, at_component, at_source, at_stream, length_streams, which_stream, Reaches, source_reaches}
-use Rattle.topo_forms.proofs.Views.ViewNumbers.{any_take, other_name, site_entry, from_located, stream_reaches, length_components, stream_origin, source_origin, origins_within, one_stream, ends_within, sources_first}
+use Rattle.topo_forms.proofs.Views.ViewNumbers.{site_entry, from_located, stream_reaches, length_components, stream_origin, source_origin, origins_within, one_stream, ends_within, sources_first}
 
 -- ---- lists and sets
 
@@ -53,10 +55,6 @@ get_or_other [] i d e lt = absurd (omega arith)
 get_or_other (x ∷ xs) zero d e lt = refl
 get_or_other (x ∷ xs) (suc i) d e lt = get_or_other xs i d e (omega arith)
 
-all_keeps : (s : ℕ) (sets : List ℕ) → within s (with_all s sets) ≡ true
-all_keeps s [] = within-refl s
-all_keeps s (m ∷ sets) = within-trans s (bit_or s m) _ (within-or_l s m) (all_keeps (bit_or s m) sets)
-
 all_has : (s m : ℕ) (sets : List ℕ) → Has m sets → within m (with_all s sets) ≡ true
 all_has s m [] has = absurd has
 all_has s m (n ∷ sets) (inl e) = subst (λ (k : ℕ). within k (with_all s (n ∷ sets)) ≡ true) e (within-trans n (bit_or s n) _ (within-or_r s n) (all_keeps (bit_or s n) sets))
@@ -64,10 +62,6 @@ all_has s m (n ∷ sets) (inr has) = all_has (bit_or s n) m sets has
 
 in_roots : (roots : List (Option ℕ)) (k : ℕ) → k < 64 → Has (Some k) roots → meets (bit_of k) (set_of_roots roots) ≡ true
 in_roots roots k lt has = within-meets k (set_of_roots roots) lt (all_has 0 (bit_of k) (map root_set roots) (Has-map root_set (Some k) roots has))
-
-all_pass : {X : Type 0} (p : X → Bool) (xs : List X) → ((x : X) → Has x xs → p x ≡ true) → list_all p xs ≡ true
-all_pass p [] each = refl
-all_pass p (x ∷ xs) each = rw (each x (inl refl)) (all_pass p xs (λ y has. each y (inr has)))
 
 of_all : {X : Type 0} (p : X → Bool) (xs : List X) → list_all p xs ≡ true → (x : X) → Has x xs → p x ≡ true
 of_all p [] e x has = absurd has

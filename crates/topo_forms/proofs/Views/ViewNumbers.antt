@@ -1,6 +1,6 @@
 -- In the view of a topology without a fault numbers are those of parts, and names are distinct.
 use Rattle.std.proofs.Common.{◌≡◌, ◌≢◌, ◌≤◌, ◌<◌, ◌+◌, ◌↔◌, inl, inr, not, ℕ, zero, suc, nat_lt, Bool, true, false, is_none, Option, None, Some, List, [], ◌∷◌, length, map, filter, take, get_or, refl, arith, ap, sym, subst, ◌∙◌}
-use Rattle.std.specs.List.{list_any, enumerate_from}
+use Rattle.std.specs.List.{enumerate_from}
 use Rattle.std.specs.Option.{option_map_or}
 use Rattle.std.specs.Str.{bytes_eq}
 use Rattle.std.proofs.lemmas.Bool.{cases_Bool, cases_eq, true≢false}
@@ -10,9 +10,10 @@ use Rattle.std.proofs.lemmas.List.Elements.{filter-append}
 use Rattle.std.proofs.lemmas.List.FromFn.{length-enumerate_from}
 use Rattle.std.proofs.lemmas.Slice.Eq.{bytes_eq-Decides}
 use Rattle.blz_value.specs.Members.{Has}
+use Rattle.blz_value.proofs.Booleans.{neither}
+use Rattle.bloom_forms.proofs.Faults.Firsts.{any_take}
 use Rattle.bloom_forms.specs.Form.{Accepted}
 use Rattle.bloom_forms.specs.Query.{Name}
-use Rattle.bloom_forms.proofs.Faults.Levels.{neither}
 use Rattle.topo_forms.specs.declared.fault.TopoKind.TheVariants as kind
 use Rattle.topo_forms.specs.declared.topology.ComponentEntry.{ComponentEntry}
 use Rattle.topo_forms.specs.declared.topology.StreamEntry.{StreamEntry}
@@ -29,15 +30,6 @@ use Rattle.topo_forms.proofs.Faults.NoFault.{no_written, stream_fine}
 use Rattle.topo_forms.proofs.Views.ViewParts.{Located, located, sites, attributes, seen, at_component, at_source, at_stream, which_stream, Reaches, reaches, source_reaches}
 
 -- ---- lists
-
-pub any_take : {X : Type 0} (p : X → Bool) (xs : List X) (i j : ℕ) (d : X) → i < j → i < length xs → list_any p (take j xs) ≡ false → p (get_or xs i d) ≡ false
-any_take p [] i j d lt le e = absurd (omega arith)
-any_take p (x ∷ xs) i zero d lt le e = absurd (omega arith)
-any_take p (x ∷ xs) zero (suc j) d lt le e = (neither (p x) (list_any p (take j xs)) e).0
-any_take p (x ∷ xs) (suc i) (suc j) d lt le e = any_take p xs i j d (omega arith) (omega arith) (neither (p x) (list_any p (take j xs)) e).1
-
-pub other_name : (a b : Name) → bytes_eq a b ≡ false → a ≢ b
-other_name a b e same = let there : bytes_eq a b ≡ true = (bytes_eq-Decides a b).1 same in true≢false (sym there ∙ e)
 
 equal_names : (a b : Name) → a ≡ b → bytes_eq a b ≡ true
 equal_names a b same = (bytes_eq-Decides a b).1 same

@@ -11,9 +11,9 @@ use Rattle.std.proofs.lemmas.Slice.Eq.{bytes_eq-Decides}
 use Rattle.std.proofs.Math.ListN.{get_or-append}
 use Rattle.blz_value.specs.Members.{Has}
 use Rattle.blz_value.proofs.Membership.{Has-from_map}
+use Rattle.blz_value.proofs.Booleans.{not_false, both_true, neither}
 use Rattle.bloom_forms.specs.Form.{Accepted}
 use Rattle.bloom_forms.specs.Query.{Name}
-use Rattle.bloom_forms.proofs.Faults.Levels.{neither}
 use Rattle.topo_forms.specs.declared.fault.TopoKind.TheVariants as kind
 use Rattle.topo_forms.specs.declared.topology.Side.{Side}
 use Rattle.topo_forms.specs.declared.topology.Spot.{Spot}
@@ -25,9 +25,8 @@ use Rattle.topo_forms.specs.Validity.Unknown.{misses_port}
 use Rattle.topo_forms.specs.Sites.{Site, no_site, sites_of, site_number, site_at, side_at, side_number, site_of, side_of, port_of, port_end, attributes_in, side}
 use Rattle.topo_forms.specs.View.{View, Stream, End, no_stream, no_component, component_at, stream_at}
 use Rattle.topo_forms.specs.ViewOf.{view_with, source_view, stream_view, component_view}
-use Rattle.topo_forms.proofs.Faults.NoFault.{no_source, no_written, not_false, source_fine}
+use Rattle.topo_forms.proofs.Faults.NoFault.{no_source, no_written, source_fine}
 use Rattle.topo_forms.proofs.Regions.Numbering.{any-none}
-use Rattle.topo_forms.proofs.Regions.Spreading.{both_true}
 
 -- ---- the first that passes
 

@@ -1,5 +1,5 @@
 -- In the view of a topology without a fault each component runs what its body says.
-use Rattle.std.proofs.Common.{◌≡◌, ◌≢◌, ◌≤◌, ◌<◌, ◌+◌, ◌⊎◌, inl, inr, not, ℕ, zero, suc, nat_eq, Bool, true, false, slice_get, IfSome, IsNone, Option, None, Some, List, [], ◌∷◌, length, map, get_or, unwrap_or, codes, cond, refl, arith, rules, ap, sym, subst, ◌∙◌}
+use Rattle.std.proofs.Common.{◌≡◌, ◌≢◌, ◌≤◌, ◌<◌, ◌+◌, ◌⊎◌, inl, inr, not, ℕ, zero, suc, Bool, true, false, slice_get, IfSome, IsNone, Option, None, Some, List, [], ◌∷◌, length, map, get_or, unwrap_or, codes, cond, refl, arith, ap, sym, subst, ◌∙◌}
 use Rattle.std.specs.List.{list_any, enumerate_from, All, AllPairs}
 use Rattle.std.specs.Set.{is_member, unique_keys, distinct_count}
 use Rattle.std.specs.Str.{bytes_eq}
@@ -13,7 +13,9 @@ use Rattle.blz_value.specs.Members.{Has}
 use Rattle.blz_value.proofs.Membership.{Has-get_or, Has-from_any}
 use Rattle.blz_value.specs.Names.{place_of}
 use Rattle.blz_value.proofs.Places.{place_of-get, place_of-none}
-use Rattle.blz_value.proofs.Within.{within-refl}
+use Rattle.blz_value.proofs.Booleans.{not_false, both_true, neither}
+use Rattle.blz_value.proofs.Lists.{map_twice, same_count}
+use Rattle.bloom_forms.proofs.Faults.Firsts.{other_name}
 use Rattle.bloom_forms.specs.declared.module.Collection.{Collection}
 use Rattle.bloom_forms.specs.declared.module.Kind.{Kind}
 use Rattle.bloom_forms.specs.declared.module.Kind.TheVariants as sort
@@ -25,10 +27,7 @@ use Rattle.bloom_forms.specs.Kinds.{same_kind, of_kind}
 use Rattle.bloom_forms.specs.Program.{port_columns, output_columns}
 use Rattle.bloom_forms.specs.Query.{Name}
 use Rattle.bloom_forms.specs.Proper.{IsProper}
-use Rattle.bloom_forms.proofs.Faults.Levels.{neither}
-use Rattle.bloom_forms.specs.declared.note.Note.{Note}
 use Rattle.bloom_forms.specs.HeadRoots.{attribute_roots}
-use Rattle.bloom_forms.specs.Note.{covers}
 use Rattle.bloom_forms.specs.declared.note.Note.TheVariants as note
 use Rattle.topo_forms.specs.declared.topology.Body.{Body}
 use Rattle.topo_forms.specs.declared.topology.Body.TheVariants as body
@@ -43,12 +42,10 @@ use Rattle.topo_forms.specs.Sites.{no_entry, sites_of, site_at, side, side_numbe
 use Rattle.topo_forms.specs.View.{Port, Output}
 use Rattle.topo_forms.specs.ViewOf.{port_view, output_view}
 use Rattle.topo_forms.proofs.Columns.AttributeNames.{roots-are}
-use Rattle.topo_forms.proofs.Faults.NoFault.{above, not_false}
+use Rattle.topo_forms.proofs.Faults.NoFault.{above}
 use Rattle.topo_forms.proofs.Regions.Numbering.{any-none}
 use Rattle.topo_forms.proofs.Columns.OwnPorts.{stock_distinct}
-use Rattle.topo_forms.proofs.Regions.Spreading.{both_true}
 use Rattle.topo_forms.proofs.Views.ViewParts.{same_bytes}
-use Rattle.topo_forms.proofs.Views.ViewNumbers.{other_name}
 
 -- ---- names that stand once
 
@@ -65,9 +62,6 @@ apart_at (x ∷ xs) e zero zero d lt le = absurd (omega (arith, lt))
 apart_at (x ∷ xs) e zero (suc j) d lt le = other_name x (get_or xs j d) (any-none (bytes_eq x) xs (count_step x xs e).0 (get_or xs j d) (Has-get_or xs j d (omega (arith, le))))
 apart_at (x ∷ xs) e (suc i) zero d lt le = absurd (omega (arith, lt))
 apart_at (x ∷ xs) e (suc i) (suc j) d lt le = apart_at xs (count_step x xs e).1 i j d (omega (arith, lt)) (omega (arith, le))
-
-same_count : (n m : ℕ) → nat_eq n m ≡ true → n ≡ m
-same_count n m e = search rules
 
 pub names_apart : (xs : List Name) → not (names_are_distinct xs) ≡ false → AllPairs (λ a b. a ≢ b) xs
 names_apart xs e i j d lt le = apart_at xs (same_count (distinct_count bytes_eq xs) (length xs) (not_false (names_are_distinct xs) e)) i j d lt le
@@ -87,7 +81,7 @@ column_there columns name has = by (place_of columns name) refl (place_of-get co
     by None e at = absurd (place_of-none columns name (subst (λ (p : Option ℕ). IsNone p) (sym e) refl) has)
     by (Some k) e at = get_below columns k name at
 
-from_names : (names columns : List Name) → names_within names columns ≡ true → (name : Name) → Has name names → Has name columns
+pub from_names : (names columns : List Name) → names_within names columns ≡ true → (name : Name) → Has name names → Has name columns
 from_names [] columns e name has = absurd has
 from_names (n ∷ names) columns e name (inl same) =
     let found = Has-from_any (bytes_eq n) columns (both_true (list_any (bytes_eq n) columns) (names_within names columns) e).0 in
@@ -126,12 +120,6 @@ proper_stock (stock.Latest columns keys) narrow once known =
     proper_latest columns keys (above 8 (length columns) (neither (is_wide columns) _ narrow).0) (not_false (names_within keys columns) known) (names_apart keys (neither (not (names_are_distinct columns)) (not (names_are_distinct keys)) once).1) (stock_distinct (stock.Latest columns keys) once)
 proper_stock (stock.Number columns) narrow once known = (above 8 (length columns) (neither (is_wide columns) false narrow).0, stock_distinct (stock.Number columns) once)
 
-pub covers_refl : (n : Note) → covers n n ≡ true
-covers_refl note.CR = refl
-covers_refl note.CW = refl
-covers_refl (note.OR gate) = within-refl gate.bits
-covers_refl (note.OW gate) = within-refl gate.bits
-
 -- ---- what a site runs
 
 -- what a site runs comes from its body, and a module of it is one of the modules
@@ -161,10 +149,6 @@ program_cases (body.Stock s) modules p e = inr (s, refl, (let z : Some (stock_pr
 program_cases body.None modules p e = let bad : None ≡ Some p = e in cc
 
 -- ---- ports and outputs of a program
-
-map_twice : {X Y Z : Type 0} (g : Y → Z) (f : X → Y) (xs : List X) → map g (map f xs) ≡ map (λ x. g (f x)) xs
-map_twice g f [] = refl
-map_twice g f (x ∷ xs) = let more = map_twice g f xs in λ i. g (f x) ∷ more i
 
 pub columns_of_ports : (p : Program) → map (λ (s : Side). s.columns) (program_ports p) ≡ port_columns p
 columns_of_ports (program.Module m) = map_twice (λ (s : Side). s.columns) collection_side (of_kind sort.Input m.form.collections)

@@ -3,6 +3,7 @@ use Rattle.std.proofs.Common.{◌≡◌, ◌<◌, ℕ, Option, Some, None, List,
 use Rattle.std.specs.List.{range_with_len}
 use Rattle.std.proofs.lemmas.List.{get_or-map, length-map}
 use Rattle.blz_value.specs.declared.attrs.Attrs.{Attrs}
+use Rattle.blz_value.proofs.Ranges.{at_below, length_below}
 use Rattle.bloom_forms.specs.declared.program.Program.{Program}
 use Rattle.bloom_forms.specs.Program.{output_columns}
 use Rattle.bloom_forms.specs.Query.{Name}
@@ -15,7 +16,7 @@ use Rattle.topo_forms.specs.declared.topology.Side.{Side}
 use Rattle.topo_forms.specs.Sites.{Site}
 use Rattle.topo_forms.specs.View.{no_attrs}
 use Rattle.topo_forms.specs.ViewOf.{roots_with, gate_with}
-use Rattle.topo_types.proofs.Faults.BuiltSites.{at_below, length_below, output_within}
+use Rattle.topo_types.proofs.Faults.BuiltSites.{output_within}
 
 -- a table of what the outputs of a program have, looked up at one of them
 module _ {X : Type 0} (f : Program → ℕ → X) (site : Site) (found : Option (List X)) (all : List X) (number : ℕ)

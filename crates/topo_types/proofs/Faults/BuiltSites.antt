@@ -2,7 +2,7 @@
 use Rattle.std.proofs.Common.{◌≡◌, ◌<◌, ℕ, Option, Some, None, List, [], map, length, get_or, option_map, refl, arith, ap, sym, subst, ◌∙◌}
 use Rattle.std.specs.List.{All, range_with_len}
 use Rattle.std.proofs.lemmas.List.{get_or-map, length-map}
-use Rattle.std.proofs.lemmas.List.FromFn.{get_or-map-range_with_len, length-map-range_with_len}
+use Rattle.blz_value.proofs.Ranges.{at_below, length_below}
 use Rattle.bloom_forms.specs.declared.program.Program.{Program}
 use Rattle.bloom_forms.specs.Program.{IsStock, port_columns, output_columns}
 use Rattle.bloom_forms.specs.Query.{Name}
@@ -32,13 +32,6 @@ pub output_within : (site : Site) (p : Program) (number : _) → IsBuilt site �
 output_within site p number built e lt = omega (arith, lt, outputs_of site p built e)
 
 -- ---- notes that a body gives
-
--- a table of the numbers below a count, looked up at one of them
-pub at_below : {X : Type 0} (f : ℕ → X) (n c : ℕ) (d : X) → c < n → get_or (map f (range_with_len 0 n)) c d ≡ f c
-at_below f n c d lt = get_or-map-range_with_len f 0 n c c d lt (omega arith)
-
-pub length_below : {X : Type 0} (f : ℕ → X) (n : ℕ) → length (map f (range_with_len 0 n)) ≡ n
-length_below f n = length-map-range_with_len f 0 n
 
 rows_at : (f : ℕ → ℕ → Option Note) (ports outputs p o : ℕ) → p < ports → o < outputs
     → (p < length (map (λ port. map (f port) (range_with_len 0 outputs)) (range_with_len 0 ports)))

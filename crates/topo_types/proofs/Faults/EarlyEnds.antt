@@ -7,7 +7,6 @@ use Rattle.blz_value.proofs.FirstPlace.{none_bad}
 use Rattle.blz_value.proofs.Membership.{Has-from_map}
 use Rattle.bloom_forms.specs.Form.{Accepted}
 use Rattle.bloom_forms.proofs.Faults.Firsts.{bad_number}
-use Rattle.bloom_forms.proofs.Faults.Levels.{neither}
 use Rattle.topo_forms.specs.declared.fault.TopoKind.{TopoKind}
 use Rattle.topo_forms.specs.declared.fault.TopoKind.TheVariants as kind
 use Rattle.topo_forms.specs.declared.topology.Spot.{Spot}
@@ -25,6 +24,7 @@ use Rattle.topo_forms.proofs.Regions.Numbering.{any-none}
 use Rattle.topo_forms.proofs.Views.ViewParts.{sites, attributes, seen, length_streams, each_stream, located}
 use Rattle.topo_types.proofs.Faults.EarlyKinds.{site_fine}
 use Rattle.std.proofs.lemmas.List.{length-map}
+use Rattle.blz_value.proofs.Booleans.{neither}
 
 module _ (t : Topology) (modules : List Accepted) where
   source_fine : (k : TopoKind) → kind_fault k (written t modules) ≡ None → (i : ℕ) → i < length t.sources → bad_source k (written t modules) i (get_or t.sources i no_source) ≡ false

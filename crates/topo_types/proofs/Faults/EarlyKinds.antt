@@ -5,11 +5,11 @@ use Rattle.std.proofs.lemmas.Bool.Decides.{nat_tests}
 use Rattle.std.proofs.lemmas.List.{get_or_default}
 use Rattle.blz_value.specs.FirstPlace.{first_place}
 use Rattle.blz_value.proofs.FirstPlace.{none_bad}
+use Rattle.blz_value.proofs.Booleans.{not_false, neither}
 use Rattle.bloom_forms.specs.declared.program.Program.{Program}
 use Rattle.bloom_forms.specs.Form.{Accepted}
 use Rattle.bloom_forms.specs.Program.{IsStock}
 use Rattle.bloom_forms.proofs.Faults.Firsts.{bad_number}
-use Rattle.bloom_forms.proofs.Faults.Levels.{neither}
 use Rattle.bloom_forms.proofs.Reach.ProperLemmas.{proper_is_stock}
 use Rattle.topo_forms.specs.declared.fault.TopoKind.{TopoKind}
 use Rattle.topo_forms.specs.declared.fault.TopoKind.TheVariants as kind
@@ -27,7 +27,7 @@ use Rattle.topo_forms.specs.Validity.Twice.{has_component, repeat_in, repeats_in
 use Rattle.topo_forms.specs.Validity.Unknown.{unknown_in_body}
 use Rattle.topo_forms.specs.Sites.{Site, no_site, no_entry, sites_of, site_at, stock_program, program_ports, program_in, ports_with, outputs_with}
 use Rattle.topo_forms.specs.ViewOf.{count_from}
-use Rattle.topo_forms.proofs.Faults.NoFault.{no_places, above, not_false, length_sites}
+use Rattle.topo_forms.proofs.Faults.NoFault.{no_places, above, length_sites}
 use Rattle.topo_forms.proofs.Views.ViewRuns.{Made, made, program_cases, proper_stock}
 
 -- one to eight replicas

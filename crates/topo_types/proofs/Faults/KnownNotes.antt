@@ -3,8 +3,8 @@ use Rattle.std.proofs.Common.{◌≡◌, ◌<◌, not, ℕ, None, List, length, 
 use Rattle.std.specs.List.{All}
 use Rattle.std.proofs.lemmas.List.{get_or_default}
 use Rattle.blz_value.proofs.Membership.{Has-get_or}
+use Rattle.blz_value.proofs.Booleans.{neither}
 use Rattle.bloom_forms.specs.Form.{Accepted}
-use Rattle.bloom_forms.proofs.Faults.Levels.{neither}
 use Rattle.topo_forms.specs.declared.fault.TopoKind.TheVariants as kind
 use Rattle.topo_forms.specs.declared.topology.Topology.{Topology}
 use Rattle.topo_types.specs.Code.OfView.{HasKnownNotes}

@@ -4,13 +4,13 @@ use Rattle.std.specs.Str.{bytes_eq}
 use Rattle.std.specs.List.{All}
 use Rattle.std.proofs.lemmas.List.{length-map, get_or-map}
 use Rattle.std.proofs.lemmas.List.FromFn.{get_or-map-range_with_len, length-range_with_len}
-use Rattle.bloom_forms.proofs.Faults.Levels.{neither}
 use Rattle.topo_forms.specs.declared.topology.Declared.{Declared}
 use Rattle.topo_forms.specs.declared.topology.Side.{Side}
 use Rattle.topo_types.specs.declared.view.sites.Site as held
 use Rattle.topo_types.specs.Code.Built.{site_seen, sites_seen}
 use Rattle.topo_types.specs.Code.OfView.{HasKnownNotes}
 use Rattle.blz_value.specs.NumberSets.{below}
+use Rattle.blz_value.proofs.Booleans.{neither}
 use Rattle.topo_forms.specs.Sites.{Site, side, side_of, side_number}
 use Rattle.topo_forms.specs.Validity.Unknown.{unknown_note}
 use Rattle.topo_forms.proofs.Views.ViewParts.{find_here}

@@ -6,6 +6,7 @@ use Rattle.std.proofs.lemmas.List.Sums.{sum_by-append, fold-append}
 use Rattle.blz_value.specs.FirstPlace.{first_place}
 use Rattle.bloom_forms.specs.Query.{Name}
 use Rattle.blz_value.specs.Names.{added}
+use Rattle.blz_value.proofs.Lists.{rest_is as left_with}
 use Rattle.topo_forms.specs.declared.topology.SourceEntry.{SourceEntry}
 use Rattle.topo_types.specs.declared.view.sites.Site as held
 use Rattle.topo_forms.specs.Attributes.{with_columns, source_columns, side_columns}
@@ -13,7 +14,6 @@ use Rattle.topo_types.specs.Code.Built.{site_seen, sites_seen}
 use Rattle.topo_forms.specs.Sites.{Site, attributes_in, site_columns}
 use Rattle.topo_forms.specs.Validity.TooMany.{large_component, too_many_component, replica_sum}
 use Rattle.topo_forms.specs.ViewOf.{count_from}
-use Rattle.topo_types.proofs.Columns.Growing.{left_with}
 
 module _ (sources : List SourceEntry) (sites : List held.Site) (i : ℕ) (x : held.Site) (lt : i < length sites) (is : x ≡ get_or sites i x) where
   abbrev all : List Site

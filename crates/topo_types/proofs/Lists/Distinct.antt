@@ -5,16 +5,16 @@ use Rattle.std.specs.BTreeSet.{BTreeSet, btree_set_len}
 use Rattle.std.specs.Cmp.{IsTotalOrder}
 use Rattle.std.specs.Cmp.Lexicographic.{slice_cmp, nat_list_cmp_total}
 use Rattle.std.specs.Iterator.{DrainsIf}
-use Rattle.std.specs.Ordering.{eq_by_cmp, nat_cmp, ordering_then, is_eq}
+use Rattle.std.specs.Ordering.{eq_by_cmp, nat_cmp, ordering_then}
 use Rattle.std.specs.Set.{is_member, unique_keys, distinct_count}
 use Rattle.std.specs.Str.{bytes_eq}
 use Rattle.std.specs.declared.cmp.Ordering.{Ordering}
-use Rattle.std.specs.declared.cmp.Ordering.TheVariants.{Less, Equal, Greater}
 use Rattle.std.proofs.lemmas.List.{length-map}
 use Rattle.std.proofs.lemmas.Cmp.{on_total, then_total}
 use Rattle.std.proofs.lemmas.Iterator.{YieldsList, items_from_drains}
 use Rattle.std.proofs.lemmas.Map.Views.{btree_set_len-from_list}
 use Rattle.std.proofs.lemmas.Map.Text.{is_eq-slice_cmp}
+use Rattle.blz_value.proofs.Lists.{is_eq-then}
 use Rattle.bloom_forms.specs.Query.{Name}
 use Rattle.topo_forms.specs.Validity.Twice.{are_distinct, same_pair}
 
@@ -63,11 +63,6 @@ pairs_cmp a b = ordering_then (names_cmp a.0 b.0) (names_cmp a.1 b.1)
 
 pub pairs_total : IsTotalOrder pairs_cmp
 pairs_total = then_total (on_total (λ (p : Bor Name × Bor Name). p.0) names_total) (on_total (λ (p : Bor Name × Bor Name). p.1) names_total)
-
-is_eq-then : (o r : Ordering) → is_eq (ordering_then o r) ≡ (is_eq o && is_eq r)
-is_eq-then Less r = refl
-is_eq-then Equal r = refl
-is_eq-then Greater r = refl
 
 pub pairs_tie : (a b : Bor Name × Bor Name) → eq_by_cmp pairs_cmp a b ≡ same_pair (a.0.now, a.1.now) (b.0.now, b.1.now)
 pairs_tie a b = is_eq-then (names_cmp a.0 b.0) (names_cmp a.1 b.1) ∙ rw (names_tie a.0 b.0, names_tie a.1 b.1) refl

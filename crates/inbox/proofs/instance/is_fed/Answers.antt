@@ -1,6 +1,7 @@
 use Rattle.std.proofs.Common.{◌∙◌, sym, length, arith}
+use Rattle.blz_value.proofs.Ranges.{any_below}
 use Rattle.topo_forms.specs.View.{goes_to}
-use Rattle.inbox.proofs.Ranges.{any_below, none_below}
+use Rattle.inbox.proofs.Ranges.{none_below}
 use Rattle.inbox.proofs.instance.is_fed.Goals as goal
 
 pub returns-then-goes_to : goal.returns-then-goes_to

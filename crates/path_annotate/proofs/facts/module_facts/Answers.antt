@@ -2,13 +2,13 @@ use Rattle.std.proofs.Common.{◌∙◌, ℕ, length, map, ap, sym}
 use Rattle.bloom_forms.specs.declared.module.Kind.TheVariants.{Output}
 use Rattle.bloom_forms.specs.KindNumbers.{numbers_of_kind}
 use Rattle.blz_value.specs.declared.attrs.Attrs.{Attrs}
+use Rattle.blz_value.proofs.Lists.{map_same as map-same}
 use Rattle.bloom_forms.specs.Gates.{head_gate}
 use Rattle.bloom_forms.specs.HeadRoots.{roots_numbered, roots_table}
 use Rattle.bloom_forms.proofs.ByNumber.NumbersLemmas.{map-places, length_numbers_of_kind}
 use Rattle.path_facts.specs.declared.readings.Readings.{Readings}
 use Rattle.path_annotate.specs.Code.ReadingUses.{gate_towards, path_note_from}
 use Rattle.path_annotate.proofs.AnnotationCorrect.{head_gate-same, notes-same}
-use Rattle.path_annotate.proofs.Lists.{map-same}
 use Rattle.path_annotate.proofs.facts.module_facts.Goals as goal
 
 pub returns-clause-notes : goal.returns-clause-notes

@@ -1,9 +1,10 @@
 -- One output whose gate lacks the attribute is enough.
 use Rattle.std.proofs.Common.{◌∙◌, ◌<◌, not, length, arith, sym}
+use Rattle.blz_value.proofs.Ranges.{any_below as found_below}
 use Rattle.bloom_forms.specs.Program.{output_columns}
 use Rattle.bloom_forms.specs.Annotation.{gate_of_output}
 use Rattle.shard_route.specs.Sharding.{has_attribute}
-use Rattle.shard_route.proofs.Below.{found_below, none_below}
+use Rattle.shard_route.proofs.Below.{none_below}
 use Rattle.shard_route.proofs.gates.lacks_in_gate.Goals as goal
 
 pub returns-then-lacks : goal.returns-then-lacks

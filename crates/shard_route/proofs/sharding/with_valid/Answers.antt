@@ -1,9 +1,9 @@
 -- The component that is found stands in the view of the topology.
 use Rattle.std.proofs.Common.{arith, sym}
 use Rattle.std.specs.Str.{bytes_eq}
+use Rattle.blz_value.proofs.Options.{place_within}
 use Rattle.topo_forms.specs.View.{Component}
 use Rattle.shard_route.proofs.Answering.{found}
-use Rattle.shard_route.proofs.Walks.{place_within}
 use Rattle.shard_route.proofs.sharding.with_valid.Goals as goal
 
 pub with_program-requires-clause-number : goal.with_program-requires-clause-number

@@ -1,7 +1,8 @@
 use Rattle.std.proofs.Common.{rules, ◌≡◌, ◌∙◌, ◌++◌, [], ◌∷◌, None, length}
 use Rattle.std.proofs.lemmas.Option.{slice_get_within}
+use Rattle.blz_value.proofs.Options.{slice_get-last}
 use Rattle.blz_pool.specs.Pool.{number_of}
-use Rattle.blz_pool.proofs.Records.{IsPool-more, insert_key-new, number_of-last, slice_get-last}
+use Rattle.blz_pool.proofs.Records.{IsPool-more, insert_key-new, number_of-last}
 use Rattle.blz_pool.proofs.pool.Pool.add.Goals as goal
 
 -- the set's keys are the records with one more behind

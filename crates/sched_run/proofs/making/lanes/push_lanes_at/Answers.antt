@@ -2,8 +2,8 @@ use Rattle.std.proofs.Common.{◌≡◌, ◌∙◌, ◌++◌, sym, subst, ap, ar
 use Rattle.std.specs.Prelude.{OnOk}
 use Rattle.std.specs.List.{flat_map}
 use Rattle.blz_value.specs.NumberSets.{below}
+use Rattle.blz_value.proofs.Ranges.{flat_below_more}
 use Rattle.inbox.specs.Wiring.{wiring_of}
-use Rattle.inbox.proofs.Ranges.{flat_below_more}
 use Rattle.sched_run.specs.Made.{instance_lanes}
 use Rattle.sched_run.proofs.Schedules.LanesLemmas.{order_end, free_end, behind_more}
 use Rattle.sched_run.proofs.making.lanes.push_lanes_at.Goals as goal

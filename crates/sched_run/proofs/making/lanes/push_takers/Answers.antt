@@ -1,6 +1,6 @@
 use Rattle.std.proofs.Common.{◌∙◌, ◌++◌, ◌∷◌, [], map, sym, ap, arith}
 use Rattle.blz_value.specs.NumberSets.{below}
-use Rattle.inbox.proofs.Ranges.{map_below_more}
+use Rattle.blz_value.proofs.Ranges.{map_below_more}
 use Rattle.sched_run.specs.declared.making.lanes.Taker.{Taker}
 use Rattle.sched_run.proofs.Schedules.LanesLemmas.{takers_end, none_end, behind_more}
 use Rattle.sched_run.proofs.making.lanes.push_takers.Goals as goal

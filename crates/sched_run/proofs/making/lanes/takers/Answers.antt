@@ -1,6 +1,6 @@
 use Rattle.std.proofs.Common.{◌∙◌, ◌++◌, sym, ap, arith}
+use Rattle.blz_value.proofs.Ranges.{flat_below_more}
 use Rattle.inbox.specs.Wiring.{wiring_of}
-use Rattle.inbox.proofs.Ranges.{flat_below_more}
 use Rattle.sched_run.specs.Made.{takers_at}
 use Rattle.sched_run.proofs.Schedules.LanesLemmas.{all_takers_end}
 use Rattle.sched_run.proofs.making.lanes.takers.Goals as goal

@@ -1,5 +1,5 @@
 -- The rows of an expression that grows never become fewer.
-use Rattle.std.proofs.Common.{◌≡◌, ℕ, ◌≤◌, Bool, true, List, length, Option, None, Some, ◌∙◌, sym, arith}
+use Rattle.std.proofs.Common.{◌≡◌, ℕ, ◌≤◌, Bool, true, List, length, ◌∙◌, sym, arith}
 use Rattle.std.specs.Prelude.{nat_le}
 use Rattle.std.specs.Ordering.{eq_by_cmp}
 use Rattle.std.proofs.lemmas.Bool.{true≢false, and_parts}
@@ -17,26 +17,13 @@ use Rattle.bloom_forms.specs.declared.numbered.NumberedExpr.{NumberedExpr}
 use Rattle.bloom_forms.specs.declared.numbered.NumberedExpr as expr
 use Rattle.bloom_forms.specs.Step.{Sets, set_at}
 use Rattle.bloom_eval.specs.Code.NumberedRows.{numbered_rows}
-use Rattle.bloom_index.specs.declared.change.Change.{Change}
-use Rattle.bloom_growth.specs.Growth.{Extends}
-use Rattle.bloom_index.specs.Code.Evaluation.{HasTurnedAt}
 use Rattle.bloom_index.specs.Code.Growth.{grows_at, grows}
-use Rattle.bloom_index.specs.Code.Turns.{rows_in}
-use Rattle.bloom_growth.proofs.Extending.{old_is_in}
-use Rattle.bloom_index.proofs.Turning.{extends_of}
 
 -- sets of rows, of which the second has those of the first
 pub record IsGrown (old new : List Row) : Type 0 where
   pub old_sorted : IsRowSet old
   pub new_sorted : IsRowSet new
   pub within : IsWithin old new
-
--- the change of a collection that grows
-grown_change : (grow : Bool) (old new : List Row) (change : Option Change) → grow ≡ true → HasTurnedAt grow old new change → IsGrown old new
-grown_change grow old new None g t = absurd (true≢false (sym g ∙ t.1))
-grown_change grow old new (Some change) g t =
-    let e : Extends old new (rows_in change.rows) = extends_of old new change t.1 (t.0 ∙ g) in
-    record { old_sorted = e.sorted; new_sorted = t.1.sorted; within = old_is_in old new (rows_in change.rows) e }
 
 more_often : (keys : List ℕ) (bound : ℕ) (old new : List Row) → IsGrown old new → (key : Row) → nat_le bound (length (with_key keys key old)) ≡ true → nat_le bound (length (with_key keys key new)) ≡ true
 more_often keys bound old new g key t =

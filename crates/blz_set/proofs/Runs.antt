@@ -23,10 +23,6 @@ use Rattle.blz_set.specs.Code.Index.{HaveKeys, has_key, is_below, InOrder, Start
 
 -- ---- filters
 
-map_cond : {X Y : Type 0} (f : X → Y) (b : Bool) (x : X) (xs : List X) → cond b (f x ∷ map f xs) (map f xs) ≡ map f (cond b (x ∷ xs) xs)
-map_cond f true x xs = refl
-map_cond f false x xs = refl
-
 none_cons : {X : Type 0} (b : Bool) (x : X) (xs : List X) (rest : Bool) → (b || rest) ≡ false → (rest ≡ false → xs ≡ []) → cond b (x ∷ xs) xs ≡ []
 none_cons true x xs rest e h = cc
 none_cons false x xs rest e h = h e

@@ -56,11 +56,6 @@ tallied_set tallies lists place tally list all within there is k = elim (cases_e
       (subst (IsTallied (get_or tallies k None)) (sym (get_or-set_other lists place k list [] differ)) (all k))
 ]
 
--- a tally is taken away
-pub tallied_taken : (tallies : List (Option Tally)) (lists : List (List Message)) (place : ℕ) → AreTallied tallies lists → place < length tallies → place < length lists → AreTallied (set tallies place None) lists
-tallied_taken tallies lists place all within there =
-    subst (AreTallied (set tallies place None)) (set-get_or lists place []) (tallied_set tallies lists place None (list_at lists place) all within there tt)
-
 -- and put back, or another in its place
 pub tallied_back : (tallies : List (Option Tally)) (lists : List (List Message)) (place : ℕ) (tally : Option Tally) → AreTallied tallies lists → place < length tallies → place < length lists → IsTallied tally (list_at lists place)
     → AreTallied (set (set tallies place None) place tally) lists

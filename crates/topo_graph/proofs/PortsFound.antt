@@ -26,10 +26,6 @@ use Rattle.topo_forms.specs.View.{View, End, Component, component_at, component_
 
 -- ---- the loop over the streams
 
-flattened : {X : Type 0} (f : ℕ → List X) (ns : List ℕ) → flat_map (λ (xs : List X). xs) (map f ns) ≡ flat_map f ns
-flattened f [] = refl
-flattened {X = X} f (n ∷ ns) = ap (λ (xs : List X). f n ++ xs) (flattened f ns)
-
 pub ruleset feed_steps = (common_steps, flat_below_more)
 
 -- ---- unions

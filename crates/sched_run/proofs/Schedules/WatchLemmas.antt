@@ -1,5 +1,5 @@
 -- The places that are looked at again after a work are all that it may change.
-use Rattle.std.proofs.Common.{◌≡◌, ◌≢◌, ◌<◌, ◌+◌, ◌==◌, ◌&&◌, ◌++◌, ◌∷◌, ◌∙◌, ℕ, zero, suc, true, Option, None, Some, List, [], length, get_or, set, slice_get, replicate, refl, ap, sym, subst, inl, inr, arith}
+use Rattle.std.proofs.Common.{◌≡◌, ◌≢◌, ◌<◌, ◌+◌, ◌==◌, ◌&&◌, ◌++◌, ◌∷◌, ◌∙◌, ℕ, true, Option, None, Some, List, [], length, get_or, set, slice_get, refl, ap, sym, subst, inl, inr, arith}
 use Rattle.std.specs.List.{All}
 use Rattle.std.proofs.lemmas.Bool.{and_parts, cases_eq, eqb-true, false_from_ne_true, or_from}
 use Rattle.std.proofs.lemmas.List.{get_or-set_other, get_or-set_same, length-set}
@@ -59,11 +59,6 @@ module _ (old new : List (List ℕ)) (number place : ℕ) (there : number < leng
     | inr differ ↦ below m p (subst (Has p) (at_other m differ) h)
   ]
 
-none_has : (count m p : ℕ) → Has p (get_or (replicate count []) m []) → ⊥
-none_has zero m p h = h
-none_has (suc count) zero p h = h
-none_has (suc count) (suc m) p h = none_has count m p h
-
 -- ---- places of instances
 
 pub instance_inside : (v : View) (c r : ℕ) → c < length v.components → r < replicas_of v c → instance_place v c r < instance_count v
@@ -81,20 +76,6 @@ sender_inside v lane c o valid is origin =
     feed_is (Order d feed) d_is = (d_is.is.stream, d_is.is.sender)
 
 -- ---- those on which instances hear
-
-replicated : {X : Type 0} (count k : ℕ) (x d : X) → k < count → get_or (replicate count x) k d ≡ x
-replicated zero k x d less = absurd (omega (arith, less))
-replicated (suc count) zero x d less = refl
-replicated (suc count) (suc k) x d less = replicated count k x d (omega (arith, less))
-
-many_replicated : {X : Type 0} (count : ℕ) (x : X) → length (replicate count x) ≡ count
-many_replicated zero x = refl
-many_replicated (suc count) x = ap suc (many_replicated count x)
-
-none_heard : (instances streams i s p : ℕ) → Has p (heard_at (replicate instances (replicate streams [])) i s) → ⊥
-none_heard zero streams i s p h = h
-none_heard (suc instances) streams zero s p h = none_has streams s p h
-none_heard (suc instances) streams (suc i) s p h = none_heard instances streams i s p h
 
 module _ (v : View) (lanes : List Lane) (i : ℕ) (old : List (List (List ℕ))) (so : AreHeardBelow v lanes i old) (lane : Lane) (at : slice_get lanes i ≡ Some lane) where
   pub heard_pass : (c : ℕ) (feed : Feed) → lane ≡ Order c feed → AreHeardBelow v lanes (i + 1) old

@@ -14,7 +14,7 @@ use crate::fill::{IntoValue, list, number, put, put_list, table_value, text};
 use std::alloc::{AllocError, Global};
 use toml::{Table, Value};
 use topo_forms::{
-    Body, ColumnType, ComponentEntry, Copied, Declared, FdEntry, ModeName, Side, SourceEntry,
+    Body, ColumnType, ComponentEntry, Declared, FdEntry, ModeName, Side, SourceEntry,
     Stock, StreamEntry, Topology, Valid,
 };
 
@@ -293,7 +293,7 @@ pub fn topology_of(alloc: Global, valid: &Valid) -> Result<Topology, AllocError>
     ensures allowed { IfOk result IsAllowed }
 {
     valid.whole();
-    let mut topology = valid.topology().copied(alloc)?;
+    let mut topology = valid.topology().copied()?;
     topology.format = 2;
     Ok(topology)
 }

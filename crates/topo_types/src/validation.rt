@@ -21,7 +21,7 @@ use crate::view::sites::{Site, sites_of};
 use bloom_forms::Checked;
 use fd_closure::AttrNames;
 use std::alloc::Global;
-use topo_forms::{Copied, Kept, TopoFault, TopoKind, Topology, Valid, ValidFault};
+use topo_forms::{Kept, TopoFault, TopoKind, Topology, Valid, ValidFault};
 use topo_graph::{found_with, regions_of};
 
 // The names of the attributes, or the first fault of size or of names.
@@ -106,7 +106,7 @@ fn valid_of(
     }
     known(modules);
     let found = found_with(alloc, &kept, regions)?;
-    let copied = topology.copied(alloc)?;
+    let copied = topology.copied()?;
     Ok(Valid::new(alloc, copied, kept, found)?)
 }
 

@@ -87,7 +87,7 @@ impl Clone for KeptComponent {
             ports: self.ports.clone()?,
             outputs: self.outputs.clone()?,
             notes: self.notes.clone()?,
-            program: self.program.copied()?,
+            program: Faithful::copied(&self.program)?,
         })
     }
 }

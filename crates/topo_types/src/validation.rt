@@ -19,6 +19,7 @@ use crate::validity::{Parts, at_places, names_fault, size_fault};
 use crate::view::building::parts_of;
 use crate::view::sites::{Site, sites_of};
 use bloom_forms::Checked;
+use blz_value::Faithful;
 use fd_closure::AttrNames;
 use std::alloc::Global;
 use topo_forms::{Kept, TopoFault, TopoKind, Topology, Valid, ValidFault};

@@ -7,6 +7,7 @@ ghost use Rattle.bloom_forms.specs.Numbered.{AreNumbered};
 use crate::module::Module;
 use crate::numbered::NumberedRule;
 use crate::numbering::numbered_rules;
+use blz_value::Faithful;
 use std::alloc::{AllocError, Global};
 use std::marker::Model;
 
@@ -82,8 +83,19 @@ impl Checked {
         ensures { IfOk result (λ copy. copy ≡ self.now) }
     {
         let written = self.module.copy(alloc)?;
-        let mut heads = Vec::new(alloc);
-        heads.extend_from_slice(&self.heads)?;
+        let heads = Vec::from_slice(alloc, &self.heads)?;
         Checked::new(alloc, written, heads)
     }
+}
+
+impl Clone for Checked {
+    ghost is_clone = { λ one clone. clone ≡ one };
+
+    fn clone(&self) -> Result<Checked, AllocError> {
+        self.copy(*self.heads.allocator())
+    }
+}
+
+impl Faithful for Checked {
+    ghost equal = { λ _ _ same. same };
 }

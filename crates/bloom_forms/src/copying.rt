@@ -3,30 +3,10 @@ ghost use Rattle.std.specs.Prelude.{◌≡◌, take, IfOk};
 ghost use Rattle.bloom_forms.specs.Form.{formula_of, query_of, rule_form, rule_forms, form_of};
 ghost use Rattle.bloom_forms.specs.Literals.{IsLiteral, TermLiterals, FormulaLiterals, HasLiterals, RulesHaveLiterals};
 
-use crate::expr::{Expr, NamedAgg, Pred, Term};
-use crate::module::{Collection, Module, Rule};
-use blz_value::{Items, Str, Value};
+use crate::expr::{Expr, Pred, Term};
+use crate::module::{Module, Rule};
+use blz_value::{Faithful, Items, Value};
 use std::alloc::{AllocError, Global};
-
-fn copy_names(alloc: Global, names: &[Str]) -> Result<Items<Str>, AllocError>
-    ensures { IfOk result (λ copies. copies ≡ names.now) }
-{
-    let mut copies = Vec::new(alloc);
-    for name in names {
-        copies.push(name.copy()?)?;
-    }
-    Ok(Items::from_vec(copies))
-}
-
-fn copy_pairs(alloc: Global, pairs: &[(Str, Str)]) -> Result<Items<(Str, Str)>, AllocError>
-    ensures { IfOk result (λ copies. copies ≡ pairs.now) }
-{
-    let mut copies = Vec::new(alloc);
-    for (first, second) in pairs {
-        copies.push((first.copy()?, second.copy()?))?;
-    }
-    Ok(Items::from_vec(copies))
-}
 
 // An equal value. To lend a text shows that it is in UTF-8.
 fn copy_literal(value: &Value) -> Result<Value, AllocError>
@@ -101,20 +81,6 @@ impl Pred {
     }
 }
 
-impl NamedAgg {
-    /// An equal aggregate of its own.
-    pub fn copy(&self) -> Result<NamedAgg, AllocError>
-        ensures { IfOk result (λ agg. agg ≡ self.now) }
-    {
-        match self {
-            NamedAgg::Count => Ok(NamedAgg::Count),
-            NamedAgg::Sum(name) => Ok(NamedAgg::Sum(name.copy()?)),
-            NamedAgg::Min(name) => Ok(NamedAgg::Min(name.copy()?)),
-            NamedAgg::Max(name) => Ok(NamedAgg::Max(name.copy()?)),
-        }
-    }
-}
-
 fn boxed(alloc: Global, expr: Expr) -> Result<Box<Expr>, AllocError>
     ensures { IfOk result (λ boxed. boxed.value ≡ expr) }
 {
@@ -137,32 +103,32 @@ fn copy_expr(alloc: Global, expr: &Expr) -> Result<Box<Expr>, AllocError>
             boxed(alloc, Expr::Select(part, Box::into_inner(pred)))
         }
         Expr::Project(part, items) => {
-            let items = copy_pairs(alloc, items.as_slice())?;
+            let items = items.copied()?;
             let part = copy_expr(alloc, part)?;
             boxed(alloc, Expr::Project(part, items))
         }
         Expr::Join(a, b, pairs) => {
             let a = copy_expr(alloc, a)?;
             let b = copy_expr(alloc, b)?;
-            let pairs = copy_pairs(alloc, pairs.as_slice())?;
+            let pairs = pairs.copied()?;
             boxed(alloc, Expr::Join(a, b, pairs))
         }
         Expr::NotIn(a, b, pairs) => {
             let a = copy_expr(alloc, a)?;
             let b = copy_expr(alloc, b)?;
-            let pairs = copy_pairs(alloc, pairs.as_slice())?;
+            let pairs = pairs.copied()?;
             boxed(alloc, Expr::NotIn(a, b, pairs))
         }
         Expr::Group(part, keys, agg, name) => {
             let part = copy_expr(alloc, part)?;
-            let keys = copy_names(alloc, keys.as_slice())?;
-            let agg = agg.copy()?;
+            let keys = keys.copied()?;
+            let agg = agg.copied()?;
             let name = name.copy()?;
             boxed(alloc, Expr::Group(part, keys, agg, name))
         }
         Expr::AtLeast(part, keys, bound) => {
             let part = copy_expr(alloc, part)?;
-            let keys = copy_names(alloc, keys.as_slice())?;
+            let keys = keys.copied()?;
             boxed(alloc, Expr::AtLeast(part, keys, *bound))
         }
     }
@@ -179,19 +145,6 @@ impl Expr {
     }
 }
 
-impl Collection {
-    /// An equal collection of its own.
-    pub fn copy(&self, alloc: Global) -> Result<Collection, AllocError>
-        ensures { IfOk result (λ collection. collection ≡ self.now) }
-    {
-        Ok(Collection {
-            kind: self.kind,
-            name: self.name.copy()?,
-            columns: copy_names(alloc, self.columns.as_slice())?,
-        })
-    }
-}
-
 impl Rule {
     /// An equal rule of its own.
     pub fn copy(&self, alloc: Global) -> Result<Rule, AllocError>
@@ -203,19 +156,6 @@ impl Rule {
             body: self.body.copy(alloc)?,
         })
     }
-}
-
-fn copy_collections(
-    alloc: Global,
-    collections: &[Collection],
-) -> Result<Items<Collection>, AllocError>
-    ensures { IfOk result (λ copies. copies ≡ collections.now) }
-{
-    let mut copies = Vec::new(alloc);
-    for collection in collections {
-        copies.push(collection.copy(alloc)?)?;
-    }
-    Ok(Items::from_vec(copies))
 }
 
 fn copy_rules(alloc: Global, rules: &[Rule]) -> Result<Items<Rule>, AllocError>
@@ -237,7 +177,7 @@ impl Module {
     {
         Ok(Module {
             name: self.name.copy()?,
-            collections: copy_collections(alloc, self.collections.as_slice())?,
+            collections: self.collections.copied()?,
             rules: copy_rules(alloc, self.rules.as_slice())?,
         })
     }

@@ -1,5 +1,7 @@
 //! Expressions of rules, and their predicates.
-use blz_value::{Items, Op, Str, Value};
+ghost use Rattle.std.proofs.Common.{rules};
+
+use blz_value::{Faithful, Items, Op, Str, Value};
 
 /// One side of a comparison.
 #[derive(Drop)]
@@ -24,7 +26,7 @@ pub enum Pred {
 }
 
 /// What a group makes of the rows of one key.
-#[derive(Drop)]
+#[derive(Clone, Drop)]
 pub enum NamedAgg {
     /// The number of rows.
     Count,
@@ -34,6 +36,10 @@ pub enum NamedAgg {
     Min(Str),
     /// The greatest value in the column.
     Max(Str),
+}
+
+impl Faithful for NamedAgg {
+    ghost equal = { Prim.search rules };
 }
 
 /// An expression over collections.

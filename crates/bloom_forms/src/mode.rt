@@ -1,5 +1,7 @@
 //! How a component coordinates.
-use blz_value::Attrs;
+ghost use Rattle.std.proofs.Common.{rules};
+
+use blz_value::{Attrs, Faithful};
 
 /// How a component coordinates. A key is a set of attributes.
 #[derive(Clone, Copy, PartialEq, Eq)]
@@ -12,4 +14,8 @@ pub enum Mode {
     Seal(Attrs),
     /// Takes what arrives in one order for all replicas.
     Order,
+}
+
+impl Faithful for Mode {
+    ghost equal = { Prim.search rules };
 }

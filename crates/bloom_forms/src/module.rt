@@ -1,6 +1,8 @@
 //! Modules as they are written.
+ghost use Rattle.std.proofs.Common.{rules};
+
 use crate::expr::Expr;
-use blz_value::{Items, Str};
+use blz_value::{Faithful, Items, Str};
 
 /// What a collection is for.
 #[derive(Clone, Copy, PartialEq, Eq)]
@@ -15,12 +17,20 @@ pub enum Kind {
     Scratch,
 }
 
+impl Faithful for Kind {
+    ghost equal = { Prim.search rules };
+}
+
 /// A collection and its columns in order.
-#[derive(Drop)]
+#[derive(Clone, Drop)]
 pub struct Collection {
     pub kind: Kind,
     pub name: Str,
     pub columns: Items<Str>,
+}
+
+impl Faithful for Collection {
+    ghost equal = { Prim.search rules };
 }
 
 /// A rule: the head gets the rows of the body.

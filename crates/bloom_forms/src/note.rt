@@ -1,8 +1,9 @@
 //! The note of a path from a port to an output.
 ghost use Rattle.std.specs.Prelude.{◌≡◌};
+ghost use Rattle.std.proofs.Common.{rules};
 ghost use Rattle.bloom_forms.specs.Note as spec;
 
-use blz_value::Attrs;
+use blz_value::{Attrs, Faithful};
 
 /// What a component does on the way from a port to an output. C is confluent: the order of
 /// arrival makes no difference. O depends on the order, but only among records that agree in all
@@ -17,6 +18,10 @@ pub enum Note {
     OR(Attrs),
     /// Depends on the order by its gate, changes state.
     OW(Attrs),
+}
+
+impl Faithful for Note {
+    ghost equal = { Prim.search rules };
 }
 
 /// The note of two uses of one port together.

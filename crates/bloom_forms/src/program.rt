@@ -1,5 +1,6 @@
 //! Programs: modules that were checked, and stock bodies.
 ghost use Rattle.std.specs.Prelude.{◌≡◌, ◌≢◌, ◌≤◌, ◌<◌, [], length, slice_index_or, All, AllPairs};
+ghost use Rattle.std.proofs.Common.{rules};
 ghost use Rattle.bloom_forms.specs.Kinds.{same_kind, of_kind};
 ghost use Rattle.bloom_forms.specs.Program.{
   IsSmall,
@@ -13,11 +14,11 @@ ghost use Rattle.bloom_forms.specs.Program.{
 
 use crate::checked::Checked;
 use crate::module::{Collection, Kind};
-use blz_value::{Items, Str};
+use blz_value::{Faithful, Items, Str};
 
 /// What a component does: a module that was checked, or a stock body. A stock body has at most eight
 /// columns, each once, and its columns are numbered from 0.
-#[derive(Drop)]
+#[derive(Clone, Drop)]
 pub enum Program {
     /// A module.
     Module(Checked),
@@ -35,6 +36,10 @@ pub enum Program {
     Number {
         columns: Items<Str>,
     },
+}
+
+impl Faithful for Program {
+    ghost equal = { Prim.search rules };
 }
 
 fn has_kind(collection: &Collection, kind: Kind) -> bool

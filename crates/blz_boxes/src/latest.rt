@@ -16,11 +16,11 @@ ghost use Rattle.blz_boxes.specs.Code.KeptSets.{AreSetsOf-prop};
 ghost use Rattle.bloom_eval.specs.Step.{counted};
 
 use crate::latest_table::LatestTable;
-use crate::program::{copy_columns, copy_numbers, put_out};
+use crate::program::put_out;
 use bloom_eval::{Arrivals, Component, Outs, StepFault};
 use bloom_forms::Program;
 use blz_set::RecordSet;
-use blz_value::{Items, Str};
+use blz_value::{Faithful, Items, Str};
 use std::alloc::{AllocError, Global};
 
 // A loaded Latest.
@@ -110,8 +110,8 @@ impl Component for LatestShell {
         };
         let in_order = keys_in_order(self.alloc, columns.as_slice().len(), keys.as_slice())?;
         self.body = Some(LatestBody {
-            columns: copy_columns(self.alloc, columns)?,
-            keys: copy_numbers(self.alloc, keys)?,
+            columns: columns.copied()?,
+            keys: keys.copied()?,
             table: LatestTable::new(self.alloc, in_order),
         });
         Ok(())

@@ -14,11 +14,11 @@ ghost use Rattle.blz_boxes.specs.Code.Numbers.{numbered_records};
 ghost use Rattle.bloom_eval.specs.Step.{counted};
 
 use crate::number_table::NumberTable;
-use crate::program::{copy_columns, put_out};
+use crate::program::put_out;
 use bloom_eval::{Arrivals, Component, Outs, StepFault};
 use bloom_forms::Program;
 use blz_set::RecordSet;
-use blz_value::{Items, Str};
+use blz_value::{Faithful, Items, Str};
 use std::alloc::{AllocError, Global};
 
 // A loaded Number.
@@ -83,7 +83,7 @@ impl Component for NumberShell {
             unreachable!()
         };
         self.body = Some(NumberBody {
-            columns: copy_columns(self.alloc, columns)?,
+            columns: columns.copied()?,
             table: NumberTable::new(self.alloc),
         });
         Ok(())

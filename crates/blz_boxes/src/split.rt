@@ -4,12 +4,12 @@ ghost use Rattle.std.specs.Option.{option_map};
 ghost use Rattle.bloom_forms.specs.declared.program.Program.TheVariants.{Split as SplitProgram};
 ghost use Rattle.bloom_eval.specs.declared.kind.ProgramKind.TheVariants.{Split as SplitKind};
 
-use crate::program::{copy_columns, put_out};
+use crate::program::put_out;
 use crate::words::split_rows;
 use bloom_eval::{Arrivals, Component, Outs, StepFault};
 use bloom_forms::Program;
 use blz_set::RecordSet;
-use blz_value::{Items, Str};
+use blz_value::{Faithful, Items, Str};
 use std::alloc::{AllocError, Global};
 
 // A loaded Split.
@@ -53,7 +53,7 @@ impl Component for SplitShell {
             unreachable!()
         };
         self.body = Some(SplitBody {
-            columns: copy_columns(self.alloc, columns)?,
+            columns: columns.copied()?,
             split: *split,
         });
         Ok(())

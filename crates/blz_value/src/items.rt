@@ -1,6 +1,8 @@
 //! A list that structs and enums hold, seen as the list of its items.
 ghost use Rattle.std.specs.Prelude.{◌≡◌};
 
+use crate::faithful::{Faithful, copies_of};
+use std::alloc::AllocError;
 use std::marker::Model;
 
 /// A list, seen as the list of its items in order.
@@ -37,5 +39,14 @@ impl<T> Items<T> {
         ensures { result.items ≡ self }
     {
         self.items
+    }
+}
+
+impl<T: Faithful> Clone for Items<T> {
+    ghost is_clone = { λ one clone. clone ≡ one };
+
+    fn clone(&self) -> Result<Items<T>, AllocError> {
+        let items = copies_of(*self.items.allocator(), &self.items)?;
+        Ok(Items { items })
     }
 }

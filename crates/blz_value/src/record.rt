@@ -9,6 +9,7 @@ ghost use Rattle.blz_value.specs.Record.{record_cmp};
 ghost use Rattle.blz_value.specs.RecordOrder.{record_cmp_total, record_cmp_exact};
 ghost use Rattle.blz_value.specs.Hash.{record_writes};
 
+use crate::faithful::copies_of;
 use crate::value::Value;
 use std::alloc::AllocError;
 use std::cmp::Ordering;
@@ -49,10 +50,15 @@ impl Record {
     pub fn copy(&self) -> Result<Record, AllocError>
         ensures { IfOk result (λ r. r ≡ self.now) }
     {
-        let mut values = Vec::with_capacity(*self.values.allocator(), self.values.len())?;
-        for value in self.values() {
-            values.push(value.copy()?)?;
-        }
+        self.clone()
+    }
+}
+
+impl Clone for Record {
+    ghost is_clone = { λ one clone. clone ≡ one };
+
+    fn clone(&self) -> Result<Record, AllocError> {
+        let values = copies_of(*self.values.allocator(), &self.values)?;
         Ok(Record { values })
     }
 }

@@ -63,11 +63,7 @@ impl Str {
     pub fn copy(&self) -> Result<Str, AllocError>
         ensures { IfOk result (λ s. s ≡ self.now) }
     {
-        let bytes = match &self.bytes {
-            Bytes::Short(text) => Bytes::Short(*text),
-            Bytes::Long(text) => Bytes::Long(text.clone()?),
-        };
-        Ok(Str { bytes })
+        self.clone()
     }
 
     /// Whether the two texts have the same bytes.
@@ -76,6 +72,18 @@ impl Str {
         ensures computed { result ≡ bytes_eq self.now other.now }
     {
         self.as_str() == other.as_str()
+    }
+}
+
+impl Clone for Str {
+    ghost is_clone = { λ one clone. clone ≡ one };
+
+    fn clone(&self) -> Result<Str, AllocError> {
+        let bytes = match &self.bytes {
+            Bytes::Short(text) => Bytes::Short(*text),
+            Bytes::Long(text) => Bytes::Long(text.clone()?),
+        };
+        Ok(Str { bytes })
     }
 }
 

@@ -15,7 +15,7 @@ use std::cmp::Ordering;
 use std::hash::{Hash, Hasher};
 
 /// What stands in a column of a record.
-#[derive(Debug, Drop)]
+#[derive(Clone, Debug, Drop)]
 pub enum Value {
     /// A whole number.
     Int(i64),
@@ -28,10 +28,7 @@ impl Value {
     pub fn copy(&self) -> Result<Value, AllocError>
         ensures { IfOk result (λ v. v ≡ self.now) }
     {
-        match self {
-            Value::Int(n) => Ok(Value::Int(*n)),
-            Value::Text(s) => Ok(Value::Text(s.copy()?)),
-        }
+        self.clone()
     }
 }
 

@@ -4,7 +4,7 @@ ghost use Rattle.blz_value.specs.Members.{Has};
 ghost use Rattle.blz_value.specs.Names.{place_of, added};
 ghost use Rattle.fd_closure.specs.declared.names.NamesFault.TheVariants.{NoMemory};
 
-use blz_value::Str;
+use blz_value::{Faithful, Str, copies_of};
 use std::alloc::{AllocError, AllocFailed, Global};
 use std::marker::Model;
 use thiserror::Error;
@@ -54,6 +54,19 @@ impl Model for AttrNames {
     ghost view = { λ list. list.names.items };
 
     ghost invariant = { λ list. IsNameList list.names.items };
+}
+
+impl Clone for AttrNames {
+    ghost is_clone = { λ one clone. clone ≡ one };
+
+    fn clone(&self) -> Result<AttrNames, AllocError> {
+        let names = copies_of(*self.names.allocator(), &self.names)?;
+        Ok(AttrNames { names })
+    }
+}
+
+impl Faithful for AttrNames {
+    ghost equal = { λ _ _ same. same };
 }
 
 /// The first place at which the name stands, None where it stands nowhere.

@@ -10,9 +10,8 @@ ghost use Rattle.bloom_forms.specs.Shards as spec;
 ghost use Rattle.shard_route.specs.Copies.{copied_form};
 
 use bloom_forms::{Collection, Expr, Kind, Module, Pred, Rule};
-use blz_value::{Items, Str};
+use blz_value::{Faithful, Items, Str};
 use std::alloc::{AllocError, Global};
-use topo_forms::copy_all;
 
 fn collection_named<'a>(collections: &'a [Collection], name: &Str) -> Option<&'a Collection>
     ensures { option_map (λ c. c.now) result ≡ lookup.collection_named collections.now name.now }
@@ -34,22 +33,6 @@ fn boxed(alloc: Global, expr: Expr) -> Result<Box<Expr>, AllocError>
     ensures { IfOk result (λ boxed. boxed.value ≡ expr) }
 {
     Ok(Box::new(alloc, expr)?)
-}
-
-fn copy_names(alloc: Global, names: &[Str]) -> Result<Items<Str>, AllocError>
-    ensures { IfOk result (λ copies. copies ≡ names.now) }
-{
-    copy_all(alloc, names)
-}
-
-fn copy_pairs(alloc: Global, pairs: &[(Str, Str)]) -> Result<Items<(Str, Str)>, AllocError>
-    ensures { IfOk result (λ copies. copies ≡ pairs.now) }
-{
-    let mut copies = Vec::new(alloc);
-    for (first, second) in pairs {
-        copies.push((first.copy()?, second.copy()?))?;
-    }
-    Ok(Items::from_vec(copies))
 }
 
 // An expression under a select by a predicate of its own.
@@ -95,32 +78,32 @@ fn over_bucket(
             selected(alloc, part, pred)
         }
         Expr::Project(part, items) => {
-            let items = copy_pairs(alloc, items.as_slice())?;
+            let items = items.copied()?;
             let part = over_bucket(alloc, collections, test, part)?;
             boxed(alloc, Expr::Project(part, items))
         }
         Expr::Join(a, b, pairs) => {
             let a = over_bucket(alloc, collections, test, a)?;
             let b = over_bucket(alloc, collections, test, b)?;
-            let pairs = copy_pairs(alloc, pairs.as_slice())?;
+            let pairs = pairs.copied()?;
             boxed(alloc, Expr::Join(a, b, pairs))
         }
         Expr::NotIn(a, b, pairs) => {
             let a = over_bucket(alloc, collections, test, a)?;
             let b = over_bucket(alloc, collections, test, b)?;
-            let pairs = copy_pairs(alloc, pairs.as_slice())?;
+            let pairs = pairs.copied()?;
             boxed(alloc, Expr::NotIn(a, b, pairs))
         }
         Expr::Group(part, keys, agg, name) => {
             let part = over_bucket(alloc, collections, test, part)?;
-            let keys = copy_names(alloc, keys.as_slice())?;
-            let agg = agg.copy()?;
+            let keys = keys.copied()?;
+            let agg = agg.copied()?;
             let name = name.copy()?;
             boxed(alloc, Expr::Group(part, keys, agg, name))
         }
         Expr::AtLeast(part, keys, bound) => {
             let part = over_bucket(alloc, collections, test, part)?;
-            let keys = copy_names(alloc, keys.as_slice())?;
+            let keys = keys.copied()?;
             boxed(alloc, Expr::AtLeast(part, keys, *bound))
         }
     }
@@ -157,19 +140,6 @@ fn copied_rules(
     Ok(Items::from_vec(copies))
 }
 
-fn copy_collections(
-    alloc: Global,
-    collections: &[Collection],
-) -> Result<Items<Collection>, AllocError>
-    ensures { IfOk result (λ copies. copies ≡ collections.now) }
-{
-    let mut copies = Vec::new(alloc);
-    for collection in collections {
-        copies.push(collection.copy(alloc)?)?;
-    }
-    Ok(Items::from_vec(copies))
-}
-
 /// The module in which each port stands under a select by the test.
 pub(crate) fn copied_module(
     alloc: Global,
@@ -181,7 +151,7 @@ pub(crate) fn copied_module(
     let collections = written.collections.as_slice();
     Ok(Module {
         name: written.name.copy()?,
-        collections: copy_collections(alloc, collections)?,
+        collections: written.collections.copied()?,
         rules: copied_rules(alloc, collections, test, written.rules.as_slice())?,
     })
 }

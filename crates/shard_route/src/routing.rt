@@ -4,11 +4,9 @@ ghost use Rattle.std.specs.List.{flat_map};
 ghost use Rattle.shard_route.specs.Routing as spec;
 
 use crate::names::{file_of, numbered};
-use blz_value::{Items, Str};
+use blz_value::{Faithful, Items, Str, copy_all};
 use std::alloc::{AllocError, Global};
-use topo_forms::{
-    Body, ComponentEntry, Copied, SourceEntry, Spot, StreamEntry, Topology, copy_all,
-};
+use topo_forms::{Body, ComponentEntry, SourceEntry, Spot, StreamEntry, Topology};
 
 // ---- ports and outputs
 
@@ -47,7 +45,7 @@ fn push_spot(
     if spot.component.equals(name) {
         push_copied_spots(alloc, spot, numbers, into)
     } else {
-        Ok(into.push(spot.copied(alloc)?)?)
+        Ok(into.push(spot.copied()?)?)
     }
 }
 
@@ -79,9 +77,9 @@ fn sharded_source(
 {
     Ok(SourceEntry {
         name: source.name.copy()?,
-        columns: copy_all(alloc, source.columns.as_slice())?,
-        types: copy_all(alloc, source.types.as_slice())?,
-        seal: copy_all(alloc, source.seal.as_slice())?,
+        columns: source.columns.copied()?,
+        types: source.types.copied()?,
+        seal: source.seal.copied()?,
         to: sharded_ends(alloc, name, numbers, source.to.as_slice())?,
     })
 }
@@ -116,10 +114,10 @@ fn copied_component(
         body: Body::Module(file_of(alloc, &component.name, number)?),
         inputs: Items::from_vec(Vec::new(alloc)),
         outputs: Items::from_vec(Vec::new(alloc)),
-        notes: copy_all(alloc, component.notes.as_slice())?,
+        notes: component.notes.copied()?,
         replicas: component.replicas,
         mode: component.mode,
-        key: copy_all(alloc, component.key.as_slice())?,
+        key: component.key.copied()?,
     })
 }
 
@@ -149,7 +147,7 @@ fn push_component(
     if component.name.equals(name) {
         push_copied_components(alloc, component, numbers, into)
     } else {
-        Ok(into.push(component.copied(alloc)?)?)
+        Ok(into.push(component.copied()?)?)
     }
 }
 
@@ -215,7 +213,7 @@ fn push_stream(
         return push_copied_streams(alloc, to.as_slice(), stream, numbers, into);
     }
     let name = stream.name.copy()?;
-    let from = stream.from.copied(alloc)?;
+    let from = stream.from.copied()?;
     Ok(into.push(StreamEntry { name, from, to })?)
 }
 
@@ -251,6 +249,6 @@ pub(crate) fn sharded_topology(
         sources: sharded_sources(alloc, name, numbers, topology.sources.as_slice())?,
         components: sharded_components(alloc, name, numbers, topology.components.as_slice())?,
         streams: sharded_streams(alloc, name, numbers, topology.streams.as_slice())?,
-        fds: copy_all(alloc, topology.fds.as_slice())?,
+        fds: topology.fds.copied()?,
     })
 }

@@ -4,8 +4,8 @@ ghost use Rattle.topo_forms.specs.DataCounts.{AreFew};
 ghost use Rattle.topo_forms.specs.Data.{source_data};
 
 use crate::source_lists::SourceLists;
-use blz_value::Record;
-use std::alloc::{AllocError, Global};
+use blz_value::{Record, copies_of};
+use std::alloc::AllocError;
 use std::marker::Model;
 
 /// What the sources of a topology hold: of each its distinct records and its distinct declared
@@ -63,31 +63,7 @@ impl Data {
     pub fn copy(&self) -> Result<Data, AllocError>
         ensures { IfOk result (λ same. same ≡ self.now) }
     {
-        let mut sources = Vec::new(*self.sources.allocator());
-        for lists in &self.sources {
-            sources.push(lists_copy(lists)?)?;
-        }
+        let sources = copies_of(*self.sources.allocator(), &self.sources)?;
         Ok(Data { sources })
     }
-}
-
-// Equal lists of their own.
-fn lists_copy(lists: &SourceLists) -> Result<SourceLists, AllocError>
-    ensures { IfOk result (λ same. same ≡ lists.now) }
-{
-    let alloc = *lists.rows.allocator();
-    Ok(SourceLists {
-        rows: copies(alloc, &lists.rows)?,
-        parts: copies(alloc, &lists.parts)?,
-    })
-}
-
-fn copies(alloc: Global, records: &[Record]) -> Result<Vec<Record>, AllocError>
-    ensures { IfOk result (λ same. same.items ≡ records.now) }
-{
-    let mut same = Vec::new(alloc);
-    for record in records {
-        same.push(record.copy()?)?;
-    }
-    Ok(same)
 }

@@ -1,9 +1,11 @@
 //! What is found of a view once: the streams into its ports, regions, dependencies and carried
 //! seals.
-use blz_value::{Attrs, Items};
+ghost use Rattle.std.proofs.Common.{rules};
+
+use blz_value::{Attrs, Faithful, Items};
 
 /// What is found of a view.
-#[derive(Drop)]
+#[derive(Clone, Drop)]
 pub struct GraphFacts {
     /// The streams into each port of each component.
     pub into: Items<Items<u64>>,
@@ -19,4 +21,8 @@ pub struct GraphFacts {
     pub usable: Items<u64>,
     /// The key that each stream carries.
     pub carried: Items<Option<Attrs>>,
+}
+
+impl Faithful for GraphFacts {
+    ghost equal = { Prim.search rules };
 }

@@ -2,7 +2,6 @@
 //! of its sources.
 #![tactic(auto)]
 
-mod copied;
 mod data;
 mod fault;
 mod graph_facts;
@@ -11,12 +10,9 @@ mod kept;
 mod laws;
 mod sets;
 mod source_lists;
-mod topologies;
 mod topology;
 mod valid;
-mod view_copies;
 
-pub use copied::{Copied, copy_all};
 pub use data::Data;
 pub use fault::{TopoFault, TopoKind, TopoPlace, ValidFault};
 pub use graph_facts::GraphFacts;
@@ -27,5 +23,4 @@ pub use topology::{
     Body, ColumnType, ComponentEntry, Declared, FdEntry, ModeName, NoteName, Side, SourceEntry,
     Spot, Stock, StreamEntry, Topology,
 };
-pub use valid::{Valid, carries, goes_to, upholds, usable};
-pub use view_copies::{copy_program, valid_copy};
+pub use valid::{Valid, carries, goes_to, upholds, usable, valid_copy};

@@ -1,8 +1,12 @@
 //! The parts of a topology, by the names that stand in its file.
-use blz_value::{Items, Str};
+ghost use Rattle.std.specs.Prelude.{◌≡◌};
+ghost use Rattle.std.proofs.Common.{rules};
+
+use blz_value::{Faithful, Items, Str};
+use std::alloc::AllocError;
 
 /// A topology. Each list stands in the order of the file.
-#[derive(Drop)]
+#[derive(Clone, Drop)]
 pub struct Topology {
     /// The number of the file's format.
     pub format: u32,
@@ -12,16 +16,24 @@ pub struct Topology {
     pub fds: Items<FdEntry>,
 }
 
+impl Faithful for Topology {
+    ghost equal = { Prim.search rules };
+}
+
 /// A port of a component, or, where a stream begins, an output.
-#[derive(Drop)]
+#[derive(Clone, Drop)]
 pub struct Spot {
     pub component: Str,
     /// The name of the port or of the output.
     pub port: Str,
 }
 
+impl Faithful for Spot {
+    ghost equal = { Prim.search rules };
+}
+
 /// A stream that comes from outside.
-#[derive(Drop)]
+#[derive(Clone, Drop)]
 pub struct SourceEntry {
     pub name: Str,
     pub columns: Items<Str>,
@@ -33,6 +45,10 @@ pub struct SourceEntry {
     pub to: Items<Spot>,
 }
 
+impl Faithful for SourceEntry {
+    ghost equal = { Prim.search rules };
+}
+
 /// What a column of a source may hold.
 #[derive(Clone, Copy, PartialEq, Eq)]
 pub enum ColumnType {
@@ -40,6 +56,10 @@ pub enum ColumnType {
     Text,
     /// A number or a text.
     Any,
+}
+
+impl Faithful for ColumnType {
+    ghost equal = { Prim.search rules };
 }
 
 /// A component.
@@ -60,8 +80,30 @@ pub struct ComponentEntry {
     pub key: Items<Str>,
 }
 
+// The body is made last, so that none is held at a later want of memory.
+impl Clone for ComponentEntry {
+    ghost is_clone = { λ one clone. clone ≡ one };
+
+    fn clone(&self) -> Result<ComponentEntry, AllocError> {
+        Ok(ComponentEntry {
+            name: self.name.clone()?,
+            inputs: self.inputs.clone()?,
+            outputs: self.outputs.clone()?,
+            notes: self.notes.clone()?,
+            key: self.key.clone()?,
+            replicas: self.replicas,
+            mode: self.mode,
+            body: self.body.copied()?,
+        })
+    }
+}
+
+impl Faithful for ComponentEntry {
+    ghost equal = { λ _ _ same. same };
+}
+
 /// What a component runs.
-#[derive(Drop)]
+#[derive(Clone, Drop)]
 pub enum Body {
     /// The module in the file of this name.
     Module(Str),
@@ -70,8 +112,12 @@ pub enum Body {
     None,
 }
 
+impl Faithful for Body {
+    ghost equal = { Prim.search rules };
+}
+
 /// A body that needs no module.
-#[derive(Drop)]
+#[derive(Clone, Drop)]
 pub enum Stock {
     /// Gives a row for each word of the text in one column.
     Split {
@@ -90,15 +136,23 @@ pub enum Stock {
     },
 }
 
+impl Faithful for Stock {
+    ghost equal = { Prim.search rules };
+}
+
 /// A port or an output with its columns.
-#[derive(Drop)]
+#[derive(Clone, Drop)]
 pub struct Side {
     pub name: Str,
     pub columns: Items<Str>,
 }
 
+impl Faithful for Side {
+    ghost equal = { Prim.search rules };
+}
+
 /// A declared note of the path from a port to an output.
-#[derive(Drop)]
+#[derive(Clone, Drop)]
 pub struct Declared {
     /// The port.
     pub from: Str,
@@ -107,6 +161,10 @@ pub struct Declared {
     pub note: NoteName,
     /// The gate of a note OR or OW; the others have none.
     pub gate: Items<Str>,
+}
+
+impl Faithful for Declared {
+    ghost equal = { Prim.search rules };
 }
 
 /// A note without its gate: C for confluent, O for order-sensitive, R where state is left alone,
@@ -119,6 +177,10 @@ pub enum NoteName {
     OW,
 }
 
+impl Faithful for NoteName {
+    ghost equal = { Prim.search rules };
+}
+
 /// A mode without its key.
 #[derive(Clone, Copy, PartialEq, Eq)]
 pub enum ModeName {
@@ -128,8 +190,12 @@ pub enum ModeName {
     Order,
 }
 
+impl Faithful for ModeName {
+    ghost equal = { Prim.search rules };
+}
+
 /// A stream from an output to ports.
-#[derive(Drop)]
+#[derive(Clone, Drop)]
 pub struct StreamEntry {
     pub name: Str,
     /// The output from which it comes.
@@ -138,10 +204,18 @@ pub struct StreamEntry {
     pub to: Items<Spot>,
 }
 
+impl Faithful for StreamEntry {
+    ghost equal = { Prim.search rules };
+}
+
 /// A dependency: rows with equal values in all of `from` have equal values in all of `to`, and the
 /// other way round.
-#[derive(Drop)]
+#[derive(Clone, Drop)]
 pub struct FdEntry {
     pub from: Items<Str>,
     pub to: Items<Str>,
+}
+
+impl Faithful for FdEntry {
+    ghost equal = { Prim.search rules };
 }

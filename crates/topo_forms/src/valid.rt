@@ -16,7 +16,7 @@ use crate::kept::{Kept, KeptOutput, KeptPort, KeptStream};
 use crate::sets::set_at;
 use crate::topology::Topology;
 use bloom_forms::{Mode, Note, Program};
-use blz_value::{Attrs, Fd, Str, is_in};
+use blz_value::{Attrs, Faithful, Fd, Str, is_in};
 use std::alloc::{AllocError, Global};
 use std::marker::Model;
 
@@ -489,6 +489,19 @@ impl Valid {
     {
         self.parts.kept.fds.as_slice()[fd as usize]
     }
+}
+
+/// An equal valid topology of its own.
+pub fn valid_copy(alloc: Global, valid: &Valid) -> Result<Valid, AllocError>
+    ensures { IfOk result (λ copy. copy ≡ valid.now) }
+{
+    valid.whole();
+    valid.known();
+    valid.bounded();
+    let topology = valid.topology().copied()?;
+    let kept = valid.kept().copied()?;
+    let found = valid.found().copied()?;
+    Valid::new(alloc, topology, kept, found)
 }
 
 fn count_sources(streams: &[KeptStream]) -> usize

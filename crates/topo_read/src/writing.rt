@@ -11,11 +11,12 @@ ghost use Rattle.topo_read.specs.Written as spec;
 ghost use Rattle.topo_forms.specs.Allowed.{IsAllowed};
 
 use crate::fill::{IntoValue, list, number, put, put_list, table_value, text};
+use blz_value::Faithful;
 use std::alloc::{AllocError, Global};
 use toml::{Table, Value};
 use topo_forms::{
-    Body, ColumnType, ComponentEntry, Copied, Declared, FdEntry, ModeName, Side, SourceEntry,
-    Stock, StreamEntry, Topology, Valid,
+    Body, ColumnType, ComponentEntry, Declared, FdEntry, ModeName, Side, SourceEntry, Stock,
+    StreamEntry, Topology, Valid,
 };
 
 // ---- sources
@@ -288,12 +289,12 @@ pub fn write(alloc: Global, topology: &Topology) -> Result<Vec<u8>, AllocError>
 
 /// The topology with the modes that the valid one has, as one of format 2. The error is want of
 /// memory.
-pub fn topology_of(alloc: Global, valid: &Valid) -> Result<Topology, AllocError>
+pub fn topology_of(valid: &Valid) -> Result<Topology, AllocError>
     ensures topology { IfOk result (λ topology. topology ≡ record valid.now.topology { format = 2 }) }
     ensures allowed { IfOk result IsAllowed }
 {
     valid.whole();
-    let mut topology = valid.topology().copied(alloc)?;
+    let mut topology = valid.topology().copied()?;
     topology.format = 2;
     Ok(topology)
 }

@@ -19,9 +19,10 @@ use crate::validity::{Parts, at_places, names_fault, size_fault};
 use crate::view::building::parts_of;
 use crate::view::sites::{Site, sites_of};
 use bloom_forms::Checked;
+use blz_value::Faithful;
 use fd_closure::AttrNames;
 use std::alloc::Global;
-use topo_forms::{Copied, Kept, TopoFault, TopoKind, Topology, Valid, ValidFault};
+use topo_forms::{Kept, TopoFault, TopoKind, Topology, Valid, ValidFault};
 use topo_graph::{found_with, regions_of};
 
 // The names of the attributes, or the first fault of size or of names.
@@ -106,7 +107,7 @@ fn valid_of(
     }
     known(modules);
     let found = found_with(alloc, &kept, regions)?;
-    let copied = topology.copied(alloc)?;
+    let copied = topology.copied()?;
     Ok(Valid::new(alloc, copied, kept, found)?)
 }
 

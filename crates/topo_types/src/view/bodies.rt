@@ -8,9 +8,9 @@ ghost use Rattle.topo_types.specs.Code.Chosen as chosen;
 ghost use Rattle.topo_forms.specs.Sites as spec;
 
 use bloom_forms::{Checked, Collection, Kind, Program};
-use blz_value::{Items, Str};
+use blz_value::{Items, Str, copy_all};
 use std::alloc::{AllocError, Global};
-use topo_forms::{Body, Side, Stock, copy_all};
+use topo_forms::{Body, Side, Stock};
 
 // ---- programs
 

@@ -6,9 +6,9 @@ ghost use Rattle.topo_types.specs.Code.Built.{site_seen, sites_seen, IsBuilt};
 
 use crate::view::bodies::{modules_after, program_in, program_outputs, program_ports};
 use bloom_forms::{Checked, Program};
-use blz_value::{Items, Str};
+use blz_value::{Items, Str, copy_all};
 use std::alloc::{AllocError, Global};
-use topo_forms::{ComponentEntry, Side, Spot, copy_all};
+use topo_forms::{ComponentEntry, Side, Spot};
 
 /// A component with what it runs, and its ports and outputs.
 #[derive(Drop)]

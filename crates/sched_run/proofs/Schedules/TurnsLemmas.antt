@@ -99,15 +99,6 @@ module _ (w : Wiring) (given : Data) where
   pub turn_continues : (course : Course) → Continues course.events (turn w given course).events
   turn_continues course = among_continues course (works_after course.events)
 
-  pub turn_longer : (course : Course) (e : Event) (works : List Event) → open_works w given (execution_after w given course.events) ≡ e ∷ works → length course.events < length (turn w given course).events
-  turn_longer course e works are =
-      let number : ℕ = drawn_number (next_state course.state) in
-      let chosen : Event = choice course e works in
-      let added : length (course.events ++ chosen_events number chosen) ≡ length course.events + length (chosen_events number chosen) = length-append course.events (chosen_events number chosen) in
-      let some : 1 ≤ length (chosen_events number chosen) = some_chosen (not (is_take chosen) && says_again number) chosen in
-      subst (λ c. length course.events < length c.events) (sym (turn_chooses course e works are))
-      (let longer : length course.events < length (course.events ++ chosen_events number chosen) = omega (arith, added, some) in longer)
-
   module _ (seed : ℕ) where
     -- ---- more turns
 
@@ -252,25 +243,6 @@ module _ (w : Wiring) (given : Data) where
 -- an event within a list that is split
 split_front : {X : Type 0} (before : List X) (e : X) (later all : List X) → all ≡ before ++ e ∷ later → Continues (before ++ e ∷ []) all
 split_front before e later all split = record { more = later; with_more = append_assoc before (e ∷ []) later ∙ sym split }
-
-module _ (w : Wiring) (given : Data) (seed most : ℕ) where
-  pub stops_at : (k : ℕ) (before : List Event) (e : Event) (later : List Event) (limit : Limit) → (after_turns w given seed k).events ≡ before ++ e ∷ later → k ≤ suc most → length before < most → faults_in w given before ≡ []
-      → limit_of_event w given e (execution_after w given before) ≡ Some limit → made_within w given seed most ≡ Err (fault_by (suc (length before)) limit)
-  stops_at k before e later limit split le few none meets =
-      made_stops w given seed most k before e limit (split_front before e later (after_turns w given seed k).events split) le few (none_meets w given before none) meets
-
-  pub overflows_at : (k : ℕ) (before : List Event) (e : Event) (later : List Event) → (after_turns w given seed k).events ≡ before ++ e ∷ later → k ≤ suc most → length before ≡ most → faults_in w given before ≡ [] → made_within w given seed most ≡ Err TooManyEvents
-  overflows_at k before e later split le many none =
-      let all : List Event = (after_turns w given seed k).events in
-      let front : Continues before all = record { more = e ∷ later; with_more = sym split } in
-      let next : Continues (before ++ e ∷ []) all = split_front before e later all split in
-      let longer : length (before ++ e ∷ []) ≤ length all = front_length (before ++ e ∷ []) all next in
-      let one : length (before ++ e ∷ []) ≡ length before + 1 = length-append before (e ∷ []) in
-      made_overflows w given seed most k le (omega (arith, longer, one, many))
-      (λ place low. limit_on_front w given before all place front (omega (arith, many)) ∙ none_meets w given before none place (omega (arith, many)))
-
-  pub ends_at : (k : ℕ) (events : List Event) → (after_turns w given seed k).events ≡ events → k ≤ suc most → open_works w given (execution_after w given events) ≡ [] → length events ≤ most → faults_in w given events ≡ [] → made_within w given seed most ≡ Ok events
-  ends_at k events are le idle few none = made_ends w given seed most k events (sym are) le idle few (none_meets w given events none)
 
 -- ---- a schedule has at most a million events
 

@@ -13,7 +13,7 @@ use Rattle.std.proofs.lemmas.Map.Views.{tells_apart}
 use Rattle.std.proofs.lemmas.Option.{slice_get_within, get_or_from_slice_get}
 use Rattle.blz_value.specs.Members.{Has}
 use Rattle.blz_value.specs.Record.{Row, record_cmp}
-use Rattle.blz_value.specs.RecordOrder.{record_cmp_exact}
+use Rattle.blz_value.specs.RecordOrder.{record_cmp_total, record_cmp_exact}
 use Rattle.blz_value.proofs.Membership.{Has-get_or}
 use Rattle.blz_value.proofs.Lists.{same-self}
 use Rattle.blz_pool.specs.Pool.{IsPool, record_limit, number_of}

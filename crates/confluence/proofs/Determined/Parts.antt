@@ -18,7 +18,7 @@ use Rattle.bloom_forms.specs.Good.{good_tables}
 use Rattle.bloom_forms.specs.KindNumbers.{number_in_kind}
 use Rattle.bloom_forms.specs.Uses.{both_uses, all_uses}
 use Rattle.bloom_forms.proofs.Combining.Using.{uses_have_gate}
-use Rattle.bloom_forms.proofs.Combining.CoversLaw.{combine_law}
+use Rattle.bloom_forms.proofs.Combining.CoversLaw.{covers_law, combine_law}
 use Rattle.blz_value.specs.declared.attrs.Attrs.{Attrs}
 use Rattle.topo_forms.proofs.Views.ValidViews.{self_covered}
 use Rattle.topo_forms.specs.Data.{Data}

@@ -18,7 +18,6 @@ use Rattle.std.proofs.lemmas.Str.{IsUtf8-from_ascii}
 use Rattle.blz_value.specs.Name.{is_name_byte}
 use Rattle.std.proofs.lemmas.Bool.Decides.{nat_tests}
 use Rattle.std.proofs.lemmas.List.Sums.{sum_by-cons}
-use Rattle.blz_value.specs.Message.{Message, row, rows_in, seal}
 use Rattle.blz_value.proofs.Maps.{same_map}
 use Rattle.blz_value.specs.Arrows.{with_all}
 use Rattle.blz_value.specs.Closure.{within}
@@ -83,11 +82,6 @@ sum-cons x xs = sum_by-cons (λ n. n) x xs
 pub map_itself : {X : Type 0} (xs : List X) → map (λ x. x) xs ≡ xs
 map_itself [] = refl
 map_itself (x ∷ xs) = ap (λ ys. x ∷ ys) (map_itself xs)
-
-pub length-rows_in-le : (list : List Message) → length (rows_in list) ≤ length list
-length-rows_in-le [] = omega arith
-length-rows_in-le (row r ∷ list) = omega (arith, length-rows_in-le list)
-length-rows_in-le (seal key count ∷ list) = omega (arith, length-rows_in-le list)
 
 pub all_on : {X : Type 0} (f g : X → Bool) (xs : List X) → ((x : X) → Has x xs → f x ≡ g x) → list_all f xs ≡ list_all g xs
 all_on f g [] same = refl

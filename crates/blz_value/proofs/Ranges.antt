@@ -38,10 +38,10 @@ filter_below_more p n = ap (filter p) (below_more n) ∙ filter-append p (range_
 pub flat_below_more : {X : Type 0} (f : ℕ → List X) (n : ℕ) → flat_map f (range_with_len 0 (n + 1)) ≡ flat_map f (range_with_len 0 n) ++ f n
 flat_below_more {X = X} f n = ap (flat_map f) (below_more n) ∙ flat_map-append f (range_with_len 0 n) (n ∷ []) ∙ ap (λ (last : List X). flat_map f (range_with_len 0 n) ++ last) (append-nil (f n))
 
-pub in_range : (a n q : ℕ) → q < n → Has (a + q) (range_with_len a n)
-in_range a zero q less = absurd (omega arith)
-in_range a (suc n) zero less = inl (let e : a ≡ a + 0 = omega arith in e)
-in_range a (suc n) (suc q) less = inr (let e : a + 1 + q ≡ a + suc q = omega arith in subst (λ k. Has k (range_with_len (a + 1) n)) e (in_range (a + 1) n q (omega arith)))
+pub in_range_from : (a n q : ℕ) → q < n → Has (a + q) (range_with_len a n)
+in_range_from a zero q less = absurd (omega arith)
+in_range_from a (suc n) zero less = inl (let e : a ≡ a + 0 = omega arith in e)
+in_range_from a (suc n) (suc q) less = inr (let e : a + 1 + q ≡ a + suc q = omega arith in subst (λ k. Has k (range_with_len (a + 1) n)) e (in_range_from (a + 1) n q (omega arith)))
 
 -- looked up at one of them
 pub at_below : {X : Type 0} (f : ℕ → X) (n c : ℕ) (d : X) → c < n → get_or (map f (range_with_len 0 n)) c d ≡ f c

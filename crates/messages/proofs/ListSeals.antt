@@ -10,7 +10,7 @@ use Rattle.blz_value.specs.Members.{Has}
 use Rattle.blz_value.specs.Operators.{cells}
 use Rattle.blz_value.specs.Record.{Row as Record}
 use Rattle.blz_value.specs.Message.{Message, row, seal, is_same_row, rows_in}
-use Rattle.blz_value.proofs.Lists.{length-rows_in-le}
+use Rattle.blz_value.proofs.MessagesLemmas.{length-rows_in-le}
 use Rattle.messages.specs.Emitted.{has_seal, count_in, with_seal, Continues}
 use Rattle.messages.specs.Ids.{message_with_id}
 use Rattle.messages.specs.Log.{row_with_id}

@@ -17,7 +17,8 @@ use Rattle.blz_value.specs.Record.{Row as Record, record_cmp}
 use Rattle.blz_value.specs.Sets.{set_of}
 use Rattle.blz_value.proofs.Membership.{Has-get_or}
 use Rattle.blz_value.proofs.RowSets.{length-set_of-le}
-use Rattle.blz_value.proofs.Lists.{length-rows_in-le, lt-not}
+use Rattle.blz_value.proofs.Lists.{lt-not}
+use Rattle.blz_value.proofs.MessagesLemmas.{length-rows_in-le}
 use Rattle.bloom_forms.specs.declared.program.Program.{Program}
 use Rattle.bloom_forms.specs.Program.{port_columns}
 use Rattle.topo_forms.specs.Data.{Data}

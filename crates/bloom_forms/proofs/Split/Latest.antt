@@ -16,7 +16,7 @@ use Rattle.blz_value.specs.Bits.{bit_of, meets}
 use Rattle.blz_value.specs.Names.{place_of}
 use Rattle.blz_value.proofs.Within.{within-refl}
 use Rattle.blz_value.proofs.OperatorsLemmas.{not_any}
-use Rattle.blz_value.proofs.Ranges.{in_range}
+use Rattle.blz_value.proofs.Ranges.{in_range_from}
 use Rattle.blz_value.proofs.Booleans.{implied}
 use Rattle.bloom_forms.specs.declared.program.Program.{Program}
 use Rattle.bloom_forms.specs.declared.program.Program.TheVariants.{Latest}
@@ -121,7 +121,7 @@ key_column names columns keys n h =
     let c = chosen (is_key m.0.0) (place_of names m.0.1) n m.2 in
     let p = from_places 0 columns m.0 m.1 in
     let same : m.0.0 ≡ p.0 = omega (arith, p.1) in
-    let stands : Has (0 + p.0) (range_with_len 0 (length columns)) = in_range 0 (length columns) p.0 p.2 in
+    let stands : Has (0 + p.0) (range_with_len 0 (length columns)) = in_range_from 0 (length columns) p.0 p.2 in
     let zero_more : 0 + p.0 ≡ p.0 = omega arith in
     (p.0, Has-filter is_key p.0 (range_with_len 0 (length columns)) (subst (λ (i : ℕ). Has i (range_with_len 0 (length columns))) zero_more stands) (subst (λ (i : ℕ). is_key i ≡ true) same c.0), p.2, ap (place_of names) p.3 ∙ c.1)
 

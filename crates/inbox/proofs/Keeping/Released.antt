@@ -17,7 +17,7 @@ use Rattle.blz_value.specs.Sets.{set_of, set_by}
 use Rattle.blz_value.proofs.Membership.{Has-filter, Has-from_filter, Has-flat_map, Has-from_flat_map, any_from_Has, Has-from_any, filter_members, map_members}
 use Rattle.blz_value.proofs.RowSets.{same_set_of}
 use Rattle.blz_value.proofs.SetLemmas.{sorted_set_by, Has-from_set_by, Has-set_by, same_sorted}
-use Rattle.blz_value.proofs.Ranges.{Has-range as Has-from_range, in_range}
+use Rattle.blz_value.proofs.Ranges.{Has-range as Has-from_range, in_range_from}
 use Rattle.blz_value.proofs.Lists.{filter-map}
 use Rattle.topo_forms.specs.Messages.{is_same_row}
 use Rattle.messages.specs.Messages.{Pair, Batch, Entry, is_same_entry, with_new, firsts}
@@ -136,7 +136,7 @@ module _ (i : Instance) (records : List Row) (waits : Entry → Bool) (heard : L
       let m = Has-from_flat_map (places_of w.places) place keys (Has-from_set_by nat_cmp place gathered h) in
       let zero_more : 0 + place ≡ place = omega arith in
       Has-filter goes_at place (range_with_len 0 (length w.log))
-      (subst (λ k. Has k (range_with_len 0 (length w.log))) zero_more (in_range 0 (length w.log) place (s.within m.0 place m.2)))
+      (subst (λ k. Has k (range_with_len 0 (length w.log))) zero_more (in_range_from 0 (length w.log) place (s.within m.0 place m.2)))
       (any_from_Has (λ key. is_of_key i key (entry_with_id records (get_or w.log place (0, 0)))) m.0 keys m.1 (s.placed m.0 place m.2)))
       (λ place h.
       let kept = Has-from_filter goes_at place (range_with_len 0 (length w.log)) h in

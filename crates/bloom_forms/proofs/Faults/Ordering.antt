@@ -52,7 +52,7 @@ module _ (cs : List Collection) (rules : List RuleForm) (free : (r : RuleForm) �
   smaller h m small_h small_m reads =
       let all = arrows cs rules in
       let body = named cs reads.rule.1 in
-      let own-in : IsLeastClosed (bit_of h) all (closure (bit_of h) all) = closure-least (bit_of h) all in
+      let own : IsLeastClosed (bit_of h) all (closure (bit_of h) all) = closure-least (bit_of h) all in
       let read : IsLeastClosed body all (closure body all) = closure-least body all in
       let m_in : meets (bit_of m) body ≡ true = subst (λ (k : ℕ). k < 64 → meets (bit_of k) body ≡ true) reads.is (in_named cs reads.rule.1 reads.name reads.read) small_m in
       let fires : within (set_of_name cs reads.rule.0) (closure (bit_of h) all) ≡ true = rw reads.head own.contains in

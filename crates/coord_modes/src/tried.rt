@@ -97,7 +97,6 @@ fn is_bad_output(
 }
 
 // Whether a stream comes from the component and is worse than Async.
-#[tactic(auto, using(label_walk::proofs::Ranges::component_within, label_walk::proofs::Ranges::output_within))]
 fn is_bad_stream(
     alloc: Global,
     valid: &Valid,

@@ -120,7 +120,6 @@ fn cycle_label(
     Ok(Some(region_label(alloc, valid, labels, region)?))
 }
 
-#[tactic(auto, using(crate::proofs::Ranges::component_within, crate::proofs::Ranges::output_within))]
 fn remade_label(
     alloc: Global,
     valid: &Valid,

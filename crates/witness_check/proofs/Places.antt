@@ -1,8 +1,8 @@
 -- The first answer over the places of two lists, place by place, and where it stands.
-use Rattle.std.proofs.Common.{◌≡◌, ◌<◌, ◌+◌, ℕ, suc, true, Option, None, Some, is_some, List, [], ◌∷◌, length, get_or, take, drop, refl, ap, ◌∙◌, sym, arith}
+use Rattle.std.proofs.Common.{◌≡◌, ◌<◌, ◌≤◌, ◌+◌, ℕ, suc, true, false, Option, None, Some, IfNone, is_some, List, [], ◌∷◌, length, get_or, take, drop, refl, ap, ◌∙◌, sym, arith}
 use Rattle.std.specs.List.{slice_get}
 use Rattle.std.specs.Option.{option_or}
-use Rattle.std.proofs.lemmas.List.{drop_more}
+use Rattle.std.proofs.lemmas.List.{drop_all, drop_more, take_all, take_more_same}
 use Rattle.witness_check.specs.Difference.{first_answer}
 
 module _ {X Y : Type 0} (answer : ℕ → X → X → Option Y) where
@@ -21,6 +21,23 @@ module _ {X Y : Type 0} (answer : ℕ → X → X → Option Y) where
     pub stops : (o : Option Y) → o ≡ answer i x y → is_some o ≡ true → HasNone first second i → o ≡ first_answer answer 0 first second
     stops None e bad so_far = cc
     stops (Some z) e some so_far = sym (so_far.rest ∙ from_here ∙ ap (λ o. option_or o (first_answer answer (i + 1) (drop (i + 1) first) (drop (i + 1) second))) (sym e))
+
+    -- a place without one, where both are the same
+    pub goes_on : (o : Option Y) → o ≡ answer i x y → is_some o ≡ false → (a b : X) → a ≡ x → b ≡ y → IfNone o (a ≡ b) → HasNone first second i → HasNone first second (i + 1)
+    goes_on None e none a b one two same so_far =
+        let alike : x ≡ y = sym one ∙ same ∙ two in
+        record {
+          rest = so_far.rest ∙ from_here ∙ ap (λ o. option_or o (first_answer answer (i + 1) (drop (i + 1) first) (drop (i + 1) second))) (sym e);
+          same = take_more_same first second i x there also so_far.same (sym at ∙ alike ∙ here ∙ ap (get_or second i) (sym alike));
+        }
+    goes_on (Some z) e none a b one two same so_far = cc
+
+  -- past the last place there is none, and the lists are the same
+  pub none_left : (first second : List X) (i : ℕ) → length first ≤ i → HasNone first second i → None ≡ first_answer answer 0 first second
+  none_left first second i past so_far = sym (so_far.rest ∙ ap (λ l. first_answer answer i l (drop i second)) (drop_all i first past))
+
+  pub same_lists : (first second : List X) (i : ℕ) → length first ≤ i → length second ≤ i → HasNone first second i → first ≡ second
+  same_lists first second i past past_too so_far = sym (take_all i first past) ∙ so_far.same ∙ take_all i second past_too
 
   -- the answer is that of a place
   pub record AnswersAt (at : ℕ) (first second : List X) (z : Y) : Type 0 where

@@ -1,3 +1,4 @@
 -- What only the clauses of private functions speak of.
 pub mod ComponentParts
+pub mod SourceParts
 pub mod TopologyParts

@@ -5,6 +5,7 @@ pub mod GivenEntries
 pub mod Steps
 pub mod ComponentParts
 pub mod SourceParts
+pub mod StreamParts
 mod Filled
 mod ReadBackValues
 mod ReadBackEntries

@@ -3,6 +3,7 @@ ghost use Rattle.std.specs.Prelude.{◌≡◌, IfOk, Result, codes};
 ghost use Rattle.toml.specs.Data.{Members};
 ghost use Rattle.toml.specs.View.{table_view};
 ghost use Rattle.topo_read.specs.Code.SourceParts as parts;
+ghost use Rattle.topo_read.specs.Code.StreamParts as stream_parts;
 ghost use Rattle.topo_read.specs.Entries as spec;
 ghost use Rattle.topo_read.specs.Fields.{Path};
 ghost use Rattle.topo_read.specs.Fields as fields;
@@ -176,20 +177,43 @@ impl FromTable for SourceEntry {
     }
 }
 
+/// Where a stream comes from and where it leads; no key is there but those of a stream.
+#[derive(Drop)]
+struct Flow {
+    from: Spot,
+    to: Items<Spot>,
+}
+
+#[tactic(auto, unfolding(crate::specs::Code::StreamParts::flow_of))]
+fn flow_of(alloc: Global, table: &Table) -> Result<Flow, TopoTextFault>
+    ensures { Gives (λ flow. flow) result (stream_parts.flow_of (table_view table.now)) }
+{
+    let from = required(alloc, table, "from")?;
+    let to = optional_list(alloc, table, "to")?;
+    only_keys(alloc, table, &["name", "from", "to"])?;
+    Ok(Flow { from, to })
+}
+
+/// A stream, a part after the other.
+#[tactic(auto, unfolding(crate::specs::Code::StreamParts::by_parts))]
+fn stream_by_parts(alloc: Global, table: &Table) -> Result<StreamEntry, TopoTextFault>
+    ensures { Gives (λ entry. entry) result (stream_parts.by_parts (table_view table.now)) }
+{
+    let name = required(alloc, table, "name")?;
+    let Flow { from, to } = flow_of(alloc, table)?;
+    Ok(StreamEntry { name, from, to })
+}
+
 impl FromTable for StreamEntry {
     ghost reading = { λ format. spec.stream_of };
 
-    #[tactic(auto, unfolding(crate::specs::Entries::stream_of))]
+    #[tactic(auto, using(crate::proofs::StreamParts::is_whole))]
     fn from_table(
         alloc: Global,
         _format: Format,
         table: &Table,
     ) -> Result<StreamEntry, TopoTextFault> {
-        let name = required(alloc, table, "name")?;
-        let from = required(alloc, table, "from")?;
-        let to = optional_list(alloc, table, "to")?;
-        only_keys(alloc, table, &["name", "from", "to"])?;
-        Ok(StreamEntry { name, from, to })
+        stream_by_parts(alloc, table)
     }
 }
 

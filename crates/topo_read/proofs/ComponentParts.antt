@@ -12,16 +12,7 @@ use Rattle.topo_read.specs.Tables.{declared_in}
 use Rattle.topo_read.specs.Fields.{◌>>=◌, Path, required, optional, optional_list, only_keys}
 use Rattle.topo_read.specs.Component.{body_of, sides_of, key_of, or_one, or_free, component_keys, component_of}
 use Rattle.topo_read.specs.Code.ComponentParts.{frame_of, running_of, rest_of, by_parts}
-
--- the steps of a part are steps of the whole
-inner : {A B C : Type 0} (m : Result A Path) (f : A → Result B Path) (g : B → Result C Path) (h : A → Result C Path) → ((x : A) → (f x >>= g) ≡ h x) → ((m >>= f) >>= g) ≡ (m >>= h)
-inner (Ok x) f g h e = e x
-inner (Err path) f g h e = refl
-
--- the same after the same step
-after : {A B : Type 0} (m : Result A Path) (f g : A → Result B Path) → ((x : A) → f x ≡ g x) → (m >>= f) ≡ (m >>= g)
-after (Ok x) f g e = e x
-after (Err path) f g e = refl
+use Rattle.topo_read.proofs.Steps.{inner, after}
 
 frame_steps : (table : Members) (next : Frame → Result ComponentEntry Path) → (frame_of table >>= next) ≡ (body_of table >>= (λ body. sides_of body (codes "inputs") table >>= (λ inputs. sides_of body (codes "outputs") table >>= (λ outputs. next (record { body = body; inputs = inputs; outputs = outputs })))))
 unfolding frame_of

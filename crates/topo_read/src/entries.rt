@@ -2,6 +2,8 @@
 ghost use Rattle.std.specs.Prelude.{◌≡◌, IfOk, Result, codes};
 ghost use Rattle.toml.specs.Data.{Members};
 ghost use Rattle.toml.specs.View.{table_view};
+ghost use Rattle.topo_read.specs.Code.SourceParts as parts;
+ghost use Rattle.topo_read.specs.Code.StreamParts as stream_parts;
 ghost use Rattle.topo_read.specs.Entries as spec;
 ghost use Rattle.topo_read.specs.Fields.{Path};
 ghost use Rattle.topo_read.specs.Fields as fields;
@@ -16,7 +18,7 @@ use crate::values::{Format, types_in};
 use blz_value::{Items, Str};
 use std::alloc::{AllocError, Global};
 use toml::Table;
-use topo_forms::{ColumnType, FdEntry, SourceEntry, StreamEntry};
+use topo_forms::{ColumnType, FdEntry, SourceEntry, Spot, StreamEntry};
 
 /// An entry that a table gives in a file of this format. The path of a break is the key in the table.
 pub(crate) trait FromTable: Drop + Sized {
@@ -98,45 +100,120 @@ fn only_source_keys(alloc: Global, format: Format, table: &Table) -> Result<(), 
     }
 }
 
+/// The columns of a source with their types.
+#[derive(Drop)]
+struct Typed {
+    columns: Items<Str>,
+    types: Items<ColumnType>,
+}
+
+#[tactic(auto, unfolding(crate::specs::Code::SourceParts::typed_of))]
+fn typed_of(alloc: Global, format: Format, table: &Table) -> Result<Typed, TopoTextFault>
+    ensures { Gives (λ typed. typed) result (parts.typed_of format (table_view table.now)) }
+{
+    let columns: Items<Str> = required(alloc, table, "columns")?;
+    let types = types_of(alloc, format, columns.as_slice(), table)?;
+    Ok(Typed { columns, types })
+}
+
+/// How a source is sealed, and where it leads.
+#[derive(Drop)]
+struct Leading {
+    seal: Items<Str>,
+    to: Items<Spot>,
+}
+
+/// The last fields of a source; no key is there but those of a source.
+#[tactic(auto, unfolding(crate::specs::Code::SourceParts::leading_of))]
+fn leading_of(alloc: Global, format: Format, table: &Table) -> Result<Leading, TopoTextFault>
+    ensures { Gives (λ leading. leading) result (parts.leading_of format (table_view table.now)) }
+{
+    let seal: Option<Items<Str>> = optional(alloc, table, "seal")?;
+    let seal = or_no_names(alloc, seal);
+    let to = optional_list(alloc, table, "to")?;
+    only_source_keys(alloc, format, table)?;
+    Ok(Leading { seal, to })
+}
+
+fn whole_of(name: Str, typed: Typed, leading: Leading) -> SourceEntry
+    ensures { result ≡ parts.whole_of name typed leading }
+{
+    let Typed { columns, types } = typed;
+    let Leading { seal, to } = leading;
+    SourceEntry {
+        name,
+        columns,
+        types,
+        seal,
+        to,
+    }
+}
+
+/// A source, a part after the other.
+#[tactic(auto, unfolding(crate::specs::Code::SourceParts::by_parts))]
+fn source_by_parts(
+    alloc: Global,
+    format: Format,
+    table: &Table,
+) -> Result<SourceEntry, TopoTextFault>
+    ensures { Gives (λ entry. entry) result (parts.by_parts format (table_view table.now)) }
+{
+    let name = required(alloc, table, "name")?;
+    let typed = typed_of(alloc, format, table)?;
+    let leading = leading_of(alloc, format, table)?;
+    Ok(whole_of(name, typed, leading))
+}
+
 impl FromTable for SourceEntry {
     ghost reading = { spec.source_of };
 
-    #[tactic(auto, unfolding(crate::specs::Entries::source_of))]
+    #[tactic(auto, using(crate::proofs::SourceParts::is_whole))]
     fn from_table(
         alloc: Global,
         format: Format,
         table: &Table,
     ) -> Result<SourceEntry, TopoTextFault> {
-        let name = required(alloc, table, "name")?;
-        let columns: Items<Str> = required(alloc, table, "columns")?;
-        let types = types_of(alloc, format, columns.as_slice(), table)?;
-        let seal = optional(alloc, table, "seal")?;
-        let to = optional_list(alloc, table, "to")?;
-        only_source_keys(alloc, format, table)?;
-        Ok(SourceEntry {
-            name,
-            columns,
-            types,
-            seal: or_no_names(alloc, seal),
-            to,
-        })
+        source_by_parts(alloc, format, table)
     }
+}
+
+/// Where a stream comes from and where it leads; no key is there but those of a stream.
+#[derive(Drop)]
+struct Flow {
+    from: Spot,
+    to: Items<Spot>,
+}
+
+#[tactic(auto, unfolding(crate::specs::Code::StreamParts::flow_of))]
+fn flow_of(alloc: Global, table: &Table) -> Result<Flow, TopoTextFault>
+    ensures { Gives (λ flow. flow) result (stream_parts.flow_of (table_view table.now)) }
+{
+    let from = required(alloc, table, "from")?;
+    let to = optional_list(alloc, table, "to")?;
+    only_keys(alloc, table, &["name", "from", "to"])?;
+    Ok(Flow { from, to })
+}
+
+/// A stream, a part after the other.
+#[tactic(auto, unfolding(crate::specs::Code::StreamParts::by_parts))]
+fn stream_by_parts(alloc: Global, table: &Table) -> Result<StreamEntry, TopoTextFault>
+    ensures { Gives (λ entry. entry) result (stream_parts.by_parts (table_view table.now)) }
+{
+    let name = required(alloc, table, "name")?;
+    let Flow { from, to } = flow_of(alloc, table)?;
+    Ok(StreamEntry { name, from, to })
 }
 
 impl FromTable for StreamEntry {
     ghost reading = { λ format. spec.stream_of };
 
-    #[tactic(auto, unfolding(crate::specs::Entries::stream_of))]
+    #[tactic(auto, using(crate::proofs::StreamParts::is_whole))]
     fn from_table(
         alloc: Global,
         _format: Format,
         table: &Table,
     ) -> Result<StreamEntry, TopoTextFault> {
-        let name = required(alloc, table, "name")?;
-        let from = required(alloc, table, "from")?;
-        let to = optional_list(alloc, table, "to")?;
-        only_keys(alloc, table, &["name", "from", "to"])?;
-        Ok(StreamEntry { name, from, to })
+        stream_by_parts(alloc, table)
     }
 }
 

@@ -1,12 +1,14 @@
 -- Lists of things of one kind: what is read is one, a fault is where the machine stops, and each is read again.
-use Rattle.std.proofs.Common.{◌≡◌, ℕ, zero, suc, ◌+◌, ◌-◌, ◌<◌, ◌≤◌, Bool, true, false, cond, List, [], ◌∷◌, ◌++◌, map, length, All, Result, Ok, Err, refl, sym, ap, ◌∙◌, append_assoc, arith}
+use Rattle.std.proofs.Common.{◌≡◌, ℕ, zero, suc, ◌+◌, ◌-◌, ◌<◌, ◌≤◌, Bool, true, false, cond, List, [], ◌∷◌, ◌++◌, map, length, All, Result, Ok, Err, refl, sym, ap, subst, ◌∙◌, append_assoc, arith}
 use Rattle.std.proofs.lemmas.List.{append-nil}
 use Rattle.std.proofs.lemmas.List.Elements.{All-nil, All-cons, All-head, All-tail}
 use Rattle.bloom_parse.specs.declared.lexing.terminal.Terminal.{Terminal}
-use Rattle.bloom_parse.specs.Code.ReadingSingle.{◌>>=◌}
+use Rattle.bloom_parse.specs.declared.reading.read_fault.ReadFault.{ReadFault}
+use Rattle.bloom_parse.specs.Code.ReadingSingle.{◌>>=◌, Fails}
 use Rattle.bloom_parse.specs.Code.ReadingLists.{many_at, with_front}
 use Rattle.bloom_parse.proofs.Machine.Machine.{Sym, run}
 use Rattle.bloom_parse.proofs.Grammar.SingleCorrect.{bind_reads}
+use Rattle.bloom_parse.proofs.Grammar.StepLemmas.{fails_first}
 
 -- ---- what is read
 
@@ -165,3 +167,28 @@ pub many_ended : {X : Type 0} (starts : List Terminal → Bool) (one : List Term
     → with_front front (many_at starts one (len - n) ts) ≡ Ok (front, ts)
 unfolding many_at
 many_ended starts one front n len ts le = ap (λ t. with_front front (many_at starts one t ts)) (let e : len - n ≡ zero = omega (arith, le) in e) ∙ ap (λ ys. Ok (ys, ts)) (append-nil front)
+
+many_by : {X : Type 0} (starts : List Terminal → Bool) (one : List Terminal → Result (X × List Terminal) ℕ) (front : List X) (n len : ℕ) (ts : List Terminal) (b : Bool) → n < len → starts ts ≡ b
+    → with_front front (many_at starts one (len - n) ts) ≡ cond b (one ts >>= λ x. with_front (front ++ x.0 ∷ []) (many_at starts one (len - (n + 1)) x.1)) (Ok (front, ts))
+many_by {X} starts one front n len ts b lt e =
+    many_open starts one front n len ts lt
+    ∙ ap (λ (b : Bool). cond {A = Result (List X × List Terminal) ℕ} b (one ts >>= λ x. with_front (front ++ x.0 ∷ []) (many_at starts one (len - (n + 1)) x.1)) (Ok (front, ts))) e
+
+-- where no more begins, what was found is all
+pub many_stopped : {X : Type 0} (starts : List Terminal → Bool) (one : List Terminal → Result (X × List Terminal) ℕ) (front : List X) (n len : ℕ) (ts : List Terminal) → n < len → starts ts ≡ false
+    → with_front front (many_at starts one (len - n) ts) ≡ Ok (front, ts)
+many_stopped starts one front n len ts lt e = many_by starts one front n len ts false lt e
+
+-- the fault of one more is the fault of all
+pub many_failed : {X : Type 0} (starts : List Terminal → Bool) (one : List Terminal → Result (X × List Terminal) ℕ) (front : List X) (n len : ℕ) (ts : List Terminal) (fault : ReadFault) → n < len → starts ts ≡ true → Fails fault (one ts)
+    → Fails fault (with_front front (many_at starts one (len - n) ts))
+many_failed {X} starts one front n len ts fault lt e fails =
+    subst (λ (r : Result (List X × List Terminal) ℕ). Fails fault r) (sym (many_by starts one front n len ts true lt e))
+    (fails_first fault (one ts) (λ x. with_front (front ++ x.0 ∷ []) (many_at starts one (len - (n + 1)) x.1)) fails)
+
+-- one more is found
+pub many_more : {X : Type 0} (starts : List Terminal → Bool) (one : List Terminal → Result (X × List Terminal) ℕ) (front : List X) (n len : ℕ) (ts after : List Terminal) (x : X) → n < len → starts ts ≡ true → one ts ≡ Ok (x, after)
+    → with_front (front ++ x ∷ []) (many_at starts one (len - (n + 1)) after) ≡ with_front front (many_at starts one (len - n) ts)
+many_more {X} starts one front n len ts after x lt e read =
+    sym (many_by starts one front n len ts true lt e
+    ∙ ap (λ (r : Result (X × List Terminal) ℕ). r >>= λ x. with_front (front ++ x.0 ∷ []) (many_at starts one (len - (n + 1)) x.1)) read)

@@ -70,6 +70,22 @@ fn read_all<F: Read>(file: &mut F, most: usize, into: &mut Vec<u8>) -> Result<En
     Ok(End::More)
 }
 
+// Reads the file of this name, which fails where it can't be opened.
+fn read_named<R: rt::Files>(
+    runtime: &R,
+    name: &str,
+    most: usize,
+    into: &mut Vec<u8>,
+) -> Result<End, ReadFail>
+    ensures whole_within { OnWhole result (vec_len into.new ≤ most) }
+    ensures more_empty { OnMore result (into.new.items ≡ []) }
+{
+    match fs::open(runtime, name) {
+        Ok(mut file) => read_all(&mut file, most, into),
+        Err(_) => Err(ReadFail::Failed),
+    }
+}
+
 impl<R: rt::Files> Files for RealFiles<R> {
     ghost held = { λ _. None };
 
@@ -80,14 +96,14 @@ impl<R: rt::Files> Files for RealFiles<R> {
     ghost steady_is_told = { λ _ never. never };
 
     fn read(&mut self, name: &str, most: usize, into: &mut Vec<u8>) -> Result<End, ReadFail> {
-        let outcome = match fs::open(&self.runtime, name) {
-            Ok(mut file) => read_all(&mut file, most, into),
-            Err(_) => Err(ReadFail::Failed),
-        };
-        if let Err(ReadFail::Failed) = outcome {
-            self.faults = raise(self.faults);
+        match read_named(&self.runtime, name, most, into) {
+            Ok(end) => Ok(end),
+            Err(ReadFail::NoMemory) => Err(ReadFail::NoMemory),
+            Err(ReadFail::Failed) => {
+                self.faults = raise(self.faults);
+                Err(ReadFail::Failed)
+            }
         }
-        outcome
     }
 }
 

@@ -21,8 +21,7 @@ use bloom_eval::Component;
 use blz_outside::Files;
 use command_checks::{Reply, Stop, data_file, stop_at, valid_topology};
 use report_lines::{MakeKind, Refusal};
-use sched_run::Net;
-use sched_run::{Made, MakeFault, make_numbered};
+use sched_run::{Made, MakeFault, Net, make_numbered};
 use std::alloc::{AllocError, Global};
 use topo_forms::{Data, Valid};
 

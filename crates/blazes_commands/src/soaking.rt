@@ -19,8 +19,7 @@ use blazes_words::SoakWords;
 use bloom_eval::Component;
 use command_checks::{Reply, Stop, done, stop_at};
 use report_print::soak_text;
-use sched_run::Net;
-use sched_run::{Made, MakeFault, make_numbered};
+use sched_run::{Made, MakeFault, Net, make_numbered};
 use std::alloc::{AllocError, Global};
 use topo_forms::{Data, Valid};
 

@@ -68,7 +68,6 @@ later_same {X = X} first now after i put later k le = ap (λ (l : List X). slice
 -- ---- what one rule adds
 
 module _ (X : Type 0) (cs : List Collection) (forms : List RuleForm) (rules : List NumberedRule) (numbered : AreNumbered cs forms rules) (sets : Sets) (head i : ℕ) (rule : NumberedRule) (lt : i < length rules) (is : rule ≡ get_or rules i rule) where
-
   at : IsFormAt cs forms i rule
   at = form_at cs forms rules i rule numbered lt is
 

@@ -49,7 +49,7 @@ fn feeders(alloc: Global, kept: &Kept, component: usize) -> Result<u64, AllocErr
 }
 
 /// The components that feed each component.
-#[tactic(auto, using(topo_forms::proofs::Lists::Tables::below_more))]
+#[tactic(auto, using(blz_value::proofs::Ranges::map_below_more))]
 pub(crate) fn all_feeders(alloc: Global, kept: &Kept) -> Result<Vec<u64>, AllocError>
     ensures { IfOk result (λ sets. sets.items ≡ spec.all_feeders (view_kept kept.now)) }
 {

@@ -62,7 +62,7 @@ fn number_of(regions: &[u64], component: usize) -> u32
     place_of(regions, component).unwrap_or(regions.len()) as u32
 }
 
-#[tactic(auto, using(topo_forms::proofs::Lists::Tables::below_more))]
+#[tactic(auto, using(blz_value::proofs::Ranges::map_below_more))]
 fn numbers_of(alloc: Global, regions: &[u64], count: usize) -> Result<Vec<u32>, AllocError>
     requires { length regions.now ≤ 64 }
     ensures { IfOk result (λ numbers. numbers.items ≡ map (λ c. position_or_len (graph.is_in c) regions.now) (below count)) }

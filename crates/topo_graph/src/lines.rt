@@ -47,7 +47,7 @@ fn streams_into(alloc: Global, kept: &Kept, component: usize) -> Result<u64, All
 }
 
 /// The streams into each component.
-#[tactic(auto, using(topo_forms::proofs::Lists::Tables::below_more))]
+#[tactic(auto, using(blz_value::proofs::Ranges::map_below_more))]
 pub(crate) fn all_into(alloc: Global, kept: &Kept) -> Result<Vec<u64>, AllocError>
     ensures { IfOk result (λ sets. sets.items ≡ spec.all_into (view_kept kept.now)) }
 {
@@ -105,7 +105,7 @@ fn line_of(
 }
 
 /// Each stream, as dependencies look at it.
-#[tactic(auto, using(topo_forms::proofs::Lists::Tables::below_more))]
+#[tactic(auto, using(blz_value::proofs::Ranges::map_below_more))]
 pub(crate) fn lines_of(
     alloc: Global,
     kept: &Kept,

@@ -173,7 +173,7 @@ fn path_of(
 }
 
 /// Each stream, as carried seals look at it.
-#[tactic(auto, using(topo_forms::proofs::Lists::Tables::below_more))]
+#[tactic(auto, using(blz_value::proofs::Ranges::map_below_more))]
 pub(crate) fn paths_of(
     alloc: Global,
     kept: &Kept,

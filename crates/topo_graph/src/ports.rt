@@ -93,7 +93,7 @@ fn row_of(alloc: Global, kept: &Kept, component: usize) -> Result<Items<u64>, Al
 }
 
 /// The streams into each port of each component.
-#[tactic(auto, using(topo_forms::proofs::Lists::Tables::below_more))]
+#[tactic(auto, using(blz_value::proofs::Ranges::map_below_more))]
 pub(crate) fn all_rows(alloc: Global, kept: &Kept) -> Result<Vec<Items<u64>>, AllocError>
     ensures { IfOk result (λ rows. rows.items ≡ spec.all_rows (view_kept kept.now)) }
 {

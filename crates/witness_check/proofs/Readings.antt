@@ -36,7 +36,6 @@ module _ {X : Type 0} (v : View) (b : Books) (of : Data → Execution → ℕ �
 -- ---- a net of this topology
 
 module _ (v own : View) (b : Books) (same : own ≡ v) where
-
   -- what is read of the contents of a sending replica
   pub contents_read : (stream replica : ℕ) (set : List Row) → replica < stream_replicas v stream
       → (replica < stream_replicas own stream → IsRead own b (λ given x. contents (wiring_of own) given x stream replica) set)

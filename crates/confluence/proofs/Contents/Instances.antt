@@ -56,7 +56,6 @@ module _ (v : View) (d : Data) (x : Execution) (valid : IsValid v) (s c o j : �
       let lt = inside.1 in omega (arith, long, lt)
 
   module _ (program : Program) (body : program_of v c ≡ Some program) (unordered : is_order v c ≡ false) where
-
     pub not_order : is_order_mode i.mode ≡ false
     not_order = ap (λ (z : Instance). is_order_mode z.mode) instance_is ∙ unordered
 

@@ -26,7 +26,6 @@ use Rattle.label_walk.proofs.Labelling.Computed.{from_computed}
 use Rattle.label_walk.proofs.Labelling.OneLabelling.{Feeds, Agree, same_by}
 
 module _ (v : View) (valid : IsValid v) where
-
   few : length v.components ≤ 64
   few = omega (arith, valid.numbered.few_components)
 

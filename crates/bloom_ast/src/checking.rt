@@ -7,7 +7,7 @@ ghost use Rattle.bloom_forms.specs.Faults as spec;
 ghost use Rattle.bloom_forms.specs.Form.{form_of, rule_forms};
 ghost use Rattle.bloom_forms.specs.HeadOrder as order;
 ghost use Rattle.bloom_forms.specs.HeadOrder.{heads_of};
-ghost use Rattle.bloom_forms.specs.Reads.{facts_of as facts_in};
+ghost use Rattle.bloom_forms.specs.Reads.{facts_of as facts_in, keys_of};
 ghost use Rattle.bloom_forms.specs.Reserved.{HasOwnNames};
 ghost use Rattle.bloom_forms.specs.declared.fault.ModuleKind.TheVariants.{TooMany};
 
@@ -164,6 +164,19 @@ fn size_fault(
     kind_fault(alloc, ModuleKind::TooMany, collections, &none, rules)
 }
 
+// The heads in order, by what the rules say of the collections.
+fn heads_by(
+    alloc: Global,
+    collections: &[Collection],
+    facts: &Facts,
+) -> Result<Vec<u32>, AllocError>
+    requires { length collections.now ≤ 64 }
+    ensures { IfOk result (λ heads. heads.items ≡ order.heads_on (order.key_at (keys_of collections.now facts.now.all)) 0 collections.now []) }
+{
+    let keys = keys(alloc, collections, facts)?;
+    heads_in(alloc, collections, &keys)
+}
+
 // The heads in order, or the first fault of a kind after TooMany.
 fn later(alloc: Global, collections: &[Collection], rules: &[Rule]) -> Result<Vec<u32>, CheckFault>
     requires few { length collections.now ≤ 64 }
@@ -179,13 +192,10 @@ fn later(alloc: Global, collections: &[Collection], rules: &[Rule]) -> Result<Ve
         ModuleKind::MomentaryMix,
         ModuleKind::MixedScratch,
     ];
-    let fault = fault_in(alloc, &kinds, collections, &facts, rules)?;
-    if let Some(fault) = fault {
-        return Err(CheckFault::Bad(fault));
+    match fault_in(alloc, &kinds, collections, &facts, rules)? {
+        Some(fault) => Err(CheckFault::Bad(fault)),
+        None => Ok(heads_by(alloc, collections, &facts)?),
     }
-    let keys = keys(alloc, collections, &facts)?;
-    let heads = heads_in(alloc, collections, &keys)?;
-    Ok(heads)
 }
 
 // The heads of a module without fault in order, or its first fault.

@@ -6,4 +6,5 @@ pub mod Widths
 pub mod Taking
 pub mod Runnable
 pub mod Emptied
+pub mod Ending
 pub mod CountedSame

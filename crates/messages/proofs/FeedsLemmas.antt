@@ -1,9 +1,14 @@
 -- What is said of feeds by their views, as one of them changes or all are cleared.
-use Rattle.std.proofs.Common.{◌≡◌, ◌≢◌, refl, ap, sym, subst, set, ◌∙◌, ℕ, zero, suc, ◌+◌, ◌<◌, ◌≤◌, ◌&&◌, ◌||◌, Bool, List, [], ◌∷◌, length, map, get_or, arith, inl, inr}
+use Rattle.std.proofs.Common.{◌≡◌, ◌≢◌, refl, ap, sym, subst, set, ◌∙◌, ℕ, zero, suc, ◌+◌, ◌<◌, ◌≤◌, ◌&&◌, ◌||◌, Bool, List, [], ◌∷◌, ◌++◌, length, map, get_or, take, arith, inl, inr}
 use Rattle.std.specs.Prelude.{Result, Ok, Err, OnOk}
 use Rattle.std.specs.List.{list_any, list_all}
 use Rattle.std.proofs.lemmas.Bool.Decides.{eqb_tells}
-use Rattle.std.proofs.lemmas.List.{get_or-set_same, get_or-set_other}
+use Rattle.std.proofs.lemmas.Bool.{cases_eq}
+use Rattle.std.proofs.lemmas.List.{get_or-set_same, get_or-set_other, get_or_append_left, get_or-append-add, length-append, take_more}
+use Rattle.messages.specs.Code.Hearing.{IsEmpty, AreEmpty}
+use Rattle.messages.specs.Feeds.{carries_at}
+use Rattle.messages.specs.Ports.{PortKey}
+use Rattle.messages.specs.declared.feed.Feed.{Feed}
 
 module _ {X Y : Type 0} (f : X → Y) where
   pub views-set : (xs : List X) (k : ℕ) (x : X) → map f (set xs k x) ≡ set (map f xs) k (f x)
@@ -57,3 +62,29 @@ others_more first now n f others k d above = get_or-set_other now n k f d (let a
 pub on_ok : {A E P Q : Type 0} (r : Result A E) → (P → Q) → OnOk r P → OnOk r Q
 on_ok (Ok x) f p = f p
 on_ok (Err e) f p = p
+
+-- ---- feeds on which nothing came
+
+one_empty_more : (ports : List PortKey) (feed_ports : List ℕ) (feeds : List Feed) (port : ℕ) (feed : Feed) → AreEmpty ports feed_ports feeds → IsEmpty port (carries_at ports port) feed → AreEmpty ports (feed_ports ++ port ∷ []) (feeds ++ feed ∷ [])
+one_empty_more ports feed_ports feeds port feed before empty =
+    let many : length (feeds ++ feed ∷ []) ≡ length feeds + 1 = length-append feeds (feed ∷ []) in
+    let more : length (feed_ports ++ port ∷ []) ≡ length feed_ports + 1 = length-append feed_ports (port ∷ []) in
+    record {
+      count = omega (arith, many, more, before.count);
+      each = λ k d lt. elim (cases_eq k (length feeds)) [
+        | inl last ↦
+            let here : get_or (feed_ports ++ port ∷ []) k 0 ≡ port = ap (λ j. get_or (feed_ports ++ port ∷ []) j 0) (omega (arith, last, before.count)) ∙ get_or-append-add feed_ports (port ∷ []) 0 0 in
+            let there : get_or (feeds ++ feed ∷ []) k d ≡ feed = ap (λ j. get_or (feeds ++ feed ∷ []) j d) (omega (arith, last)) ∙ get_or-append-add feeds (feed ∷ []) 0 d in
+            subst (λ (X : Type 0). X) (λ j. IsEmpty (sym here j) (carries_at ports (sym here j)) (sym there j)) empty
+        | inr other ↦
+            let below : k < length feeds = omega (arith, many, lt, other) in
+            let here : get_or (feed_ports ++ port ∷ []) k 0 ≡ get_or feed_ports k 0 = get_or_append_left feed_ports (port ∷ []) 0 k (omega (arith, below, before.count)) in
+            let there : get_or (feeds ++ feed ∷ []) k d ≡ get_or feeds k d = get_or_append_left feeds (feed ∷ []) d k below in
+            subst (λ (X : Type 0). X) (λ j. IsEmpty (sym here j) (carries_at ports (sym here j)) (sym there j)) (before.each k d below)
+      ];
+    }
+
+-- one more of the next port
+pub empty_more : (ports : List PortKey) (feed_ports : List ℕ) (i : ℕ) (feeds longer : List Feed) (feed : Feed) → i < length feed_ports → AreEmpty ports (take i feed_ports) feeds → IsEmpty (get_or feed_ports i 0) (carries_at ports (get_or feed_ports i 0)) feed → longer ≡ feeds ++ feed ∷ [] → AreEmpty ports (take (i + 1) feed_ports) longer
+empty_more ports feed_ports i feeds longer feed lt before empty pushed =
+    rw (pushed, take_more feed_ports i 0 lt) (one_empty_more ports (take i feed_ports) feeds (get_or feed_ports i 0) feed before empty)

@@ -4,7 +4,8 @@ ghost use Rattle.std.specs.Option.{option_map, option_map_or, option_and_then};
 ghost use Rattle.blz_value.specs.Operators.{cells};
 ghost use Rattle.messages.specs.Ports.{port_keys};
 
-use blz_value::{Items, Record, Value};
+use crate::keys::value_in;
+use blz_value::{Items, Record};
 use std::alloc::{AllocError, Global};
 
 /// A port: the places of the key among its columns, where it has them all, and whether it carries
@@ -21,11 +22,7 @@ fn cells_of(alloc: Global, row: &Record, columns: &[usize]) -> Result<Record, Al
 {
     let mut values = Vec::with_capacity(alloc, columns.len())?;
     for column in columns {
-        let value = match row.values().get(*column) {
-            Some(value) => value.copy()?,
-            None => Value::Int(0),
-        };
-        values.push(value)?;
+        values.push(value_in(row, *column)?)?;
     }
     Ok(Record::from_values(values))
 }

@@ -220,6 +220,32 @@ fn push_agg(agg: &NamedAgg, into: &mut Vec<u8>) -> Result<(), AllocError>
 
 // ---- expressions
 
+// The end of a select, behind its part.
+fn push_test(pred: &Pred, into: &mut Vec<u8>) -> Result<(), AllocError>
+    ensures { OnOk result (into.new.items ≡ into.old.items ++ spec.text_of (printing.test_text (formula_of pred.now))) }
+{
+    into.extend_from_slice(b", ")?;
+    push_pred(pred, Place::Whole, into)?;
+    Ok(into.push(b')')?)
+}
+
+// The end of a project, behind its part.
+fn push_projected(items: &[(Str, Str)], into: &mut Vec<u8>) -> Result<(), AllocError>
+    ensures { OnOk result (into.new.items ≡ into.old.items ++ spec.text_of (printing.projected_text items.now)) }
+{
+    into.extend_from_slice(b", ")?;
+    push_items(items, into)?;
+    Ok(into.push(b')')?)
+}
+
+// The end of a join or a notin, behind its second part.
+fn push_matched(pairs: &[(Str, Str)], into: &mut Vec<u8>) -> Result<(), AllocError>
+    ensures { OnOk result (into.new.items ≡ into.old.items ++ spec.text_of (printing.matched_text pairs.now)) }
+{
+    push_pairs(pairs, into)?;
+    Ok(into.push(b')')?)
+}
+
 // The end of a group, behind its part.
 fn push_named_agg(
     keys: &[Str],
@@ -229,6 +255,7 @@ fn push_named_agg(
 ) -> Result<(), AllocError>
     ensures { OnOk result (into.new.items ≡ into.old.items ++ spec.text_of (printing.named_agg_text keys.now agg.now name.now)) }
 {
+    into.extend_from_slice(b", ")?;
     push_keys(keys, into)?;
     into.extend_from_slice(b", ")?;
     push_agg(agg, into)?;
@@ -241,6 +268,7 @@ fn push_named_agg(
 fn push_bound(keys: &[Str], bound: i64, into: &mut Vec<u8>) -> Result<(), AllocError>
     ensures { OnOk result (into.new.items ≡ into.old.items ++ spec.text_of (printing.bound_text keys.now bound)) }
 {
+    into.extend_from_slice(b", ")?;
     push_keys(keys, into)?;
     into.extend_from_slice(b", ")?;
     write_value(&Value::Int(bound), into)?;
@@ -255,43 +283,35 @@ pub(crate) fn push_expr(expr: &Expr, into: &mut Vec<u8>) -> Result<(), AllocErro
         Expr::Select(part, pred) => {
             into.extend_from_slice(b"select(")?;
             push_expr(part, into)?;
-            into.extend_from_slice(b", ")?;
-            push_pred(pred, Place::Whole, into)?;
-            Ok(into.push(b')')?)
+            push_test(pred, into)
         }
         Expr::Project(part, items) => {
             into.extend_from_slice(b"project(")?;
             push_expr(part, into)?;
-            into.extend_from_slice(b", ")?;
-            push_items(items.as_slice(), into)?;
-            Ok(into.push(b')')?)
+            push_projected(items.as_slice(), into)
         }
         Expr::Join(left, right, pairs) => {
             into.extend_from_slice(b"join(")?;
             push_expr(left, into)?;
             into.extend_from_slice(b", ")?;
             push_expr(right, into)?;
-            push_pairs(pairs.as_slice(), into)?;
-            Ok(into.push(b')')?)
+            push_matched(pairs.as_slice(), into)
         }
         Expr::NotIn(left, right, pairs) => {
             into.extend_from_slice(b"notin(")?;
             push_expr(left, into)?;
             into.extend_from_slice(b", ")?;
             push_expr(right, into)?;
-            push_pairs(pairs.as_slice(), into)?;
-            Ok(into.push(b')')?)
+            push_matched(pairs.as_slice(), into)
         }
         Expr::Group(part, keys, agg, name) => {
             into.extend_from_slice(b"group(")?;
             push_expr(part, into)?;
-            into.extend_from_slice(b", ")?;
             push_named_agg(keys.as_slice(), agg, name, into)
         }
         Expr::AtLeast(part, keys, bound) => {
             into.extend_from_slice(b"atleast(")?;
             push_expr(part, into)?;
-            into.extend_from_slice(b", ")?;
             push_bound(keys.as_slice(), *bound, into)
         }
     }

@@ -1,7 +1,7 @@
 -- An ear that heard a batch stands for what was heard with it, by the lists and the pool from which it came and by later ones.
-use Rattle.std.proofs.Common.{◌≡◌, ◌<◌, ℕ, zero, suc, Bool, true, false, Some, List, [], ◌∷◌, ◌++◌, length, get_or, slice_get, refl, ap, ◌∙◌, sym, subst, inl, inr, arith}
+use Rattle.std.proofs.Common.{◌≡◌, ◌<◌, ℕ, zero, suc, Bool, true, false, Some, List, [], ◌∷◌, ◌++◌, length, get_or, slice_get, refl, ap, ◌∙◌, sym, subst, inl, inr, arith, Result, Ok, Err, IfOk, set}
 use Rattle.std.specs.List.{All}
-use Rattle.std.proofs.lemmas.Option.{slice_get_within, get_or_from_slice_get}
+use Rattle.std.proofs.lemmas.Option.{slice_get_within, get_or_from_slice_get, same_Some, slice_get_read}
 use Rattle.blz_value.specs.Members.{Has}
 use Rattle.blz_value.specs.Record.{Row}
 use Rattle.blz_value.proofs.Membership.{Has-get_or, Has-append_left, Has-append_right, Has-append_cases, Has-from_map, All-of_member}
@@ -23,7 +23,7 @@ use Rattle.messages.specs.declared.message.Message.{Message as IdMessage}
 use Rattle.inbox.proofs.Keeping.Later.{stands_later, keeps_later}
 use Rattle.messages.specs.Lists.{Listed, read_lists}
 use Rattle.sched_run.specs.Net.{KnowsHeard, ShowsEar, ShowsSeat, list_on}
-use Rattle.sched_run.specs.Code.Hearing.{EarCanHear, InboxHears, KnowsMore, EarHears, SeatHears}
+use Rattle.sched_run.specs.Code.Hearing.{EarCanHear, InboxHears, KnowsMore, EarHears, SeatHears, OneHears}
 use Rattle.sched_run.specs.Code.Parts.{HaveIndexes}
 use Rattle.sched_run.specs.declared.seated.Ear.{Ear}
 use Rattle.sched_run.specs.declared.seated.Ear.TheVariants.{Hears, Takes}
@@ -139,3 +139,15 @@ module _ (v : View) (l : Listed) (c r : ℕ) (seat : Seat) (pairs : List (ℕ ×
         feeds = hears.feeds ∙ shows.feeds;
         ear = ear_after was.ear now.ear shows.ear hears.ear;
       }
+
+-- the instance at a place has another ear, with which it heard, and keeps all else
+pub heard_there : {X E : Type 0} (records : List Row) (batch : List (ℕ × IdMessage)) (indexes : List (ℕ × ℕ)) (r : Result X E) (off : X → SetOff) (place : ℕ) (seats : List Seated) (was : Seated) (next : Ear) → place < length seats → was ≡ get_or seats place was
+    → IfOk r (λ told. EarHears records batch indexes (off told) was.ear next) → IfOk r (λ told. OneHears records batch indexes (off told) place seats (set seats place (record { outlets = was.outlets; feeds = was.feeds; ear = next })))
+heard_there records batch indexes (Ok told) off place seats was next inside at hears = record {
+  seat = record { outlets = was.outlets; feeds = was.feeds; ear = next };
+  changed = refl;
+  hears = λ before stood.
+      let same : before ≡ was = same_Some before was (sym stood ∙ slice_get_read seats (length seats) place was refl inside at) in
+      subst (λ (b : Seated). SeatHears records batch indexes (off told) b (record { outlets = was.outlets; feeds = was.feeds; ear = next })) (sym same) (record { outlets = refl; feeds = refl; ear = hears });
+}
+heard_there records batch indexes (Err fault) off place seats was next inside at hears = tt

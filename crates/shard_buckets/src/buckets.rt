@@ -1,5 +1,5 @@
 //! The tests of the buckets of a column.
-ghost use Rattle.std.specs.Prelude.{◌≡◌, ◌∷◌, map, IfOk};
+ghost use Rattle.std.specs.Prelude.{◌≡◌, ◌++◌, map, IfOk, OnOk};
 ghost use Rattle.bloom_forms.specs.Form.{formula_of};
 ghost use Rattle.bloom_forms.specs.Shards.{below_bound, buckets, from_bound};
 ghost use Rattle.bloom_forms.specs.Query.Formula.{both, compare};
@@ -42,16 +42,16 @@ fn between(alloc: Global, column: &Str, bound: i64, next: i64) -> Result<Pred, A
     Ok(Pred::And(from, below))
 }
 
-// The tests of the buckets of one bound and those after it.
-fn tests_from(
+// Puts the tests of the buckets of one bound and of those after it behind other tests.
+fn push_tests(
     alloc: Global,
     column: &Str,
     first: i64,
     bounds: &[i64],
-) -> Result<Vec<Pred>, AllocError>
-    ensures { IfOk result (λ tests. map formula_of tests.items ≡ buckets column.now first bounds.now) }
+    tests: &mut Vec<Pred>,
+) -> Result<(), AllocError>
+    ensures { OnOk result (map formula_of tests.new.items ≡ map formula_of tests.old.items ++ buckets column.now first bounds.now) }
 {
-    let mut tests = Vec::new(alloc);
     tests.push(below_bound(column, first)?)?;
     let mut bound = first;
     for next in bounds {
@@ -59,7 +59,7 @@ fn tests_from(
         bound = *next;
     }
     tests.push(from_bound(column, bound)?)?;
-    Ok(tests)
+    Ok(())
 }
 
 /// The tests of the buckets in order: below the first bound, from each up to the next, and from the
@@ -67,8 +67,9 @@ fn tests_from(
 pub fn bucket_tests(alloc: Global, column: &Str, bounds: &[i64]) -> Result<Vec<Pred>, AllocError>
     ensures { IfOk result (λ tests. map formula_of tests.items ≡ spec.bucket_tests column.now bounds.now) }
 {
-    match bounds {
-        [] => Ok(Vec::new(alloc)),
-        [first, others @ ..] => tests_from(alloc, column, *first, others),
+    let mut tests = Vec::new(alloc);
+    if let [first, others @ ..] = bounds {
+        push_tests(alloc, column, *first, others, &mut tests)?;
     }
+    Ok(tests)
 }

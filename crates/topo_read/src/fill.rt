@@ -59,7 +59,7 @@ fn values<T: IntoValue>(alloc: Global, items: &[T]) -> Result<Vec<Value>, AllocE
 }
 
 /// A list as a value.
-pub(crate) fn list<T: IntoValue>(alloc: Global, items: &[T]) -> Result<Value, AllocError>
+fn list<T: IntoValue>(alloc: Global, items: &[T]) -> Result<Value, AllocError>
     ensures { IfOk result (λ value. view value ≡ spec.list_data T.written items.now) }
 {
     Ok(Value::Array(values(alloc, items)?))
@@ -79,6 +79,42 @@ pub(crate) fn put(
     Ok(())
 }
 
+/// Puts a text at a key.
+pub(crate) fn put_text(
+    alloc: Global,
+    table: &mut Table,
+    key: &str,
+    words: &str,
+) -> Result<(), AllocError>
+    ensures { OnOk result (table_view table.new ≡ spec.with_member key.now (string words.now) (table_view table.old)) }
+{
+    put(alloc, table, key, text(alloc, words)?)
+}
+
+/// Puts an item at a key.
+pub(crate) fn put_item<T: IntoValue>(
+    alloc: Global,
+    table: &mut Table,
+    key: &str,
+    item: &T,
+) -> Result<(), AllocError>
+    ensures { OnOk result (table_view table.new ≡ spec.with_member key.now (T.written item.now) (table_view table.old)) }
+{
+    put(alloc, table, key, item.into_value(alloc)?)
+}
+
+/// Puts a list at a key, an empty one too.
+pub(crate) fn put_any_list<T: IntoValue>(
+    alloc: Global,
+    table: &mut Table,
+    key: &str,
+    items: &[T],
+) -> Result<(), AllocError>
+    ensures { OnOk result (table_view table.new ≡ spec.with_member key.now (spec.list_data T.written items.now) (table_view table.old)) }
+{
+    put(alloc, table, key, list(alloc, items)?)
+}
+
 /// Puts a list at a key, and nothing where it is empty.
 pub(crate) fn put_list<T: IntoValue>(
     alloc: Global,
@@ -91,5 +127,5 @@ pub(crate) fn put_list<T: IntoValue>(
     if items.is_empty() {
         return Ok(());
     }
-    put(alloc, table, key, list(alloc, items)?)
+    put_any_list(alloc, table, key, items)
 }

@@ -10,7 +10,9 @@ ghost use Rattle.topo_read.specs.Reading.{IsReading};
 ghost use Rattle.topo_read.specs.Written as spec;
 ghost use Rattle.topo_forms.specs.Allowed.{IsAllowed};
 
-use crate::fill::{IntoValue, list, number, put, put_list, table_value, text};
+use crate::fill::{
+    IntoValue, number, put, put_any_list, put_item, put_list, put_text, table_value,
+};
 use blz_value::Faithful;
 use std::alloc::{AllocError, Global};
 use toml::{Table, Value};
@@ -42,20 +44,15 @@ fn put_types(alloc: Global, table: &mut Table, types: &[ColumnType]) -> Result<(
     if are_any(types) {
         return Ok(());
     }
-    put(alloc, table, "types", list(alloc, types)?)
+    put_any_list(alloc, table, "types", types)
 }
 
 fn source_table(alloc: Global, source: &SourceEntry) -> Result<Table, AllocError>
     ensures { IfOk result (λ table. table_view table ≡ table_with (spec.source_fields source.now)) }
 {
     let mut table = Table::new(alloc);
-    put(alloc, &mut table, "name", source.name.into_value(alloc)?)?;
-    put(
-        alloc,
-        &mut table,
-        "columns",
-        list(alloc, source.columns.as_slice())?,
-    )?;
+    put_item(alloc, &mut table, "name", &source.name)?;
+    put_any_list(alloc, &mut table, "columns", source.columns.as_slice())?;
     put_types(alloc, &mut table, source.types.as_slice())?;
     put_list(alloc, &mut table, "seal", source.seal.as_slice())?;
     put_list(alloc, &mut table, "to", source.to.as_slice())?;
@@ -79,13 +76,8 @@ fn side_table(alloc: Global, side: &Side) -> Result<Table, AllocError>
     ensures { IfOk result (λ table. table_view table ≡ table_with (spec.side_fields side.now)) }
 {
     let mut table = Table::new(alloc);
-    put(alloc, &mut table, "name", side.name.into_value(alloc)?)?;
-    put(
-        alloc,
-        &mut table,
-        "columns",
-        list(alloc, side.columns.as_slice())?,
-    )?;
+    put_item(alloc, &mut table, "name", &side.name)?;
+    put_any_list(alloc, &mut table, "columns", side.columns.as_slice())?;
     Ok(table)
 }
 
@@ -101,9 +93,9 @@ fn declared_table(alloc: Global, declared: &Declared) -> Result<Table, AllocErro
     ensures { IfOk result (λ table. table_view table ≡ table_with (spec.declared_fields declared.now)) }
 {
     let mut table = Table::new(alloc);
-    put(alloc, &mut table, "from", declared.from.into_value(alloc)?)?;
-    put(alloc, &mut table, "to", declared.to.into_value(alloc)?)?;
-    put(alloc, &mut table, "note", declared.note.into_value(alloc)?)?;
+    put_item(alloc, &mut table, "from", &declared.from)?;
+    put_item(alloc, &mut table, "to", &declared.to)?;
+    put_item(alloc, &mut table, "note", &declared.note)?;
     put_list(alloc, &mut table, "gate", declared.gate.as_slice())?;
     Ok(table)
 }
@@ -121,18 +113,18 @@ fn put_stock(alloc: Global, table: &mut Table, stock: &Stock) -> Result<(), Allo
 {
     match stock {
         Stock::Split { columns, split } => {
-            put(alloc, table, "stock", text(alloc, "split")?)?;
-            put(alloc, table, "columns", list(alloc, columns.as_slice())?)?;
-            put(alloc, table, "split", split.into_value(alloc)?)
+            put_text(alloc, table, "stock", "split")?;
+            put_any_list(alloc, table, "columns", columns.as_slice())?;
+            put_item(alloc, table, "split", split)
         }
         Stock::Latest { columns, keys } => {
-            put(alloc, table, "stock", text(alloc, "latest")?)?;
-            put(alloc, table, "columns", list(alloc, columns.as_slice())?)?;
-            put(alloc, table, "keys", list(alloc, keys.as_slice())?)
+            put_text(alloc, table, "stock", "latest")?;
+            put_any_list(alloc, table, "columns", columns.as_slice())?;
+            put_any_list(alloc, table, "keys", keys.as_slice())
         }
         Stock::Number { columns } => {
-            put(alloc, table, "stock", text(alloc, "number")?)?;
-            put(alloc, table, "columns", list(alloc, columns.as_slice())?)
+            put_text(alloc, table, "stock", "number")?;
+            put_any_list(alloc, table, "columns", columns.as_slice())
         }
     }
 }
@@ -141,7 +133,7 @@ fn put_body(alloc: Global, table: &mut Table, body: &Body) -> Result<(), AllocEr
     ensures { OnOk result (table_view table.new ≡ fold with_field (table_view table.old) (spec.body_fields body.now)) }
 {
     match body {
-        Body::Module(file) => put(alloc, table, "module", file.into_value(alloc)?),
+        Body::Module(file) => put_item(alloc, table, "module", file),
         Body::Stock(stock) => put_stock(alloc, table, stock),
         Body::None => Ok(()),
     }
@@ -161,9 +153,9 @@ fn put_mode(alloc: Global, table: &mut Table, mode: ModeName) -> Result<(), Allo
 {
     match mode {
         ModeName::Free => Ok(()),
-        ModeName::Pass => put(alloc, table, "mode", text(alloc, "pass")?),
-        ModeName::Seal => put(alloc, table, "mode", text(alloc, "seal")?),
-        ModeName::Order => put(alloc, table, "mode", text(alloc, "order")?),
+        ModeName::Pass => put_text(alloc, table, "mode", "pass"),
+        ModeName::Seal => put_text(alloc, table, "mode", "seal"),
+        ModeName::Order => put_text(alloc, table, "mode", "order"),
     }
 }
 
@@ -171,7 +163,7 @@ fn component_table(alloc: Global, component: &ComponentEntry) -> Result<Table, A
     ensures { IfOk result (λ table. table_view table ≡ table_with (spec.component_fields component.now)) }
 {
     let mut table = Table::new(alloc);
-    put(alloc, &mut table, "name", component.name.into_value(alloc)?)?;
+    put_item(alloc, &mut table, "name", &component.name)?;
     put_body(alloc, &mut table, &component.body)?;
     put_list(alloc, &mut table, "inputs", component.inputs.as_slice())?;
     put_list(alloc, &mut table, "outputs", component.outputs.as_slice())?;
@@ -199,8 +191,8 @@ fn stream_table(alloc: Global, stream: &StreamEntry) -> Result<Table, AllocError
     ensures { IfOk result (λ table. table_view table ≡ table_with (spec.stream_fields stream.now)) }
 {
     let mut table = Table::new(alloc);
-    put(alloc, &mut table, "name", stream.name.into_value(alloc)?)?;
-    put(alloc, &mut table, "from", stream.from.into_value(alloc)?)?;
+    put_item(alloc, &mut table, "name", &stream.name)?;
+    put_item(alloc, &mut table, "from", &stream.from)?;
     put_list(alloc, &mut table, "to", stream.to.as_slice())?;
     Ok(table)
 }
@@ -220,8 +212,8 @@ fn fd_table(alloc: Global, fd: &FdEntry) -> Result<Table, AllocError>
     ensures { IfOk result (λ table. table_view table ≡ table_with (spec.fd_fields fd.now)) }
 {
     let mut table = Table::new(alloc);
-    put(alloc, &mut table, "from", list(alloc, fd.from.as_slice())?)?;
-    put(alloc, &mut table, "to", list(alloc, fd.to.as_slice())?)?;
+    put_any_list(alloc, &mut table, "from", fd.from.as_slice())?;
+    put_any_list(alloc, &mut table, "to", fd.to.as_slice())?;
     Ok(table)
 }
 

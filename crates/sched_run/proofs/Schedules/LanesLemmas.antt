@@ -72,6 +72,14 @@ pub end_there : (v : View) (s n c p : ℕ) → IsValid v → s < length v.stream
 end_there v s n c p valid there within at =
     (valid.numbered.ends s (c, p) there (subst (λ (end : End). Has end (ends_of v s)) (sym at) (Has-get_or (ends_of v s) n (0, 0) within))).0
 
+-- the lanes of one end more
+pub lanes_more : {X : Type 0} (f : End → List X) (ends : List End) (n : ℕ) (end : End) (old so longer : List X) → n < length ends → end ≡ get_or ends n (0, 0) → so ≡ old ++ flat_map f (take n ends) → longer ≡ so ++ f end → longer ≡ old ++ flat_map f (take (n + 1) ends)
+lanes_more f ends n end old so longer within at is more =
+    let next : End = get_or ends n (0, 0) in
+    let all : flat_map f (take (n + 1) ends) ≡ flat_map f (take n ends) ++ f next =
+    ap (flat_map f) (take_more ends n (0, 0) within) ∙ flat_map-append f (take n ends) (next ∷ []) ∙ ap (λ l. flat_map f (take n ends) ++ l) (append-nil (f next)) in
+    more ∙ (λ j. is j ++ f (at j)) ∙ append_assoc old (flat_map f (take n ends)) (f next) ∙ ap (λ l. old ++ l) (sym all)
+
 -- ---- one stream more
 
 pub streams_more : {X : Type 0} (f : ℕ × Stream → List X) (streams : List Stream) (s : ℕ) → s < length streams

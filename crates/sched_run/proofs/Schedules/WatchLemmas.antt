@@ -1,8 +1,8 @@
 -- The places that are looked at again after a work are all that it may change.
-use Rattle.std.proofs.Common.{◌≡◌, ◌≢◌, ◌<◌, ◌+◌, ◌==◌, ◌&&◌, ◌++◌, ◌∷◌, ◌∙◌, ℕ, true, Option, None, Some, List, [], length, get_or, set, slice_get, refl, ap, sym, subst, inl, inr, arith}
+use Rattle.std.proofs.Common.{◌≡◌, ◌≢◌, ◌<◌, ◌+◌, ◌==◌, ◌&&◌, ◌++◌, ◌∷◌, ◌∙◌, ℕ, zero, suc, true, Option, None, Some, List, [], length, get_or, set, slice_get, replicate, refl, ap, sym, subst, inl, inr, arith}
 use Rattle.std.specs.List.{All}
 use Rattle.std.proofs.lemmas.Bool.{and_parts, cases_eq, eqb-true, false_from_ne_true, or_from}
-use Rattle.std.proofs.lemmas.List.{get_or-set_other, get_or-set_same, length-set}
+use Rattle.std.proofs.lemmas.List.{get_or-set_other, get_or-set_same, length-set, length-replicate, get_or-replicate}
 use Rattle.std.proofs.lemmas.Option.{slice_get_within}
 use Rattle.blz_value.specs.Members.{Has}
 use Rattle.blz_value.proofs.Membership.{Has-append_cases, Has-append_left, Has-append_right, Has-get_or}
@@ -74,6 +74,37 @@ sender_inside v lane c o valid is origin =
     feed_is : (l : Lane) → IsLane v l → ((lane_feed l).stream < length v.streams) × ((lane_feed l).sender < stream_replicas v (lane_feed l).stream)
     feed_is (Deliver d r n feed) d_is = (d_is.is.stream, d_is.is.sender)
     feed_is (Order d feed) d_is = (d_is.is.stream, d_is.is.sender)
+
+-- ---- empty lists
+
+none_listed : (count number : ℕ) → get_or (replicate {A = List ℕ} count []) number [] ≡ []
+none_listed zero number = refl
+none_listed (suc count) zero = refl
+none_listed (suc count) (suc number) = none_listed count number
+
+none_heard : (instances streams instance stream : ℕ) → heard_at (replicate instances (replicate streams [])) instance stream ≡ []
+none_heard zero streams instance stream = refl
+none_heard (suc instances) streams zero stream = none_listed streams stream
+none_heard (suc instances) streams (suc instance) stream = none_heard instances streams instance stream
+
+-- among no lanes there is none on which anything is heard
+pub heard_none : (v : View) (lanes : List Lane) (heard : List (List (List ℕ))) (instances streams : ℕ) → heard ≡ replicate instances (replicate streams []) → instances ≡ instance_count v → streams ≡ length v.streams → AreHeardBelow v lanes 0 heard
+heard_none v lanes heard instances streams is many wide = record {
+  count = record {
+    instances = ap (λ (l : List (List (List ℕ))). length l) is ∙ length-replicate {A = List (List ℕ)} instances (replicate streams []) ∙ many;
+    streams = λ k lt. ap (λ (l : List (List (List ℕ))). length (get_or l k [])) is ∙ ap (λ (l : List (List ℕ)). length l) (get_or-replicate instances k (replicate {A = List ℕ} streams []) [] (omega (arith, lt, many))) ∙ length-replicate {A = List ℕ} streams [] ∙ wide;
+  };
+  within = λ k s p h. absurd (subst (λ (l : List ℕ). Has p l) (ap (λ (l : List (List (List ℕ))). heard_at l k s) is ∙ none_heard instances streams k s) h);
+  each = λ p c r n feed less here. absurd (omega (arith, less));
+}
+
+-- nor one at which anything comes in
+pub readers_none : (v : View) (lanes : List Lane) (groups : List (List ℕ)) (instances : ℕ) → groups ≡ replicate instances [] → instances ≡ instance_count v → AreReadersBelow v lanes 0 groups
+readers_none v lanes groups instances is many = record {
+  count = ap (λ (l : List (List ℕ)). length l) is ∙ length-replicate {A = List ℕ} instances [] ∙ many;
+  within = λ k p h. absurd (subst (λ (l : List ℕ). Has p l) (ap (λ (l : List (List ℕ)). get_or l k []) is ∙ none_listed instances k) h);
+  each = λ p lane spot less here from. absurd (omega (arith, less));
+}
 
 -- ---- those on which instances hear
 

@@ -1,5 +1,5 @@
 -- Events that can be written: one more of them has names, and one line more is numbered on and can be printed.
-use Rattle.std.proofs.Common.{◌≡◌, ◌∙◌, ◌+◌, ◌<◌, ◌≤◌, ◌++◌, ℕ, suc, true, List, [], ◌∷◌, get_or, length, map, take, refl, sym, subst, ap, append-nil, arith}
+use Rattle.std.proofs.Common.{◌≡◌, ◌∙◌, ◌+◌, ◌<◌, ◌≤◌, ◌++◌, ℕ, suc, true, List, [], ◌∷◌, Result, Ok, Err, OnOk, get_or, length, map, take, refl, sym, subst, ap, append-nil, arith}
 use Rattle.std.specs.Prelude.{codes}
 use Rattle.std.specs.List.{All, enumerate_from, range_with_len}
 use Rattle.std.proofs.lemmas.Bool.{and_from}
@@ -23,7 +23,7 @@ use Rattle.sched_run.specs.Making.{CountFromOne, IsTextOf}
 use Rattle.sched_run.specs.ScheduleLines.{events_of, Line}
 use Rattle.sched_run.specs.Naming.{CanBeWritten, HasEventNames}
 use Rattle.sched_run.specs.Code.Works.{HasNames, work_event}
-use Rattle.sched_run.specs.Code.Written.{AreLines}
+use Rattle.sched_run.specs.Code.Written.{AreLines, AddsLine}
 use Rattle.sched_run.proofs.Schedules.WrittenSoFar.{AreLinesOf, IsTextSoFar}
 use Rattle.sched_run.specs.declared.making.lanes.Lane.TheVariants.{Deliver, Order}
 use Rattle.sched_run.specs.declared.making.works.Work.{Work}
@@ -144,6 +144,11 @@ numbered_alike lines is = numbered_from 1 lines is
 -- no line yet
 pub text_first : (v : View) (events : List NumberedEvent) (text : List ℕ) → text ≡ [] → IsTextSoFar v events 0 text
 text_first v events text none = record { lines = []; are = lines_first v events [] refl; is = none; small = All-nil (λ (line : Line). IsSmall line.1) }
+
+-- the line of an event, where memory sufficed
+pub adds_line : {A B : Type 0} (v : View) (event : Event) (old new : List ℕ) (named : NamedEvent) (r : Result A B) → numbered v named ≡ event → is_printable named ≡ true → OnOk r (IsSmall named) → OnOk r (new ≡ old ++ (event_text named ++ codes "\n")) → OnOk r (AddsLine v event old new)
+adds_line v event old new named (Ok done) is printable small text = record { named = named; event_is = is; printable = printable; small = small; text = text }
+adds_line v event old new named (Err fault) is printable small text = tt
 
 module _ (v : View) (events : List NumberedEvent) (count : ℕ) (text : List ℕ) (so : IsTextSoFar v events count text) where
   -- one more

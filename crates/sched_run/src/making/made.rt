@@ -7,7 +7,7 @@ ghost use Rattle.sched_run.specs.Made.{event_limit};
 ghost use Rattle.sched_run.specs.Making.{CountFromOne, IsTextOf};
 ghost use Rattle.sched_run.specs.ScheduleLines.{events_of};
 ghost use Rattle.sched_run.specs.Naming.{HasEventNames, CanBeWritten};
-ghost use Rattle.sched_run.specs.Code.Written.{AreLines};
+ghost use Rattle.sched_run.specs.Code.Written.{AreLines, AddsLine};
 
 use crate::making::naming::named;
 use crate::numbered::NumberedEvent;
@@ -51,7 +51,16 @@ fn lines_of(
     Ok(lines)
 }
 
-// The text of events, one a line; each has its names only until its line is written.
+// Adds the line of an event, which has its names only until it is written.
+fn push_named(valid: &Valid, event: &NumberedEvent, text: &mut Vec<u8>) -> Result<(), AllocError>
+    requires { HasEventNames valid.now.view (event_by_numbers event.now) }
+    ensures { OnOk result (AddsLine valid.now.view (event_by_numbers event.now) text.old.items text.new.items) }
+{
+    let line = named(valid, event)?;
+    push_line(&line, text)
+}
+
+// The text of events, one a line.
 fn text_of(alloc: Global, valid: &Valid, events: &[NumberedEvent]) -> Result<Vec<u8>, AllocError>
     requires few { length events.now ≤ event_limit }
     requires named { All (λ event. HasEventNames valid.now.view (event_by_numbers event)) events.now }
@@ -59,8 +68,7 @@ fn text_of(alloc: Global, valid: &Valid, events: &[NumberedEvent]) -> Result<Vec
 {
     let mut text = Vec::new(alloc);
     for event in events {
-        let line = named(valid, event)?;
-        push_line(&line, &mut text)?;
+        push_named(valid, event, &mut text)?;
     }
     Ok(text)
 }

@@ -7,14 +7,14 @@ use Rattle.sched_run.proofs.making.made.text_of.Goals as goal
 pub loop-event-init : goal.loop-event-init
 loop-event-init c = text_first _ _ _ c.new-text.ensures.items
 
-pub named-requires : goal.named-requires
-named-requires c =
+pub push_named-requires : goal.push_named-requires
+push_named-requires c =
     subst (λ event. HasEventNames c.args.valid.now.view (event_by_numbers event)) (sym c.event-item.is) (c.requires.named c.loop-event.event-index c.event-item.result c.loop-event-test.true)
 
 pub loop-event-preserved : goal.loop-event-preserved
 loop-event-preserved c =
-    text_more c.args.valid.now.view c.args.events.now c.loop-event.event-index c.loop-event.text.items c.loop-event.invariant _ c.event-item.result c.in_ok-line.line c.requires.few c.loop-event-test.true c.event-item.is c.in_ok-line.ensures.event c.in_ok-line.ensures.printable
-    c.in_ok-push_line.ensures.small c.in_ok-push_line.ensures.text
+    let line = c.in_ok-push_named.ensures in
+    text_more c.args.valid.now.view c.args.events.now c.loop-event.event-index c.loop-event.text.items c.loop-event.invariant c.push_named.new.text.items c.event-item.result line.named c.requires.few c.loop-event-test.true c.event-item.is line.event_is line.printable line.small line.text
 
 pub returns : goal.returns
 returns c = text_whole c.args.valid.now.view c.args.events.now c.loop-event.event-index c.loop-event.text.items c.loop-event.invariant c.loop-event-test.false

@@ -1,11 +1,11 @@
-use Rattle.std.proofs.Common.{◌<◌, ◌+◌, ◌++◌, ◌∷◌, ◌∙◌, ℕ, List, [], length, ap, get_or, set, refl, sym, subst, arith}
+use Rattle.std.proofs.Common.{◌≡◌, ◌<◌, ◌+◌, ◌++◌, ◌∷◌, ◌∙◌, ℕ, List, [], length, ap, get_or, set, refl, sym, subst, arith}
 use Rattle.std.proofs.lemmas.List.{get_or_default}
 use Rattle.std.proofs.lemmas.Option.{slice_get_read}
 use Rattle.topo_forms.specs.Feeds.{Feed}
 use Rattle.inbox.specs.Places.{instance_count}
 use Rattle.sched_run.specs.Code.Looking.{IsLane}
 use Rattle.sched_run.specs.Code.Watch.{AreHeardBelow}
-use Rattle.sched_run.proofs.Schedules.WatchLemmas.{heard_more, heard_pass, instance_inside}
+use Rattle.sched_run.proofs.Schedules.WatchLemmas.{heard_none, heard_more, heard_pass, instance_inside}
 use Rattle.sched_run.proofs.making.watch.heard_of.Goals as goal
 use Rattle.sched_run.proofs.making.watch.heard_of.Goals.{in-Deliver+in_ok-add, in_default}
 
@@ -55,3 +55,11 @@ loop-place-preserved c =
           c.match-lane.heard.items added (ap (λ z. z.items) w.heard-is)
       | in_default w ↦ subst (AreHeardBelow v lanes (i + 1)) (sym (ap (λ z. z.items) w.heard-is)) (heard_pass v lanes i c.loop-place.heard.items c.loop-place.invariant lane at _ _ w.in_default.is)
     ]
+
+pub returns : goal.returns
+returns c =
+    let all : c.loop-place.place ≡ length c.args.lanes.now = omega (arith, c.loop-place-test.false, c.loop-place.auto.place-end) in
+    subst (λ n. AreHeardBelow c.args.valid.now.view c.args.lanes.now n c.loop-place.heard.items) all c.loop-place.invariant
+
+pub loop-place-init : goal.loop-place-init
+loop-place-init c = heard_none c.args.valid.now.view c.args.lanes.now c.in_ok-heard.heard.items c.len.result c.stream_count-streams.result c.in_ok-heard.ensures (omega (arith, c.args.books.now.seats.ok.0, c.len.ensures, c.requires.runs.stand.instances.count)) c.stream_count-streams.ensures

@@ -1,11 +1,11 @@
-use Rattle.std.proofs.Common.{◌+◌, ◌∙◌, length, ap, refl, sym, subst, arith}
+use Rattle.std.proofs.Common.{◌≡◌, ◌+◌, ◌∙◌, length, ap, refl, sym, subst, arith}
 use Rattle.std.proofs.lemmas.Option.{slice_get_read}
 use Rattle.topo_forms.specs.Feeds.{Feed}
 use Rattle.topo_forms.specs.View.{origin_of}
 use Rattle.inbox.specs.Places.{instance_place}
 use Rattle.sched_run.specs.Code.Looking.{IsLane}
 use Rattle.sched_run.specs.Code.Watch.{AreReadersBelow}
-use Rattle.sched_run.proofs.Schedules.WatchLemmas.{readers_more, readers_pass, sender_inside}
+use Rattle.sched_run.proofs.Schedules.WatchLemmas.{readers_none, readers_more, readers_pass, sender_inside}
 use Rattle.sched_run.proofs.making.watch.readers_of.Goals as goal
 use Rattle.sched_run.proofs.making.watch.readers_of.Goals.{in-Some+in_ok-add, in_default}
 
@@ -39,3 +39,11 @@ loop-place-preserved c =
           (omega (arith, inside, place, c.loop-place.invariant.count)) (w.readers-is ∙ w.in_ok-add.ensures)
       | in_default w ↦ subst (AreReadersBelow v lanes (i + 1)) (sym w.readers-is) (readers_pass v lanes i c.loop-place.readers c.loop-place.invariant lane at (origin ∙ w.in_default.is))
     ]
+
+pub returns : goal.returns
+returns c =
+    let all : c.loop-place.place ≡ length c.args.lanes.now = omega (arith, c.loop-place-test.false, c.loop-place.auto.place-end) in
+    subst (λ n. AreReadersBelow c.args.valid.now.view c.args.lanes.now n c.loop-place.readers) all c.loop-place.invariant
+
+pub loop-place-init : goal.loop-place-init
+loop-place-init c = readers_none c.args.valid.now.view c.args.lanes.now c.in_ok-readers.readers c.len.result c.in_ok-readers.ensures (omega (arith, c.args.books.now.seats.ok.0, c.len.ensures, c.requires.runs.stand.instances.count))

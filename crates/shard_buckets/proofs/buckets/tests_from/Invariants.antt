@@ -1,7 +1,0 @@
-use Rattle.std.proofs.Common.{◌≡◌, ◌++◌, map, drop}
-use Rattle.bloom_forms.specs.Form.{formula_of}
-use Rattle.bloom_forms.specs.Shards.{buckets, buckets_from}
-use Rattle.shard_buckets.proofs.buckets.tests_from.Given as goal
-
-abbrev pub invariant-loop-next : goal.invariant-loop-next
-invariant-loop-next l = map formula_of l.tests.items ++ buckets_from l.column l.bound (drop l.next-index l.bounds) ≡ buckets l.column l.first l.bounds

@@ -8,9 +8,9 @@ use Rattle.blz_set.specs.Code.Growth.{Grows}
 use Rattle.blz_set.specs.RecordSet.{row_limit}
 use Rattle.blz_set.specs.declared.fault.SetFault.{SetFault}
 use Rattle.blz_set.specs.declared.fault.SetFault.TheVariants.{TooManyRows, NoMemory}
-use Rattle.bloom_growth.specs.Growth.{Extends, Takes, GrowsTo}
+use Rattle.bloom_growth.specs.Growth.{Extends}
 use Rattle.bloom_growth.specs.Code.Joins.{turned_rows, MakesFresh}
-use Rattle.bloom_growth.proofs.Extending.{few_first, few_new, join_new}
+use Rattle.bloom_growth.proofs.Extending.{few_first, few_new}
 
 -- a set that grew from nothing
 pub gives_grown : (rows all new : List Row) (fault : SetFault) → set_of rows ≡ all → Grows {X = Unit {0}} [] rows new (Err fault) → Gives all (Err fault)
@@ -30,15 +30,3 @@ module _ (pairs : Pairs) (lo ln ld ro rn rd : List Row) (el : Extends lo ln ld) 
       let over : row_limit < length (set_of (set_of (join_rows pairs ld ro) ++ turned_rows pairs ln rd)) = subst (λ (l : List Row). row_limit < length (set_of (l ++ turned_rows pairs ln rd))) is h in
       omega (arith, over, few_new pairs lo ln ld ro rn rd el er)
   second_fault set new NoMemory is h = tt
-
-  -- the joined rows take them
-  pub takes_fresh : (kept set after : List Row) (r : Result (List Row) SetFault) → kept ≡ set_of (join_rows pairs lo ro) → set ≡ set_of (set_of (join_rows pairs ld ro) ++ turned_rows pairs ln rd) → Takes kept set after r
-      → GrowsTo (set_of (join_rows pairs lo ro)) (set_of (join_rows pairs ln rn)) after r
-  takes_fresh kept set after (Ok fresh) k s takes =
-      let new : set_of (join_rows pairs ln rn) ≡ set_of (kept ++ set) = join_new pairs lo ln ld ro rn rd el er ∙ ap (λ (l : List Row). set_of (l ++ set_of (set_of (join_rows pairs ld ro) ++ turned_rows pairs ln rd))) (sym k) ∙ ap (λ (l : List Row). set_of (kept ++ l)) (sym s) in
-      let is : after ≡ set_of (join_rows pairs ln rn) = takes.0 ∙ sym new in
-      (is, subst (λ (l : List Row). length l ≤ row_limit) is takes.1, subst (λ (l : List Row). Extends (set_of (join_rows pairs lo ro)) l fresh) is (subst (λ (l : List Row). Extends l after fresh) k takes.2))
-  takes_fresh kept set after (Err TooManyRows) k s takes =
-      let new : set_of (join_rows pairs ln rn) ≡ set_of (kept ++ set) = join_new pairs lo ln ld ro rn rd el er ∙ ap (λ (l : List Row). set_of (l ++ set_of (set_of (join_rows pairs ld ro) ++ turned_rows pairs ln rd))) (sym k) ∙ ap (λ (l : List Row). set_of (kept ++ l)) (sym s) in
-      subst (λ (l : List Row). row_limit < length l) (sym new) takes
-  takes_fresh kept set after (Err NoMemory) k s takes = tt

@@ -31,11 +31,11 @@ put_more old rows set new i row copy lt is same e put =
 pub put_few : (old rows set : List Row) (i : ℕ) → set ≡ set_of (old ++ take i rows) → length set ≤ length old + length rows
 put_few old rows set i e = omega (arith, ap length e, length-set_of-le (old ++ take i rows), length-append old (take i rows), length-take i rows)
 
-missing_sorted : (old rows : List Row) → IsRowSet rows → IsRowSet (missing_from old rows)
+pub missing_sorted : (old rows : List Row) → IsRowSet rows → IsRowSet (missing_from old rows)
 missing_sorted old rows sorted = IsStrictlySortedBy-filter record_cmp _ rows sorted
 
 -- none of the missing rows is there
-missing_apart : (old rows : List Row) (row : Row) → Has row old → ¬ Has row (missing_from old rows)
+pub missing_apart : (old rows : List Row) (row : Row) → Has row old → ¬ Has row (missing_from old rows)
 missing_apart old rows row held m = not_any (has_row old row) (Has-from_filter (λ (r : Row). not (has_row old r)) row rows m).1 (has_row-from_Has old row held)
 
 module _ (old rows fresh : List Row) (own : IsRecordSet old) (set : IsRecordSet rows) (e : fresh ≡ set_of (missing_from old rows)) where

@@ -29,7 +29,7 @@ use Rattle.blz_set.proofs.Joins.{too_many_grown, grown_by}
 use Rattle.bloom_growth.specs.Code.ByKey.{rows_found, AreByKey}
 
 -- a right row agrees with a left row where it has the left row's key
-right_has : (pairs : Pairs) (left right : Row) → agree pairs left right ≡ eq_by_cmp record_cmp (cells (rights_of pairs) right) (cells (lefts_of pairs) left)
+pub right_has : (pairs : Pairs) (left right : Row) → agree pairs left right ≡ eq_by_cmp record_cmp (cells (rights_of pairs) right) (cells (lefts_of pairs) left)
 right_has [] left right = refl
 right_has (p ∷ pairs) left right =
     let a = cell left p.0 in

@@ -1,31 +1,44 @@
--- That aggregates stand for rows is a fact.
-use Rattle.std.specs.Prelude.{ℕ, Bool, Option, None, Some, List}
+-- That aggregates and bags stand for rows is a fact.
+use Rattle.std.specs.Prelude.{ℕ, Option, None, Some, List}
 use Rattle.std.specs.BTreeMap.{BTreeMap, get}
 use Rattle.std.specs.Coded.{Π_prop}
 use Rattle.std.proofs.Props.{props}
 use Rattle.blz_value.specs.declared.aggregate.Agg.{Agg}
 use Rattle.blz_value.specs.declared.aggregate.Agg.TheVariants as by
-use Rattle.blz_value.specs.Groups.{with_key}
+use Rattle.std.specs.declared.cmp.Ordering.{Ordering}
+use Rattle.blz_value.specs.Groups.{column_values, with_key}
 use Rattle.blz_value.specs.Record.{Row, record_cmp}
-use Rattle.bloom_growth.specs.declared.groups.Groups.{Groups}
-use Rattle.bloom_growth.specs.declared.running.Running.{Running}
-use Rattle.bloom_growth.specs.declared.running.Running.TheVariants.{Count, Sum, Least, Greatest}
-use Rattle.bloom_growth.specs.Groups.{IsRunningAt, AreRunning, GroupsStand}
-use Rattle.bloom_growth.specs.Running.{IsRunning}
+use Rattle.blz_value.specs.Value.{value_cmp}
+use Rattle.bloom_growth.specs.declared.bag.Bag.{Bag}
+use Rattle.bloom_growth.specs.declared.tally.Kept.{Kept}
+use Rattle.bloom_growth.specs.declared.tally.Kept.TheVariants as kinds
+use Rattle.bloom_growth.specs.declared.tally.Kept.TheVariants.{Nothing, Values}
+use Rattle.bloom_growth.specs.declared.tally.Tally.{Tally}
+use Rattle.bloom_growth.specs.declared.turning_groups.TurningGroups.{TurningGroups}
+use Rattle.bloom_growth.specs.Bags.{IsBag}
+use Rattle.bloom_growth.specs.Tallies.{IsKept}
+use Rattle.bloom_growth.specs.TurningGroups.{IsTalliedAt, AreTallied, TalliesStand}
+use Rattle.bloom_growth.specs.Code.Counts.{AreCounted}
 
-IsRunning-prop : (agg : Agg) (rows : List Row) (running : Running) → IsProp (IsRunning agg rows running)
-IsRunning-prop by.Count rows (Count count) = hlevel props
-IsRunning-prop (by.Sum column) rows (Sum total) = hlevel props
-IsRunning-prop (by.Min column) rows (Least value) = hlevel props
-IsRunning-prop (by.Max column) rows (Greatest value) = hlevel props
-IsRunning-prop agg rows running = hlevel
+AreCounted-prop : {K : Type 0} (cmp : K → K → Ordering) (keys : List K) (counts : BTreeMap K ℕ) → IsProp (AreCounted cmp keys counts)
+AreCounted-prop cmp keys counts = hlevel props
 
-IsRunningAt-prop : (agg : Agg) (rows : List Row) (running : Option Running) → IsProp (IsRunningAt agg rows running)
-IsRunningAt-prop agg rows None = hlevel props
-IsRunningAt-prop agg rows (Some running) = let is = IsRunning-prop agg rows running in hlevel (is, props)
+pub IsBag-prop : (rows : List Row) (bag : Bag) → IsProp (IsBag rows bag)
+IsBag-prop rows bag = let counted = AreCounted-prop record_cmp rows bag.counts in hlevel (counted, props)
 
-AreRunning-prop : (keys : List ℕ) (agg : Agg) (rows : List Row) (running : BTreeMap Row Running) → IsProp (AreRunning keys agg rows running)
-AreRunning-prop keys agg rows running = Π_prop (λ key. IsRunningAt-prop agg (with_key keys key rows) (get record_cmp running key))
+IsKept-prop : (agg : Agg) (rows : List Row) (kept : Kept) → IsProp (IsKept agg rows kept)
+IsKept-prop by.Count rows Nothing = hlevel props
+IsKept-prop (by.Sum column) rows (kinds.Sum sum) = hlevel props
+IsKept-prop (by.Min column) rows (Values values) = AreCounted-prop value_cmp (column_values column rows) values
+IsKept-prop (by.Max column) rows (Values values) = AreCounted-prop value_cmp (column_values column rows) values
+IsKept-prop agg rows kept = hlevel
 
-pub GroupsStand-prop : (keys : List ℕ) (agg : Agg) (grow : Bool) (rows : List Row) (groups : Groups) → IsProp (GroupsStand keys agg grow rows groups)
-GroupsStand-prop keys agg grow rows groups = let running = AreRunning-prop keys agg rows groups.running in hlevel (running, props)
+IsTalliedAt-prop : (agg : Agg) (rows : List Row) (tally : Option Tally) → IsProp (IsTalliedAt agg rows tally)
+IsTalliedAt-prop agg rows None = hlevel props
+IsTalliedAt-prop agg rows (Some tally) = let kept = IsKept-prop agg rows tally.kept in hlevel (kept, props)
+
+AreTallied-prop : (keys : List ℕ) (agg : Agg) (rows : List Row) (tallies : BTreeMap Row Tally) → IsProp (AreTallied keys agg rows tallies)
+AreTallied-prop keys agg rows tallies = Π_prop (λ key. IsTalliedAt-prop agg (with_key keys key rows) (get record_cmp tallies key))
+
+pub TalliesStand-prop : (keys : List ℕ) (agg : Agg) (rows : List Row) (groups : TurningGroups) → IsProp (TalliesStand keys agg rows groups)
+TalliesStand-prop keys agg rows groups = let tallied = AreTallied-prop keys agg rows groups.tallies in hlevel (tallied, props)

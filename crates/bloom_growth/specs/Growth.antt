@@ -19,9 +19,3 @@ abbrev pub Takes : (old more new : List Row) → Result (List Row) SetFault → 
 Takes old more new (Ok fresh) = (new ≡ set_of (old ++ more)) × (length new ≤ row_limit) × Extends old new fresh
 Takes old more new (Err TooManyRows) = row_limit < length (set_of (old ++ more))
 Takes old more new (Err NoMemory) = Unit {0}
-
--- rows that became others, and the answer is those that are new; TooManyRows comes only where the others are too many
-abbrev pub GrowsTo : (old new after : List Row) → Result (List Row) SetFault → Type 0
-GrowsTo old new after (Ok fresh) = (after ≡ new) × (length new ≤ row_limit) × Extends old new fresh
-GrowsTo old new after (Err TooManyRows) = row_limit < length new
-GrowsTo old new after (Err NoMemory) = Unit {0}

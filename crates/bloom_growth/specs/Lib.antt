@@ -1,6 +1,13 @@
 pub mod Growth
+pub mod Turned
+pub mod Bags
+pub mod Kept
+pub mod Keyed
+pub mod KeptForms
+pub mod JoinTurns
+pub mod NotInTurns
 pub mod Sides
-pub mod Running
-pub mod Groups
+pub mod Tallies
+pub mod TurningGroups
 pub mod Facts
 pub mod Code

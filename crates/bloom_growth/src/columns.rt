@@ -1,5 +1,5 @@
 //! The columns of pairs, and the values of a row in some columns.
-ghost use Rattle.std.specs.Prelude.{◌≡◌, IfOk};
+ghost use Rattle.std.specs.Prelude.{◌≡◌, ◌∷◌, ◌++◌, [], IfOk};
 ghost use Rattle.blz_value.specs.Operators.{cells};
 ghost use Rattle.blz_value.specs.Test.{cell};
 ghost use Rattle.blz_set.specs.Code.Pairs.{lefts_of, rights_of};
@@ -25,6 +25,26 @@ pub(crate) fn copy_cells(alloc: Global, row: &Record, columns: &[u32]) -> Result
     for column in columns {
         values.push(copy_cell(row, *column)?)?;
     }
+    Ok(Record::from_values(values))
+}
+
+// Copies of the values of a record.
+fn copies(alloc: Global, key: &Record) -> Result<Vec<Value>, AllocError>
+    ensures { IfOk result (λ values. values.items ≡ key.now) }
+{
+    let mut values = Vec::new(alloc);
+    for other in key.values() {
+        values.push(other.copy()?)?;
+    }
+    Ok(values)
+}
+
+/// A key, followed by a value.
+pub(crate) fn with_value(alloc: Global, key: &Record, value: Value) -> Result<Record, AllocError>
+    ensures { IfOk result (λ row. row ≡ key.now ++ value ∷ []) }
+{
+    let mut values = copies(alloc, key)?;
+    values.push(value)?;
     Ok(Record::from_values(values))
 }
 

@@ -1,22 +1,22 @@
-//! The rows that have a partner in a side, joined, and those that have none.
+//! The rows that have a partner in a side, joined.
 ghost use Rattle.std.specs.Prelude.{◌≡◌, ◌<◌, ◌++◌, List, map, length, Err, IfOk, OnOk};
-ghost use Rattle.blz_value.specs.Operators.{is_paired, unpaired, joined, join_rows, notin_rows};
+ghost use Rattle.blz_value.specs.Operators.{is_paired, unpaired, joined, join_rows};
 ghost use Rattle.blz_value.specs.Record.{Row};
 ghost use Rattle.blz_value.specs.Sets.{set_of};
-ghost use Rattle.blz_set.specs.Answers.{Gives};
 ghost use Rattle.blz_set.specs.Code.Growth.{Grows};
 ghost use Rattle.blz_set.specs.Code.Pairs.{lefts_of, rights_of};
 ghost use Rattle.blz_set.specs.RecordSet.{IsRecordSet, row_limit};
 ghost use Rattle.blz_set.specs.declared.fault.SetFault.TheVariants.{TooManyRows};
+ghost use Rattle.bloom_growth.specs.Code.ByKey.{AreByKey};
 ghost use Rattle.bloom_growth.specs.Code.Joins.{turned_rows};
-ghost use Rattle.bloom_growth.specs.Sides.{IsSideOf};
 
-use crate::columns::{left_columns, right_columns};
+use crate::by_key::RowsByKey;
+use crate::columns::{copy_cells, left_columns, right_columns};
 use crate::grow_set::ROW_LIMIT;
-use crate::side::Side;
 use blz_set::{RecordSet, SetFault};
 use blz_value::{Record, Value};
 use std::alloc::{AllocError, Global};
+use std::collections::BTreeSet;
 use std::mem;
 
 // Whether a right column stands in a pair.
@@ -65,8 +65,8 @@ fn joined_row(
     Ok(Record::from_values(values))
 }
 
-// Adds at the end the rows that a left row makes with some right rows.
-fn push_rights(
+/// Adds at the end the rows that a left row makes with some right rows.
+pub(crate) fn push_rights(
     alloc: Global,
     rows: &mut Vec<Record>,
     left: &Record,
@@ -81,8 +81,8 @@ fn push_rights(
     Ok(())
 }
 
-// Adds at the end the rows that some left rows make with a right row.
-fn push_lefts(
+/// Adds at the end the rows that some left rows make with a right row.
+pub(crate) fn push_lefts(
     alloc: Global,
     rows: &mut Vec<Record>,
     lefts: &[Record],
@@ -90,6 +90,38 @@ fn push_lefts(
     pairs: &[(u32, u32)],
 ) -> Result<(), AllocError>
     ensures { OnOk result (rows.new.items ≡ rows.old.items ++ map (λ left. joined pairs.now left right.now) lefts.now) }
+{
+    for left in lefts {
+        rows.push(joined_row(alloc, left, right, pairs)?)?;
+    }
+    Ok(())
+}
+
+/// Adds at the end the rows that a left row makes with the right rows of a tree.
+pub(crate) fn push_tree_rights(
+    alloc: Global,
+    rows: &mut Vec<Record>,
+    left: &Record,
+    rights: &BTreeSet<Record>,
+    pairs: &[(u32, u32)],
+) -> Result<(), AllocError>
+    ensures { OnOk result (rows.new.items ≡ rows.old.items ++ map (joined pairs.now left.now) rights.now.keys) }
+{
+    for right in rights {
+        rows.push(joined_row(alloc, left, right, pairs)?)?;
+    }
+    Ok(())
+}
+
+/// Adds at the end the rows that the left rows of a tree make with a right row.
+pub(crate) fn push_tree_lefts(
+    alloc: Global,
+    rows: &mut Vec<Record>,
+    lefts: &BTreeSet<Record>,
+    right: &Record,
+    pairs: &[(u32, u32)],
+) -> Result<(), AllocError>
+    ensures { OnOk result (rows.new.items ≡ rows.old.items ++ map (λ left. joined pairs.now left right.now) lefts.now.keys) }
 {
     for left in lefts {
         rows.push(joined_row(alloc, left, right, pairs)?)?;
@@ -121,62 +153,43 @@ fn add_many(alloc: Global, set: &mut RecordSet, rows: &mut Vec<Record>) -> Resul
 }
 
 /// Adds the joined rows of some left rows and all rows of a side, by its columns.
-pub(crate) fn join_to_right(
+pub(crate) fn join_to_right<S: RowsByKey>(
     alloc: Global,
     set: &mut RecordSet,
     lefts: &RecordSet,
-    side: &Side,
+    side: &S,
     pairs: &[(u32, u32)],
 ) -> Result<(), SetFault>
     requires { IsRecordSet set.old }
-    ensures { (rights : List Row) → IsSideOf (rights_of pairs.now) rights side.now → Grows set.old (join_rows pairs.now lefts.now rights) set.new result }
+    ensures { (rights : List Row) → AreByKey (rights_of pairs.now) rights (S.kept side.now).sets → Grows set.old (join_rows pairs.now lefts.now rights) set.new result }
 {
     let columns = left_columns(alloc, pairs)?;
     let mut rows = Vec::new(alloc);
     for left in lefts.rows() {
-        let partners = side.partners(left, &columns)?;
-        push_rights(alloc, &mut rows, left, partners.rows(), pairs)?;
+        let key = copy_cells(alloc, left, &columns)?;
+        side.push_rights(alloc, &mut rows, left, &key, pairs)?;
         add_many(alloc, set, &mut rows)?;
     }
     add_rows(set, rows)
 }
 
 /// Adds the joined rows of all rows of a side and some right rows.
-pub(crate) fn join_to_left(
+pub(crate) fn join_to_left<S: RowsByKey>(
     alloc: Global,
     set: &mut RecordSet,
-    side: &Side,
+    side: &S,
     rights: &RecordSet,
     pairs: &[(u32, u32)],
 ) -> Result<(), SetFault>
     requires { IsRecordSet set.old }
-    ensures { (lefts : List Row) → IsSideOf (lefts_of pairs.now) lefts side.now → Grows set.old (turned_rows pairs.now lefts rights.now) set.new result }
+    ensures { (lefts : List Row) → AreByKey (lefts_of pairs.now) lefts (S.kept side.now).sets → Grows set.old (turned_rows pairs.now lefts rights.now) set.new result }
 {
     let columns = right_columns(alloc, pairs)?;
     let mut rows = Vec::new(alloc);
     for right in rights.rows() {
-        let partners = side.partners(right, &columns)?;
-        push_lefts(alloc, &mut rows, partners.rows(), right, pairs)?;
+        let key = copy_cells(alloc, right, &columns)?;
+        side.push_lefts(alloc, &mut rows, right, &key, pairs)?;
         add_many(alloc, set, &mut rows)?;
     }
     add_rows(set, rows)
-}
-
-/// The left rows that have no partner in a side of right rows.
-pub fn without_partner(
-    alloc: Global,
-    lefts: &RecordSet,
-    side: &Side,
-    pairs: &[(u32, u32)],
-) -> Result<RecordSet, SetFault>
-    ensures { (rights : List Row) → IsSideOf (rights_of pairs.now) rights side.now → Gives (set_of (notin_rows pairs.now lefts.now rights)) result }
-{
-    let columns = left_columns(alloc, pairs)?;
-    let mut rows = Vec::new(alloc);
-    for left in lefts.rows() {
-        if side.partners(left, &columns)?.len() == 0 {
-            rows.push(left.copy()?)?;
-        }
-    }
-    RecordSet::from_rows(rows)
 }

@@ -18,11 +18,12 @@ use Rattle.bloom_forms.proofs.Collections.Numbers.{set-of_kind}
 use Rattle.bloom_forms.proofs.Ends.SameEnds.{none_at}
 use Rattle.bloom_eval.specs.declared.fault.StepFault.{StepFault}
 use Rattle.bloom_eval.proofs.Widths.{length-sets_of}
-use Rattle.bloom_index.specs.declared.heads.RuleMemo.{RuleMemo}
+use Rattle.bloom_index.specs.declared.memo.Memo.{Memo}
 use Rattle.bloom_index.specs.declared.step.Parts.{Parts}
 use Rattle.bloom_index.specs.Code.Kept.{tables_in, held_over, kept_tables, PartsStand, KeptStands}
+use Rattle.bloom_index.specs.Code.Lasting.{GrowLast}
 use Rattle.bloom_index.specs.Code.SideParts.{BodiesStand, AreKept}
-use Rattle.bloom_index.proofs.SideLemmas.{bodies_stand}
+use Rattle.bloom_index.proofs.LastsLemmas.{grow_last}
 
 module _ (a : Accepted) where
   pub kept_wide : (parts : Option Parts) → KeptStands a parts → AreSetsOf (columns_of_kind Table a.form.collections) (kept_tables a parts)
@@ -44,14 +45,16 @@ module _ (a : Accepted) where
 
   -- ---- sides
 
-  abbrev pub are_kept : (parts : Parts) → PartsStand a parts → (growing : List Bool) (memos : List RuleMemo) → growing ≡ parts.growing.items → memos ≡ parts.memos.items → (rules : List NumberedRule) → AreNumbered a.form.collections a.form.rules rules → AreKept growing rules memos
+  abbrev pub are_kept : (parts : Parts) → PartsStand a parts → (growing : List Bool) (memos : List Memo) → growing ≡ parts.growing.items → memos ≡ parts.memos.items → (rules : List NumberedRule) → AreNumbered a.form.collections a.form.rules rules → AreKept growing rules memos
   are_kept parts stands growing memos is also rules numbered =
       let sets = held_over a (tables_in a parts.rows.items) in
       let grow = sym is in
       let kept = sym also in
       record {
+        lasting = parts.lasting.items;
         sets = sets;
-        stand = subst (λ (X : Type 0). X) (λ i. BodiesStand (grow i) sets rules (kept i)) (bodies_stand a parts.growing.items sets rules parts.memos.items (stands.memos rules numbered));
+        last = subst (λ (marks : List Bool). GrowLast marks parts.lasting.items) grow (grow_last a parts.growing.items parts.lasting.items stands.growing stands.lasting);
+        stand = subst (λ (X : Type 0). X) (λ i. BodiesStand (grow i) parts.lasting.items sets rules (kept i)) (stands.memos rules numbered);
       }
 
 -- what holds of a step of an equal module, over tables that are kept and what arrives

@@ -1,61 +1,41 @@
 -- What is kept of a module before its first step stands for empty tables.
-use Rattle.std.proofs.Common.{◌≡◌, ◌<◌, ◌+◌, ℕ, suc, Bool, true, false, cond, IsTrue, List, [], ◌∷◌, ◌++◌, length, take, map, filter, get_or, refl, ap, ◌∙◌, sym, subst, inl, inr}
-use Rattle.std.specs.Prelude.{◌==◌}
+use Rattle.std.proofs.Common.{◌≡◌, ◌<◌, ◌+◌, ℕ, List, [], ◌∷◌, ◌++◌, length, take, map, get_or, refl, ap, ◌∙◌, sym, subst, inl, inr}
 use Rattle.std.specs.List.{AllZip}
-use Rattle.std.specs.Option.{option_map_or}
 use Rattle.std.proofs.lemmas.Bool.{cases_Bool}
-use Rattle.std.proofs.lemmas.List.{length-map, take_more}
+use Rattle.std.proofs.lemmas.List.{length-append, length-map, take_more}
 use Rattle.std.proofs.lemmas.Slice.Zip.{all_zipped_more}
+use Rattle.blz_value.specs.Record.{Row}
+use Rattle.blz_value.proofs.Membership.{Has-append_cases}
+use Rattle.blz_value.proofs.Options.{Has-slice_get}
 use Rattle.blz_boxes.proofs.Tables.{empties_wide}
 use Rattle.bloom_forms.specs.declared.module.Kind.{Kind}
 use Rattle.bloom_forms.specs.declared.module.Kind.TheVariants.{Table}
 use Rattle.bloom_forms.specs.declared.module.Collection.{Collection}
 use Rattle.bloom_forms.specs.declared.numbered.NumberedRule.{NumberedRule}
 use Rattle.bloom_forms.specs.declared.program.Program.TheVariants.{Module}
-use Rattle.bloom_forms.specs.Form.{RuleForm, Accepted}
-use Rattle.bloom_forms.specs.Kinds.{same_kind, is_output, kind_at}
-use Rattle.bloom_forms.specs.Lookup.{collection_number}
+use Rattle.bloom_forms.specs.Form.{Accepted}
+use Rattle.bloom_forms.specs.Kinds.{same_kind}
 use Rattle.bloom_forms.specs.Numbered.{AreNumbered}
 use Rattle.bloom_forms.specs.Program.{columns_of_kind}
 use Rattle.bloom_forms.specs.ProgramStep.{no_arrivals, empty_tables}
 use Rattle.bloom_forms.specs.Query.{Name}
-use Rattle.bloom_forms.specs.Step.{Sets, set_at, rules_at, sets_of_kind, at_end, tables_after}
+use Rattle.bloom_forms.specs.Step.{Sets, set_at, sets_of_kind, at_end, tables_after}
 use Rattle.bloom_forms.specs.Widths.{AreSetsOf}
 use Rattle.bloom_forms.proofs.Ends.Equated.{length-at_end}
 use Rattle.bloom_forms.proofs.Ends.SameEnds.{same_by_places, none_at}
-use Rattle.bloom_index.specs.declared.heads.RuleMemo.{RuleMemo}
+use Rattle.bloom_growth.specs.declared.bag.Bag.{Bag}
+use Rattle.bloom_growth.specs.Bags.{IsBag}
+use Rattle.bloom_index.specs.declared.memo.Memo.{Memo}
 use Rattle.bloom_index.specs.declared.step.Parts.{Parts}
-use Rattle.bloom_index.specs.Code.Emptiness.{AreEmpty, IsFresh}
+use Rattle.bloom_index.specs.Code.Emptiness.{AreEmpty, IsFresh, AreNoBags}
 use Rattle.bloom_index.specs.Code.Growth.{AreGrowing}
-use Rattle.bloom_index.specs.Code.Heads.{is_running}
-use Rattle.bloom_index.specs.Code.Kept.{tables_in, held_over, IsAlone, RuleStands, PartsStand}
-use Rattle.bloom_index.proofs.FreshLemmas.{no_rows, fresh_stands, ends_empty, no_tables, no_ports, nothing_held}
+use Rattle.bloom_index.specs.Code.Heads.{kept_rules}
+use Rattle.bloom_index.specs.Code.Kept.{tables_in, held_over, PartsStand}
+use Rattle.bloom_index.specs.Code.Lasting.{AreLasting}
+use Rattle.bloom_index.proofs.FreshLemmas.{all_fresh, none_given, ends_empty, no_tables, no_ports, nothing_held}
 use Rattle.bloom_index.proofs.Renumbering.{renumbered}
 
 -- ---- rules
-
--- a head has as many rules by numbers as by names
-pub rules_counted : (cs : List Collection) (forms : List RuleForm) (rules : List NumberedRule) (head : ℕ) → AreNumbered cs forms rules → length (filter (λ (rule : NumberedRule). rule.head == head) rules) ≡ length (rules_at cs forms head)
-rules_counted cs [] [] head all = refl
-rules_counted cs [] (rule ∷ rules) head all = absurd all
-rules_counted cs (form ∷ forms) [] head all = absurd all
-rules_counted cs (form ∷ forms) (rule ∷ rules) head all =
-    ap (λ (n : ℕ). length (cond (n == head) (rule ∷ filter (λ (r : NumberedRule). r.head == head) rules) (filter (λ (r : NumberedRule). r.head == head) rules))) all.0.head
-    ∙ go (collection_number cs form.0 == head) (rules_counted cs forms rules head all.1)
-  where
-    go : (b : Bool) → length (filter (λ (r : NumberedRule). r.head == head) rules) ≡ length (rules_at cs forms head)
-        → length (cond b (rule ∷ filter (λ (r : NumberedRule). r.head == head) rules) (filter (λ (r : NumberedRule). r.head == head) rules)) ≡ length (cond b (form ∷ rules_at cs forms head) (rules_at cs forms head))
-    go true e = ap suc e
-    go false e = e
-
--- the one rule of an output, a group over a part that grows, can be put out alone
-pub alone_from : (a : Accepted) (growing : List Bool) (rules : List NumberedRule) (rule : NumberedRule) → AreNumbered a.form.collections a.form.rules rules → option_map_or is_output (kind_at a.form.collections rule.head) false ≡ true → is_running growing rule.body ≡ true
-    → length (filter (λ (r : NumberedRule). r.head == rule.head) rules) ≡ 1 → IsAlone a growing rule
-alone_from a growing rules rule numbered output running one = record {
-  running = running;
-  output = output;
-  one = sym (rules_counted a.form.collections a.form.rules rules rule.head numbered) ∙ one;
-}
 
 -- one rule more
 pub zip_more : {A B : Type 0} (R : A → B → Type 0) (xs : List A) (ys zs : List B) (i : ℕ) (x : A) (y : B) → i < length xs → x ≡ get_or xs i x → zs ≡ ys ++ y ∷ [] → AllZip R (take i xs) ys → R x y → AllZip R (take (i + 1) xs) zs
@@ -64,13 +44,17 @@ zip_more {A} R xs ys zs i x y lt is more all one =
     let taken : take (i + 1) xs ≡ take i xs ++ x ∷ [] = take_more xs i x lt ∙ ap (λ (z : A). take i xs ++ z ∷ []) (sym is) in
     subst (λ l. AllZip R l zs) (sym taken) (subst (AllZip R (take i xs ++ x ∷ [])) (sym more) pushed)
 
--- what is kept of one rule
-pub rule_fresh : (a : Accepted) (growing : List Bool) (rule : NumberedRule) (kept : RuleMemo) → (IsTrue kept.alone → IsAlone a growing rule) → IsFresh rule.body kept.memo → kept.rows ≡ [] → (sets : Sets) → AreEmpty sets → RuleStands a growing sets rule kept
-rule_fresh a growing rule kept alone fresh none sets empty = record {
-  body = fresh_stands sets empty growing rule.body kept.memo fresh;
-  rows = λ grow lone. none ∙ sym (no_rows sets empty rule.body);
-  alone = alone;
-}
+-- ---- bags
+
+-- one bag more
+pub bag_more : (i : ℕ) (bags more : List Bag) (bag : Bag) → more ≡ bags ++ bag ∷ [] → IsBag [] bag → AreNoBags i bags → AreNoBags (i + 1) more
+bag_more i bags more bag is own are = subst (AreNoBags (i + 1)) (sym is) (record {
+  many = length-append bags (bag ∷ []) ∙ ap (λ n. n + 1) are.many;
+  each = λ b h. elim (Has-append_cases b bags (bag ∷ []) h) [
+    | inl before ↦ are.each b before
+    | inr last ↦ elim last [ inl e ↦ subst (λ (z : Bag). IsBag [] z) e own | inr n ↦ absurd n ]
+  ];
+})
 
 -- ---- tables
 
@@ -97,17 +81,21 @@ module _ (a : Accepted) where
   empty_still = fresh_tables a (at_end a (empty_tables (Module a)) (no_arrivals (Module a))) ends_none
 
   -- what is kept of all
-  pub parts_fresh : (parts : Parts) (rules : List NumberedRule) → AreNumbered a.form.collections a.form.rules rules → AreGrowing a parts.growing.items → parts.rows.items ≡ map (λ (c : Collection). []) a.form.collections
-      → ((sets : Sets) → AreEmpty sets → AllZip (RuleStands a parts.growing.items sets) rules parts.memos.items) → PartsStand a parts
-  parts_fresh parts rules numbered growing none stand =
+  pub parts_fresh : (parts : Parts) (rules : List NumberedRule) → AreNumbered a.form.collections a.form.rules rules → AreGrowing a parts.growing.items → AreLasting a parts.lasting.items → parts.rows.items ≡ map (λ (c : Collection). []) a.form.collections
+      → AreNoBags (length a.form.collections) parts.bags.items → AllZip (λ (rule : NumberedRule) (memo : Memo). IsFresh parts.growing.items rule.body memo) rules parts.memos.items → PartsStand a parts
+  parts_fresh parts rules numbered growing lasting none bags fresh =
       let cs = a.form.collections in
       let tables : tables_in a parts.rows.items ≡ empty_tables (Module a) = fresh_tables a parts.rows.items none in
-      let held : AreEmpty (held_over a (tables_in a parts.rows.items)) = subst (λ (t : Sets). AreEmpty (held_over a t)) (sym tables) (nothing_held a (empty_tables (Module a)) (no_tables a)) in
+      let over : Sets = held_over a (tables_in a parts.rows.items) in
+      let held : AreEmpty over = subst (λ (t : Sets). AreEmpty (held_over a t)) (sym tables) (nothing_held a (empty_tables (Module a)) (no_tables a)) in
       record {
         many = ap length none ∙ length-map cs (λ (c : Collection). []);
+        many_bags = bags.many;
         wide = subst (AreSetsOf (columns_of_kind Table cs)) (sym tables) (empties_wide (columns_of_kind Table cs));
         growing = growing;
+        lasting = lasting;
         rows = λ number grow. ap (λ (sets : Sets). set_at sets number) none ∙ none_at cs number ∙ sym (held number);
-        memos = renumbered a parts.growing.items (held_over a (tables_in a parts.rows.items)) rules parts.memos.items numbered (stand (held_over a (tables_in a parts.rows.items)) held);
+        bags = λ others number bag also is other needs. subst (λ (rows : List Row). IsBag rows bag) (sym (none_given over held (kept_rules parts.lasting.items others number))) (bags.each bag (Has-slice_get parts.bags.items number bag is));
+        memos = renumbered a parts.growing.items parts.lasting.items over rules parts.memos.items numbered (all_fresh over held parts.growing.items parts.lasting.items rules parts.memos.items fresh);
         still = subst (λ (t : Sets). tables_after a t (no_arrivals (Module a)) ≡ t) (sym tables) empty_still;
       }

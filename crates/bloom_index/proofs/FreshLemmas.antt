@@ -1,9 +1,9 @@
 -- Where no collection holds a row, no expression has one, and what is kept before the first step stands.
 -- Over empty tables, with nothing arriving, no collection holds a row.
-use Rattle.std.proofs.Common.{◌≡◌, ◌∙◌, ◌++◌, ℕ, zero, suc, Bool, Option, None, Some, List, [], ◌∷◌, refl, ap, sym}
+use Rattle.std.proofs.Common.{◌≡◌, ◌∙◌, ◌++◌, ℕ, zero, suc, Bool, Option, None, Some, unwrap_or, List, [], ◌∷◌, length, refl, ap, sym, subst, arith}
 use Rattle.std.specs.Prelude.{slice_get, slice_set}
 use Rattle.std.specs.Option.{option_map_or}
-use Rattle.std.specs.List.{fold}
+use Rattle.std.specs.List.{AllZip, fold}
 use Rattle.blz_value.specs.declared.aggregate.Agg.TheVariants.{Count}
 use Rattle.blz_value.specs.Groups.{with_key, group_rows, at_least_rows}
 use Rattle.blz_value.specs.Operators.{Pairs, select_rows, project_rows, join_rows, notin_rows}
@@ -15,6 +15,7 @@ use Rattle.bloom_forms.specs.declared.module.Kind.{Kind}
 use Rattle.bloom_forms.specs.declared.module.Kind.TheVariants.{Input, Output, Table, Scratch}
 use Rattle.bloom_forms.specs.declared.numbered.NumberedExpr.{NumberedExpr}
 use Rattle.bloom_forms.specs.declared.numbered.NumberedExpr as expr
+use Rattle.bloom_forms.specs.declared.numbered.NumberedRule.{NumberedRule}
 use Rattle.bloom_forms.specs.declared.program.Program.TheVariants.{Module}
 use Rattle.bloom_forms.specs.Equations.{Env}
 use Rattle.bloom_forms.specs.Form.{RuleForm, Form, Accepted}
@@ -29,34 +30,50 @@ use Rattle.bloom_forms.proofs.Ends.Equated.{starts}
 use Rattle.bloom_forms.proofs.Ends.SameEnds.{none_at}
 use Rattle.bloom_forms.proofs.Reach.Quiet.{empty_rows}
 use Rattle.bloom_eval.specs.Code.NumberedRows.{numbered_rows}
-use Rattle.bloom_index.specs.declared.excluding.NotInMemo.{NotInMemo}
-use Rattle.bloom_growth.specs.declared.joining.JoinMemo.{JoinMemo}
+use Rattle.bloom_growth.specs.declared.turn_joins.KeptJoin.{KeptJoin}
+use Rattle.bloom_growth.specs.declared.turn_notins.KeptNotIn.{KeptNotIn}
+use Rattle.bloom_growth.specs.Bags.{IsBag}
+use Rattle.bloom_growth.specs.Kept.{Kept}
+use Rattle.bloom_growth.proofs.Fresh.{none_found, tallies_of_none}
+use Rattle.bloom_growth.proofs.KeyedLemmas.{keyed_of_none}
 use Rattle.bloom_index.specs.declared.memo.Memo.{Memo}
 use Rattle.bloom_index.specs.declared.memo.Memo as memo
+use Rattle.bloom_index.specs.declared.part_rows.PartRows.{PartRows}
 use Rattle.bloom_index.specs.Code.Evaluation.{Stands}
-use Rattle.bloom_growth.proofs.Fresh.{side_of_none, groups_of_none}
-use Rattle.bloom_index.specs.Code.Emptiness.{AreEmpty, IsFreshJoin, IsFreshNotIn, IsFresh}
+use Rattle.bloom_index.specs.Code.Emptiness.{AreEmpty, IsFreshPart, IsFreshJoin, IsFreshNotIn, IsFresh}
+use Rattle.bloom_index.specs.Code.Heads.{rows_given}
 use Rattle.bloom_index.specs.Code.Kept.{held_over}
-use Rattle.bloom_index.specs.Code.Memos.{JoinStands, NotInStands}
+use Rattle.bloom_index.specs.Code.Memos.{PartStands, JoinStands, NotInStands}
+use Rattle.bloom_index.specs.Code.PartForms.{kept_of}
 use Rattle.bloom_index.specs.Sides.{module_sides, part_side, side_rows, SidePart}
 
 -- ---- what is kept
 
-join_of_none : (pairs : Pairs) (left right : Bool) (lefts rights : List Row) (kept : JoinMemo) → IsFreshJoin pairs kept → lefts ≡ [] → rights ≡ [] → JoinStands pairs left right lefts rights kept
-join_of_none pairs left right lefts rights kept fresh none also = record {
-  left_columns = fresh.left.columns_are;
-  right_columns = fresh.right.columns_are;
-  left = λ grow. side_of_none (lefts_of pairs) kept.left lefts fresh.left none;
-  right = λ grow. side_of_none (rights_of pairs) kept.right rights fresh.right also;
-  rows = λ grow more. fresh.rows ∙ sym (ap (λ (rows : List Row). set_of (join_rows pairs rows rights)) none);
+-- what is kept of a part without rows
+part_of_none : (columns : List ℕ) (grow last : Bool) (rows : List Row) (kept : Kept) → IsFreshPart columns grow kept → rows ≡ [] → PartStands columns grow last rows kept
+part_of_none columns grow last rows kept fresh none = record {
+  form = fresh.form;
+  columns_are = fresh.columns_are;
+  by_key = λ is key. ap (λ (o : Option (List Row)). unwrap_or o []) (none_found kept.sets fresh.none key) ∙ sym (ap (with_key columns key) none);
 }
 
-notin_of_none : (pairs : Pairs) (left right : Bool) (lefts rights : List Row) (kept : NotInMemo) → IsFreshNotIn pairs kept → lefts ≡ [] → rights ≡ [] → NotInStands pairs left right lefts rights kept
-notin_of_none pairs left right lefts rights kept fresh none also = record {
-  right_columns = fresh.right.columns_are;
-  left = λ grow. fresh.lefts ∙ sym none;
-  right = λ grow. side_of_none (rights_of pairs) kept.right rights fresh.right also;
-}
+module _ (pairs : Pairs) (lefts rights : List Row) (none : lefts ≡ []) (also : rights ≡ []) where
+  join_of_none : (lg ll rg rl : Bool) (kept : KeptJoin PartRows PartRows) → IsFreshJoin pairs lg rg kept → JoinStands pairs lg ll rg rl lefts rights kept
+  join_of_none lg ll rg rl kept fresh =
+      let nothing : length (set_of (join_rows pairs lefts rights)) ≡ 0 = ap (λ (rows : List Row). length (set_of (join_rows pairs rows rights))) none in
+      record {
+        left = part_of_none (lefts_of pairs) lg ll lefts (kept_of kept.left) fresh.left none;
+        right = part_of_none (rights_of pairs) rg rl rights (kept_of kept.right) fresh.right also;
+        counted = λ left right. fresh.count ∙ sym nothing;
+        few = λ left right. omega (arith, nothing);
+      }
+
+  notin_of_none : (ll rg rl : Bool) (kept : KeptNotIn PartRows) → IsFreshNotIn pairs rg kept → NotInStands pairs ll rg rl lefts rights kept
+  notin_of_none ll rg rl kept fresh = record {
+    left_columns = fresh.left.columns_are;
+    left = λ last. keyed_of_none (lefts_of pairs) kept.left lefts fresh.left none;
+    right = part_of_none (rights_of pairs) rg rl rights (kept_of kept.right) fresh.right also;
+  }
 
 -- ---- where no collection holds a row
 
@@ -70,16 +87,31 @@ module _ (sets : Sets) (empty : AreEmpty sets) where
   no_rows (expr.Group' p e keys agg) = ap (λ (rows : List Row). set_of (group_rows keys agg rows)) (no_rows e)
   no_rows (expr.AtLeast' p e keys bound) = ap (λ (rows : List Row). set_of (at_least_rows keys bound rows)) (no_rows e)
 
-  pub fresh_stands : (growing : List Bool) (e : NumberedExpr) (m : Memo) → IsFresh e m → Stands growing sets e m
-  fresh_stands growing (expr.Base number) memo.Base fresh = tt
-  fresh_stands growing (expr.Select' p e test) (memo.Select' q m) fresh = fresh_stands growing e m fresh
-  fresh_stands growing (expr.Project' p e columns) (memo.Project' q m rows) fresh = (fresh_stands growing e m fresh.0, λ grow. fresh.1 ∙ sym (no_rows (expr.Project' p e columns)))
-  fresh_stands growing (expr.Join' p l q r pairs) (memo.Join' s m t n kept) fresh = (fresh_stands growing l m fresh.0, fresh_stands growing r n fresh.1, join_of_none pairs _ _ (numbered_rows sets l) (numbered_rows sets r) kept fresh.2 (no_rows l) (no_rows r))
-  fresh_stands growing (expr.NotIn' p l q r pairs) (memo.NotIn' s m t n kept) fresh = (fresh_stands growing l m fresh.0, fresh_stands growing r n fresh.1, notin_of_none pairs _ _ (numbered_rows sets l) (numbered_rows sets r) kept fresh.2 (no_rows l) (no_rows r))
-  fresh_stands growing (expr.Group' p e keys agg) (memo.Group' q m groups) fresh = (fresh_stands growing e m fresh.0, groups_of_none keys agg _ (numbered_rows sets e) groups fresh.1 (no_rows e))
-  fresh_stands growing (expr.AtLeast' p e keys bound) (memo.AtLeast' q m groups rows) fresh =
-      (fresh_stands growing e m fresh.0, groups_of_none keys Count _ (numbered_rows sets e) groups fresh.1 (no_rows e), λ grow. fresh.2 ∙ sym (no_rows (expr.AtLeast' p e keys bound)))
-  fresh_stands growing e m fresh = absurd fresh
+  pub fresh_stands : (growing lasting : List Bool) (e : NumberedExpr) (m : Memo) → IsFresh growing e m → Stands growing lasting sets e m
+  fresh_stands growing lasting (expr.Base number) memo.Base fresh = tt
+  fresh_stands growing lasting (expr.Select' p e test) (memo.Select' q m) fresh = fresh_stands growing lasting e m fresh
+  fresh_stands growing lasting (expr.Project' p e columns) (memo.Project' q m bag) fresh =
+      (fresh_stands growing lasting e m fresh.0, λ last. subst (λ (rows : List Row). IsBag (project_rows columns rows) bag) (sym (no_rows e)) fresh.1)
+  fresh_stands growing lasting (expr.Join' p l q r pairs) (memo.Join' s m t n kept) fresh =
+      (fresh_stands growing lasting l m fresh.0, fresh_stands growing lasting r n fresh.1, join_of_none pairs (numbered_rows sets l) (numbered_rows sets r) (no_rows l) (no_rows r) _ _ _ _ kept fresh.2)
+  fresh_stands growing lasting (expr.NotIn' p l q r pairs) (memo.NotIn' s m t n kept) fresh =
+      (fresh_stands growing lasting l m fresh.0, fresh_stands growing lasting r n fresh.1, notin_of_none pairs (numbered_rows sets l) (numbered_rows sets r) (no_rows l) (no_rows r) _ _ _ kept fresh.2)
+  fresh_stands growing lasting (expr.Group' p e keys agg) (memo.Group' q m groups) fresh =
+      (fresh_stands growing lasting e m fresh.0, λ last. tallies_of_none keys agg (numbered_rows sets e) groups fresh.1 (no_rows e))
+  fresh_stands growing lasting (expr.AtLeast' p e keys bound) (memo.AtLeast' q m groups) fresh =
+      (fresh_stands growing lasting e m fresh.0, λ last. tallies_of_none keys Count (numbered_rows sets e) groups fresh.1 (no_rows e))
+  fresh_stands growing lasting e m fresh = absurd fresh
+
+  pub all_fresh : (growing lasting : List Bool) (rules : List NumberedRule) (memos : List Memo) → AllZip (λ (rule : NumberedRule) (memo : Memo). IsFresh growing rule.body memo) rules memos → AllZip (λ (rule : NumberedRule) (memo : Memo). Stands growing lasting sets rule.body memo) rules memos
+  all_fresh growing lasting [] [] fresh = tt
+  all_fresh growing lasting [] (m ∷ memos) fresh = absurd fresh
+  all_fresh growing lasting (r ∷ rules) [] fresh = absurd fresh
+  all_fresh growing lasting (r ∷ rules) (m ∷ memos) fresh = (fresh_stands growing lasting r.body m fresh.0, all_fresh growing lasting rules memos fresh.1)
+
+  -- rules give nothing
+  pub none_given : (rules : List NumberedRule) → rows_given sets rules ≡ []
+  none_given [] = refl
+  none_given (r ∷ rules) = ap (λ (rows : List Row). rows ++ rows_given sets rules) (no_rows r.body) ∙ none_given rules
 
 -- ---- over empty tables
 

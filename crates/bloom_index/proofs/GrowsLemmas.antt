@@ -1,10 +1,10 @@
 -- An expression by numbers grows exactly where the expression is growing, if the collections that it names are marked.
 -- What grows is table-only, plain, and reads scratches through plain rules alone.
 -- A name is so where all its rules are, and a join where both its parts are.
-use Rattle.std.proofs.Common.{◌≡◌, ◌≢◌, ◌∙◌, ◌&&◌, ◌||◌, ◌⊎◌, inl, inr, not, cond, ℕ, Bool, true, false, IsTrue, None, Some, Option, List, [], ◌∷◌, refl, ap, sym, subst}
+use Rattle.std.proofs.Common.{◌≡◌, ◌≢◌, ◌∙◌, ◌&&◌, ◌⊎◌, inl, inr, not, ℕ, Bool, true, false, IsTrue, Some, Option, List, refl, ap, sym, subst}
 use Rattle.std.specs.Prelude.{◌==◌, bit_or}
 use Rattle.std.specs.List.{list_all}
-use Rattle.std.proofs.lemmas.Bool.{cases_Bool, and_parts, and_from, or_cases, true≢false, eq-eqb}
+use Rattle.std.proofs.lemmas.Bool.{and_parts, and_from, or_cases, true≢false, eq-eqb, both_ways, false_from_ne_true}
 use Rattle.blz_value.specs.Members.{Has}
 use Rattle.blz_value.proofs.Membership.{Has-append_left, Has-append_right, Has-filter, Has-from_filter, all_member, all_from}
 use Rattle.blz_value.specs.Bits.{bit_of, meets}
@@ -14,7 +14,7 @@ use Rattle.blz_value.proofs.Least.{closure-least}
 use Rattle.blz_value.proofs.Reached.{least-monotone}
 use Rattle.blz_value.proofs.Booleans.{same_truth, not_true}
 use Rattle.bloom_forms.specs.declared.module.Kind.{Kind}
-use Rattle.bloom_forms.specs.declared.module.Kind.TheVariants.{Input, Output, Table, Scratch}
+use Rattle.bloom_forms.specs.declared.module.Kind.TheVariants.{Input, Table, Scratch}
 use Rattle.bloom_forms.specs.declared.module.Collection.{Collection}
 use Rattle.bloom_forms.specs.declared.numbered.NumberedExpr.{NumberedExpr, Base, Select', Project', Join', NotIn', Group', AtLeast'}
 use Rattle.bloom_forms.specs.declared.numbered.NumberedRule.{NumberedRule}
@@ -34,12 +34,10 @@ use Rattle.bloom_forms.proofs.Reach.MomentaryLemmas.{kind_is, now, port_now, joi
 use Rattle.bloom_forms.proofs.Reach.ReadsLemmas.{number_of, small_number, rules_named, rule_stands, IsRead, reads, named_in}
 use Rattle.bloom_forms.proofs.Reach.Unfolding.{direct_unfolds, direct_folds}
 use Rattle.bloom_index.specs.Growing.{is_growing}
+use Rattle.bloom_index.proofs.Marking.{rules_are, rules_pass}
 use Rattle.bloom_index.specs.Code.Growth.{grows_at, grows, grows_for, rules_grow, kind_grows, IsMarked, AreMarkedBelow, AreGrowing}
 
 -- ---- truth values
-
-never_both : (b : Bool) → b ≡ true → b ≡ false → ⊥
-never_both b t f = true≢false (sym t ∙ f)
 
 stopped : (b c : Bool) → (b && (false && c)) ≡ false
 stopped true c = refl
@@ -86,7 +84,8 @@ module _ (a : Accepted) (checked : IsChecked a.form a.heads) where
 
   -- ---- a name
 
-  own_rule : (n : Name) (r : RuleForm) → Has r all_rules → number_of a checked r.0 ≡ number_of a checked n → Has r (rules_named a checked n)
+  -- a rule of a name
+  pub own_rule : (n : Name) (r : RuleForm) → Has r all_rules → number_of a checked r.0 ≡ number_of a checked n → Has r (rules_named a checked n)
   own_rule n r stands same = Has-filter (λ (rule : RuleForm). collection_number cs rule.0 == number_of a checked n) r all_rules stands (eq-eqb (number_of a checked r.0) (number_of a checked n) same)
 
   -- a rule that a name reads is its own, or read by one of its own
@@ -119,13 +118,10 @@ module _ (a : Accepted) (checked : IsChecked a.form a.heads) where
   -- a scratch whose rules grow
   scratch_up : (n : Name) → kind_at cs (number_of a checked n) ≡ Some Scratch → ((r : RuleForm) → Has r (rules_named a checked n) → Grows r.1) → Grows (base n)
   scratch_up n is each = record {
-    later = elim (cases_Bool (now a checked (base n))) [
-      | inr f ↦ f
-      | inl t ↦ absurd (elim (name_now a checked n t) [
-        | inl port ↦ (let bad : Scratch ≡ Input = kind_is Scratch Input (sym is ∙ port) in cc)
-        | inr found ↦ never_both (now a checked found.0.1) found.4 (each found.0 (own_rule n found.0 found.1 found.2)).later
-      ])
-    ];
+    later = false_from_ne_true (now a checked (base n)) (λ t. elim (name_now a checked n t) [
+      | inl port ↦ (let bad : Scratch ≡ Input = kind_is Scratch Input (sym is ∙ port) in cc)
+      | inr found ↦ both_ways (now a checked found.0.1) (each found.0 (own_rule n found.0 found.1 found.2)).later found.4
+    ]);
     plain = refl;
     through = λ r stands scratch there. elim (from_name n r there) [
       | inl same ↦ (each r (own_rule n r stands same)).plain
@@ -170,26 +166,23 @@ module _ (a : Accepted) (checked : IsChecked a.form a.heads) where
   in_right p q pairs r h = in-within (number_of a checked r.0) (direct cs all_rules q) (direct cs all_rules (join p q pairs)) (small_number a checked r.0) h
       (least-monotone (named cs q) (bit_or (named cs p) (named cs q)) (scratch_arrows cs all_rules) _ _ (within-or_r (named cs p) (named cs q)) (closure-least (named cs q) (scratch_arrows cs all_rules)) (closure-least (bit_or (named cs p) (named cs q)) (scratch_arrows cs all_rules)))
 
-  unless_now : (q : Query) → (now a checked q ≡ true → ⊥) → now a checked q ≡ false
-  unless_now q never = elim (cases_Bool (now a checked q)) [ inl t ↦ absurd (never t) | inr f ↦ f ]
-
   join_up : (p q : Query) (pairs : List (Name × Name)) → Grows p → Grows q → Grows (join p q pairs)
   join_up p q pairs g h = record {
-    later = unless_now (join p q pairs) (λ t. elim (join_now a checked p q pairs t) [ inl l ↦ never_both (now a checked p) l g.later | inr r ↦ never_both (now a checked q) r h.later ]);
+    later = false_from_ne_true (now a checked (join p q pairs)) (λ t. elim (join_now a checked p q pairs t) [ inl l ↦ both_ways (now a checked p) g.later l | inr r ↦ both_ways (now a checked q) h.later r ]);
     plain = and_from _ _ g.plain h.plain;
     through = λ r stands scratch there. elim (from_join p q pairs r there) [ inl l ↦ g.through r stands scratch l | inr m ↦ h.through r stands scratch m ];
   }
 
   left_down : (p q : Query) (pairs : List (Name × Name)) → Grows (join p q pairs) → Grows p
   left_down p q pairs g = record {
-    later = unless_now p (λ t. never_both (now a checked (join p q pairs)) (left_now a checked p q pairs t) g.later);
+    later = false_from_ne_true (now a checked p) (λ t. both_ways (now a checked (join p q pairs)) g.later (left_now a checked p q pairs t));
     plain = (and_parts (is_plain p) (is_plain q) g.plain).0;
     through = λ r stands scratch there. g.through r stands scratch (in_left p q pairs r there);
   }
 
   right_down : (p q : Query) (pairs : List (Name × Name)) → Grows (join p q pairs) → Grows q
   right_down p q pairs g = record {
-    later = unless_now q (λ t. never_both (now a checked (join p q pairs)) (right_now a checked p q pairs t) g.later);
+    later = false_from_ne_true (now a checked q) (λ t. both_ways (now a checked (join p q pairs)) g.later (right_now a checked p q pairs t));
     plain = (and_parts (is_plain p) (is_plain q) g.plain).1;
     through = λ r stands scratch there. g.through r stands scratch (in_right p q pairs r there);
   }
@@ -235,38 +228,10 @@ module _ (a : Accepted) (checked : IsChecked a.form a.heads) where
     expr_is (at_least q keys bound) (AtLeast' p e numbers count) known is = expr_is q e known is.0
     expr_is q e known is = absurd is
 
-    -- ---- the rules of a head
-
-    rules_are : (head : ℕ) (forms : List RuleForm) (rules : List NumberedRule) → ((r : RuleForm) → Has r forms → Has r all_rules) → AreNumbered cs forms rules
-        → ((r : RuleForm) (n : Name) → Has r (rules_at cs forms head) → Has n (names_of r.1) → Marked n)
-        → list_all (grows_for growing head) rules ≡ list_all (λ (r : RuleForm). is_growing cs all_rules r.1) (rules_at cs forms head)
-    rules_are head [] [] inside all marked = refl
-    rules_are head [] (r ∷ rules) inside all marked = absurd all
-    rules_are head (f ∷ forms) [] inside all marked = absurd all
-    rules_are head (f ∷ forms) (r ∷ rules) inside all marked =
-        let rest = rules_at cs forms head in
-        let grown : RuleForm → Bool = λ (x : RuleForm). is_growing cs all_rules x.1 in
-        elim (cases_Bool (collection_number cs f.0 == head)) [
-          | inl t ↦
-              let own : rules_at cs (f ∷ forms) head ≡ f ∷ rest = ap (λ (b : Bool). cond b (f ∷ rest) rest) t in
-              let same : (r.head == head) ≡ true = ap (λ (n : ℕ). n == head) all.0.head ∙ t in
-              let body : grows growing r.body ≡ is_growing cs all_rules f.1 = expr_is f.1 r.body (λ n h. (reads a checked f (inside f (inl refl)) n h, marked f n (subst (λ (l : List RuleForm). Has f l) (sym own) (inl refl)) h)) all.0.body in
-              let others = rules_are head forms rules (λ x h. inside x (inr h)) all.1 (λ x n h. marked x n (subst (λ (l : List RuleForm). Has x l) (sym own) (inr h))) in
-              ap (λ (b : Bool). (not b || grows growing r.body) && list_all (grows_for growing head) rules) same
-              ∙ (λ i. body i && others i)
-              ∙ ap (list_all grown) (sym own)
-          | inr other ↦
-              let own : rules_at cs (f ∷ forms) head ≡ rest = ap (λ (b : Bool). cond b (f ∷ rest) rest) other in
-              let same : (r.head == head) ≡ false = ap (λ (n : ℕ). n == head) all.0.head ∙ other in
-              let others = rules_are head forms rules (λ x h. inside x (inr h)) all.1 (λ x n h. marked x n (subst (λ (l : List RuleForm). Has x l) (sym own) h)) in
-              ap (λ (b : Bool). (not b || grows growing r.body) && list_all (grows_for growing head) rules) same
-              ∙ others
-              ∙ ap (list_all grown) (sym own)
-        ]
-
     -- all rules of a head grow by numbers where all of them are growing
     pub head_is : (head : ℕ) (rules : List NumberedRule) → AreNumbered cs all_rules rules → AreMarkedBelow a.form growing head → list_all (grows_for growing head) rules ≡ rules_grow a.form head
-    head_is head rules all marked = rules_are head all_rules rules (λ r h. h) all marked
+    head_is head rules all marked = rules_are cs (λ (r : RuleForm). is_growing cs all_rules r.1) (λ (rule : NumberedRule). grows growing rule.body) head all_rules rules all (λ form rule of_head numbered.
+        expr_is form.1 rule.body (λ n h. (reads a checked form (rule_stands a checked head form of_head).0 n h, marked form n of_head h)) numbered.body)
 
     -- ---- where all collections are marked
 
@@ -281,14 +246,5 @@ module _ (a : Accepted) (checked : IsChecked a.form a.heads) where
 pub bodies_grow : (a : Accepted) (growing : List Bool) → IsChecked a.form a.heads → AreGrowing a growing → (head : ℕ) → kind_at a.form.collections head ≢ Some Table → IsTrue (grows_at growing head)
     → (rule : RuleForm) → Has rule (rules_at a.form.collections a.form.rules head) → (e : NumberedExpr) → IsNumbered a.form.collections rule.1 e → IsTrue (grows growing e)
 bodies_grow a growing checked are head other marked rule of_head e is =
-    body_is a checked growing are rule (rule_stands a checked head rule of_head).0 e is ∙ each (kind_at a.form.collections head) refl (sym (are.each head) ∙ marked)
-  where
-    by_rules : rules_grow a.form head ≡ true → is_growing a.form.collections a.form.rules rule.1 ≡ true
-    by_rules t = all_member (λ (r : RuleForm). is_growing a.form.collections a.form.rules r.1) (rules_at a.form.collections a.form.rules head) rule t of_head
-
-    each : (o : Option Kind) → kind_at a.form.collections head ≡ o → kind_grows o (rules_grow a.form head) ≡ true → is_growing a.form.collections a.form.rules rule.1 ≡ true
-    each None at t = absurd (true≢false (sym t))
-    each (Some Input) at t = absurd (true≢false (sym t))
-    each (Some Table) at t = absurd (other at)
-    each (Some Output) at t = by_rules t
-    each (Some Scratch) at t = by_rules t
+    body_is a checked growing are rule (rule_stands a checked head rule of_head).0 e is
+    ∙ all_member (λ (r : RuleForm). is_growing a.form.collections a.form.rules r.1) (rules_at a.form.collections a.form.rules head) rule (rules_pass (kind_at a.form.collections head) (rules_grow a.form head) other (sym (are.each head) ∙ marked)) of_head

@@ -1,39 +1,40 @@
 -- Going through the rules of a head: what one rule adds, and what is kept of the rules so far.
-use Rattle.std.proofs.Common.{◌≡◌, ◌≢◌, ◌<◌, ◌≤◌, ◌+◌, ℕ, zero, suc, Bool, IsTrue, ◌∷◌, ◌++◌, [], drop, get_or, List, length, Some, Result, Ok, Err, refl, ap, ◌∙◌, sym, subst, inl, inr, arith}
+use Rattle.std.proofs.Common.{◌≡◌, ◌≢◌, ◌<◌, ◌≤◌, ◌+◌, ℕ, zero, suc, Bool, ◌∷◌, ◌++◌, [], drop, get_or, List, length, Some, Result, Ok, Err, refl, ap, ◌∙◌, sym, subst, inl, inr, arith}
 use Rattle.std.specs.Prelude.{slice_get, slice_set}
-use Rattle.std.proofs.lemmas.Bool.{cases_eq, true≢false}
-use Rattle.std.proofs.lemmas.List.{append-nil, length-set}
+use Rattle.std.proofs.lemmas.Bool.{cases_eq}
+use Rattle.std.proofs.lemmas.List.{length-set}
 use Rattle.std.proofs.lemmas.Option.{slice_get_read, slice_get_past, same_Some}
 use Rattle.blz_value.specs.Members.{Has}
 use Rattle.blz_value.specs.Record.{Row}
 use Rattle.blz_value.specs.Sets.{set_of, IsRowSet}
-use Rattle.blz_value.proofs.RowSets.{set_of-sorted}
+use Rattle.blz_value.proofs.Membership.{Has-get_or}
 use Rattle.blz_set.specs.RecordSet.{row_limit}
 use Rattle.blz_set.specs.declared.fault.SetFault.{SetFault}
 use Rattle.blz_set.specs.declared.fault.SetFault.TheVariants.{TooManyRows, NoMemory}
-use Rattle.blz_set.proofs.RecordSets.{none_is_set}
 use Rattle.bloom_forms.specs.declared.module.Collection.{Collection}
-use Rattle.bloom_forms.specs.declared.numbered.NumberedExpr.{NumberedExpr}
+use Rattle.bloom_forms.specs.declared.numbered.NumberedExpr.{NumberedExpr, Base, Select', Project', Join', NotIn', Group', AtLeast'}
 use Rattle.bloom_forms.specs.declared.numbered.NumberedRule.{NumberedRule}
-use Rattle.bloom_forms.specs.Form.{RuleForm, Accepted}
+use Rattle.bloom_forms.specs.Form.{RuleForm}
 use Rattle.bloom_forms.specs.Lookup.{declared}
-use Rattle.bloom_forms.specs.Numbered.{AreNumbered}
+use Rattle.bloom_forms.specs.Columns.{columns_of}
+use Rattle.bloom_forms.specs.Numbered.{IsNumbered, AreNumbered}
+use Rattle.bloom_forms.specs.Query.{Name, Query}
+use Rattle.bloom_forms.specs.Query.Query.{base, select, project, join, notin, group, at_least}
+use Rattle.bloom_forms.specs.Widths.{AreWide}
+use Rattle.bloom_forms.proofs.Ends.Wide.{wide_rows}
 use Rattle.bloom_forms.specs.Step.{Sets, rows_named, rules_at}
 use Rattle.bloom_eval.specs.Code.Counted.{AddsRows, Adds}
 use Rattle.bloom_eval.specs.Code.NumberedRows.{numbered_rows, numbered_sets}
 use Rattle.bloom_eval.specs.StepAnswers.{AllFit}
-use Rattle.bloom_eval.proofs.ByNumbers.{tests_fit}
+use Rattle.bloom_eval.proofs.ByNumbers.{same_rows, tests_fit}
 use Rattle.bloom_eval.proofs.Rules.{adds_none, adds_one, first_refused, IsFormAt, form_at, own_rule, other_rule, none_from, adds_named}
 use Rattle.bloom_eval.proofs.Widths.{wide_named}
 use Rattle.bloom_index.specs.declared.change.Change.{Change}
-use Rattle.bloom_index.specs.declared.heads.RuleMemo.{RuleMemo}
 use Rattle.bloom_index.specs.declared.memo.Memo.{Memo}
-use Rattle.bloom_growth.specs.Growth.{Extends}
-use Rattle.bloom_index.specs.Code.Evaluation.{IsReady, Stands}
-use Rattle.bloom_index.specs.Code.Growth.{grows, grows_at}
+use Rattle.bloom_index.specs.Code.Evaluation.{IsReady, JoinsFit, Stands}
 use Rattle.bloom_index.specs.Code.HeadRules.{AreReady, AreTurned}
-use Rattle.bloom_index.specs.Code.Heads.{GrowsBy, AddsBody}
-use Rattle.bloom_index.specs.Code.Kept.{RuleStands}
+use Rattle.bloom_index.specs.Code.Heads.{GrowsBy}
+use Rattle.bloom_index.specs.Code.Memos.{IsWide}
 
 -- ---- places
 
@@ -48,11 +49,6 @@ got_other (y ∷ xs) zero zero x differ = absurd (differ refl)
 got_other (y ∷ xs) zero (suc k) x differ = refl
 got_other (y ∷ xs) (suc i) zero x differ = refl
 got_other (y ∷ xs) (suc i) (suc k) x differ = got_other xs i k x (λ e. differ (ap suc e))
-
-pub dropped : {X : Type 0} (i : ℕ) (xs : List X) (x : X) → Has x (drop i xs) → Has x xs
-dropped zero xs x h = h
-dropped (suc i) [] x h = h
-dropped (suc i) (y ∷ xs) x h = inr (dropped i xs x h)
 
 -- an element that is read
 pub kept_at : {X : Type 0} (first now : List X) (i : ℕ) (x : X) → ((k : ℕ) → i ≤ k → slice_get now k ≡ slice_get first k) → i < length now → x ≡ get_or now i x → slice_get first i ≡ Some x
@@ -105,20 +101,46 @@ none_adds X cs forms rules numbered sets head i le set sorted few x =
 
 -- ---- a rule of a head that is ready
 
-abbrev pub ready_at : (rules : List NumberedRule) (head : ℕ) (memos : List RuleMemo) (held : List Change) (ready : AreReady rules head memos held) (i : ℕ) (rule : NumberedRule) (memo : RuleMemo) → i < length rules → rule ≡ get_or rules i rule → slice_get memos i ≡ Some memo → rule.head ≡ head → IsReady rule.body memo.memo held
+-- the parts of joins have rows of one width, over sets of their widths
+module _ (cs : List Collection) (old new : Sets) (wide_old : (name : Name) → AreWide (length (declared cs name)) (rows_named cs old name)) (wide_new : (name : Name) → AreWide (length (declared cs name)) (rows_named cs new name)) where
+  part_wide : (q : Query) (e : NumberedExpr) → IsNumbered cs q e → IsWide (numbered_rows old e) (numbered_rows new e)
+  part_wide q e is = record {
+    width = length (columns_of (declared cs) q);
+    wide = (
+      subst (AreWide (length (columns_of (declared cs) q))) (sym (same_rows cs old q e is)) (wide_rows (declared cs) (rows_named cs old) wide_old q),
+      subst (AreWide (length (columns_of (declared cs) q))) (sym (same_rows cs new q e is)) (wide_rows (declared cs) (rows_named cs new) wide_new q),
+    );
+  }
+
+  pub joins_fit : (q : Query) (e : NumberedExpr) → IsNumbered cs q e → JoinsFit old new e
+  joins_fit (base name) (Base number) is = tt
+  joins_fit (select q f) (Select' p e test) is = joins_fit q e is.0
+  joins_fit (project q items) (Project' p e columns) is = joins_fit q e is.0
+  joins_fit (join a b pairs) (Join' p left r right numbers) is = (joins_fit a left is.0, joins_fit b right is.1, part_wide a left is.0, part_wide b right is.1)
+  joins_fit (notin a b pairs) (NotIn' p left r right numbers) is = (joins_fit a left is.0, joins_fit b right is.1)
+  joins_fit (group q keys agg name) (Group' p e numbers by) is = joins_fit q e is.0
+  joins_fit (at_least q keys bound) (AtLeast' p e numbers count) is = joins_fit q e is.0
+  joins_fit q e is = absurd is
+
+abbrev pub ready_at : (rules : List NumberedRule) (head : ℕ) (memos : List Memo) (held : List Change) (ready : AreReady rules head memos held) (i : ℕ) (rule : NumberedRule) (memo : Memo) → i < length rules → rule ≡ get_or rules i rule → slice_get memos i ≡ Some memo → rule.head ≡ head → IsReady rule.body memo held
 ready_at rules head memos held ready i rule memo lt is kept same = record {
   growing = ready.growing;
+  lasting = ready.lasting;
   old = ready.old;
   new = ready.new;
   turned = ready.turned;
-  stands = (ready.stands i rule memo (slice_get_read rules (length rules) i rule refl lt is) kept same).body;
+  grown = ready.grown;
+  stands = ready.stands i rule memo (slice_get_read rules (length rules) i rule refl lt is) kept same;
+  enough = ready.enough rule (subst (λ (r : NumberedRule). Has r rules) (sym is) (Has-get_or rules i rule lt));
+  fit_old = tests_fit ready.a.form.collections ready.old (wide_named ready.a.form.collections ready.old ready.wide_old) (form_at ready.a.form.collections ready.a.form.rules rules i rule ready.numbered lt is).form.1 rule.body (form_at ready.a.form.collections ready.a.form.rules rules i rule ready.numbered lt is).is.body;
   fit = tests_fit ready.a.form.collections ready.new (wide_named ready.a.form.collections ready.new ready.wide) (form_at ready.a.form.collections ready.a.form.rules rules i rule ready.numbered lt is).form.1 rule.body (form_at ready.a.form.collections ready.a.form.rules rules i rule ready.numbered lt is).is.body;
+  wide = joins_fit ready.a.form.collections ready.old ready.new (wide_named ready.a.form.collections ready.old ready.wide_old) (wide_named ready.a.form.collections ready.new ready.wide) (form_at ready.a.form.collections ready.a.form.rules rules i rule ready.numbered lt is).form.1 rule.body (form_at ready.a.form.collections ready.a.form.rules rules i rule ready.numbered lt is).is.body;
 }
 
 -- ---- what is kept of the rules so far
 
-module _ (a : Accepted) (growing : List Bool) (new : Sets) (rules : List NumberedRule) (head : ℕ) where
-  pub none_turned : (was : List RuleMemo) → AreTurned a growing new rules head 0 was was
+module _ (growing lasting : List Bool) (new : Sets) (rules : List NumberedRule) (head : ℕ) where
+  pub none_turned : (was : List Memo) → AreTurned growing lasting new rules head 0 was was
   none_turned was = record {
     many = refl;
     own = λ k rule memo lt. absurd (omega (arith, lt));
@@ -126,28 +148,28 @@ module _ (a : Accepted) (growing : List Bool) (new : Sets) (rules : List Numbere
     later = λ k le. refl;
   }
 
-  pub own_turned : (i : ℕ) (rule : NumberedRule) (was now after : List RuleMemo) (memo : RuleMemo) → i < length now → slice_get rules i ≡ Some rule → rule.head ≡ head → after ≡ slice_set now i memo → RuleStands a growing new rule memo
-      → AreTurned a growing new rules head i was now → AreTurned a growing new rules head (i + 1) was after
+  pub own_turned : (i : ℕ) (rule : NumberedRule) (was now after : List Memo) (memo : Memo) → i < length now → slice_get rules i ≡ Some rule → rule.head ≡ head → after ≡ slice_set now i memo → Stands growing lasting new rule.body memo
+      → AreTurned growing lasting new rules head i was now → AreTurned growing lasting new rules head (i + 1) was after
   own_turned i rule was now after memo lt here same put stands t = record {
     many = ap length put ∙ length-set now i memo ∙ t.many;
     own = λ k r m below at kept own. elim (cases_eq k i) [
       | inl e ↦
           let rule_is : r ≡ rule = same_Some r rule (sym at ∙ ap (slice_get rules) e ∙ here) in
-          let memo_is : m ≡ memo = same_Some m memo (sym kept ∙ ap (λ (l : List RuleMemo). slice_get l k) put ∙ ap (slice_get (slice_set now i memo)) e ∙ got_set now i memo lt) in
-          subst (λ (z : NumberedRule). RuleStands a growing new z m) (sym rule_is) (subst (RuleStands a growing new rule) (sym memo_is) stands)
-      | inr differ ↦ t.own k r m (omega (arith, below, differ)) at (sym (got_other now i k memo differ) ∙ sym (ap (λ (l : List RuleMemo). slice_get l k) put) ∙ kept) own
+          let memo_is : m ≡ memo = same_Some m memo (sym kept ∙ ap (λ (l : List Memo). slice_get l k) put ∙ ap (slice_get (slice_set now i memo)) e ∙ got_set now i memo lt) in
+          subst (λ (z : NumberedRule). Stands growing lasting new z.body m) (sym rule_is) (subst (Stands growing lasting new rule.body) (sym memo_is) stands)
+      | inr differ ↦ t.own k r m (omega (arith, below, differ)) at (sym (got_other now i k memo differ) ∙ sym (ap (λ (l : List Memo). slice_get l k) put) ∙ kept) own
     ];
     other = λ k r below at apart. elim (cases_eq k i) [
       | inl e ↦
           let rule_is : r ≡ rule = same_Some r rule (sym at ∙ ap (slice_get rules) e ∙ here) in
           absurd (apart (ap (λ (z : NumberedRule). z.head) rule_is ∙ same))
-      | inr differ ↦ ap (λ (l : List RuleMemo). slice_get l k) put ∙ got_other now i k memo differ ∙ t.other k r (omega (arith, below, differ)) at apart
+      | inr differ ↦ ap (λ (l : List Memo). slice_get l k) put ∙ got_other now i k memo differ ∙ t.other k r (omega (arith, below, differ)) at apart
     ];
-    later = λ k le. ap (λ (l : List RuleMemo). slice_get l k) put ∙ got_other now i k memo (λ e. absurd (omega (arith, e, le))) ∙ t.later k (omega (arith, le));
+    later = λ k le. ap (λ (l : List Memo). slice_get l k) put ∙ got_other now i k memo (λ e. absurd (omega (arith, e, le))) ∙ t.later k (omega (arith, le));
   }
 
-  pub other_turned : (i : ℕ) (rule : NumberedRule) (was now after : List RuleMemo) → slice_get rules i ≡ Some rule → rule.head ≢ head → after ≡ now → AreTurned a growing new rules head i was now → AreTurned a growing new rules head (i + 1) was after
-  other_turned i rule was now after here apart put t = subst (AreTurned a growing new rules head (i + 1) was) (sym put) (record {
+  pub other_turned : (i : ℕ) (rule : NumberedRule) (was now after : List Memo) → slice_get rules i ≡ Some rule → rule.head ≢ head → after ≡ now → AreTurned growing lasting new rules head i was now → AreTurned growing lasting new rules head (i + 1) was after
+  other_turned i rule was now after here apart put t = subst (AreTurned growing lasting new rules head (i + 1) was) (sym put) (record {
     many = t.many;
     own = λ k r m below at kept own. elim (cases_eq k i) [
       | inl e ↦
@@ -163,7 +185,7 @@ module _ (a : Accepted) (growing : List Bool) (new : Sets) (rules : List Numbere
   })
 
   -- at the end nothing later is left
-  pub all_turned : (i : ℕ) (was now : List RuleMemo) → length was ≡ length rules → length rules ≤ i → AreTurned a growing new rules head i was now → AreTurned a growing new rules head (length rules) was now
+  pub all_turned : (i : ℕ) (was now : List Memo) → length was ≡ length rules → length rules ≤ i → AreTurned growing lasting new rules head i was now → AreTurned growing lasting new rules head (length rules) was now
   all_turned i was now many le t = record {
     many = t.many;
     own = λ k r m below at kept own. t.own k r m (omega (arith, below, le)) at kept own;
@@ -173,35 +195,6 @@ module _ (a : Accepted) (growing : List Bool) (new : Sets) (rules : List Numbere
 
 -- ---- what a rule answers
 
--- a set that has no new rows
-pub extends_none : (rows fresh : List Row) → IsRowSet rows → fresh ≡ [] → Extends rows rows fresh
-extends_none rows fresh sorted none = subst (Extends rows rows) (sym none) (record {
-  sorted = sorted;
-  fresh_sorted = none_is_set.sorted;
-  all = sym (ap set_of (append-nil rows) ∙ set_of-sorted rows sorted);
-  apart = λ row h. absurd h;
-})
-
 pub grown_fault : (X : Type 0) (body : NumberedExpr) (m after : Memo) (held : List Change) (ready : IsReady body m held) (start rows new made : List Row) (fault : SetFault) → GrowsBy body m after held ready start rows new made (Err fault) → AddsRows {X = X} (numbered_rows ready.new body) (numbered_sets ready.new body) rows new (Err fault)
 grown_fault X body m after held ready start rows new made TooManyRows h = h
 grown_fault X body m after held ready start rows new made NoMemory h = tt
-
-pub added_fault : (X : Type 0) (body : NumberedExpr) (m after : Memo) (held : List Change) (ready : IsReady body m held) (set new : List Row) (fault : SetFault) → AddsBody body m after held ready set new (Err fault) → AddsRows {X = X} (numbered_rows ready.new body) (numbered_sets ready.new body) set new (Err fault)
-added_fault X body m after held ready set new TooManyRows h = h
-added_fault X body m after held ready set new NoMemory h = tt
-
--- what is kept of a rule of a head that grows
-pub grown_rule : (a : Accepted) (growing : List Bool) (old new : Sets) (rule : NumberedRule) (was now : RuleMemo) (head : ℕ) → rule.head ≡ head → IsTrue (grows_at growing head) → now.alone ≡ was.alone → Stands growing new rule.body now.memo → RuleStands a growing old rule was → RuleStands a growing new rule now
-grown_rule a growing old new rule was now head same grow alone stands s = record {
-  body = stands;
-  rows = λ g none. absurd (true≢false (sym grow ∙ ap (grows_at growing) (sym same) ∙ none));
-  alone = λ t. s.alone (sym alone ∙ t);
-}
-
--- what is kept of a rule of another head
-pub made_rule : (a : Accepted) (growing : List Bool) (old new : Sets) (rule : NumberedRule) (was now : RuleMemo) → now.alone ≡ was.alone → Stands growing new rule.body now.memo → (IsTrue (grows growing rule.body) → now.rows ≡ numbered_rows new rule.body) → RuleStands a growing old rule was → RuleStands a growing new rule now
-made_rule a growing old new rule was now alone stands rows s = record {
-  body = stands;
-  rows = λ g none. rows g;
-  alone = λ t. s.alone (sym alone ∙ t);
-}

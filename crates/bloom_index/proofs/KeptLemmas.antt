@@ -1,4 +1,4 @@
--- The tables after a step have rows of their widths, and what grows holds at the end of the step what it holds over them with nothing arriving.
+-- The tables after a step have rows of their widths, and what is table-only holds at the end of the step what it holds over them with nothing arriving.
 use Rattle.std.proofs.Common.{◌≡◌, ℕ, Bool, true, false, not, List, [], ◌∷◌, ◌++◌, length, get_or, IsTrue, Option, None, Some, refl, ap, ◌∙◌, sym, subst, inl, inr}
 use Rattle.std.specs.Prelude.{◌==◌}
 use Rattle.std.specs.List.{fold}
@@ -11,7 +11,7 @@ use Rattle.blz_value.specs.Record.{Row}
 use Rattle.blz_value.specs.Sets.{set_of, IsRowSet}
 use Rattle.blz_value.proofs.Membership.{All-of_member, all_member, Has-append_cases, Has-filter, Has-from_filter, Has-from_flat_map, Has-get_or}
 use Rattle.blz_value.proofs.SetLaws.{sorted_set_of, Has-from_set_of}
-use Rattle.blz_value.proofs.Booleans.{both_true as and_parts}
+use Rattle.blz_boxes.proofs.Tables.{empties_wide}
 use Rattle.bloom_forms.specs.declared.module.Kind.{Kind}
 use Rattle.bloom_forms.specs.declared.module.Kind.TheVariants.{Input, Output, Table, Scratch}
 use Rattle.bloom_forms.specs.declared.module.Collection.{Collection}
@@ -24,8 +24,7 @@ use Rattle.bloom_forms.specs.Heads.{names_of}
 use Rattle.bloom_forms.specs.Kinds.{has_kind, is_readable, is_scratch, kind_at}
 use Rattle.bloom_forms.specs.Lookup.{collection_number, kind_of, declared}
 use Rattle.bloom_forms.specs.OverTables.{over, env_over, without_table_rules}
-use Rattle.bloom_forms.specs.Plain.{is_free}
-use Rattle.bloom_forms.specs.Program.{columns_of_kind}
+use Rattle.bloom_forms.specs.Program.{columns_of_kind, port_columns}
 use Rattle.bloom_forms.specs.ProgramStep.{no_arrivals}
 use Rattle.bloom_forms.specs.Query.{Name, Query}
 use Rattle.bloom_forms.specs.Query.Query.{base}
@@ -41,9 +40,9 @@ use Rattle.bloom_forms.proofs.Reach.Quiet.{input_momentary, scratch_momentary, n
 use Rattle.bloom_forms.proofs.Reach.ReadsLemmas.{by_names}
 use Rattle.bloom_eval.specs.Code.Taken.{AreSetsOfAll}
 use Rattle.bloom_eval.proofs.Widths.{columns_at, columns-number, wide_at, wide_named, set_wide, kinds_wide, are_begun}
-use Rattle.bloom_index.specs.Growing.{is_growing}
-use Rattle.bloom_index.specs.Code.Growth.{grows_at, rules_grow, kind_grows, AreGrowing}
+use Rattle.bloom_index.specs.Code.Growth.{kind_grows}
 use Rattle.bloom_index.specs.Code.Kept.{held_over}
+use Rattle.bloom_index.specs.Code.Lasting.{lasts_at, rules_last, AreLasting}
 use Rattle.bloom_index.proofs.NamedNumbers.{by_number}
 
 module _ (a : Accepted) (checked : IsChecked a.form a.heads) where
@@ -94,6 +93,10 @@ module _ (a : Accepted) (checked : IsChecked a.form a.heads) where
   pub after_wide : (tables now : Sets) → AreSetsOf (columns_of_kind Table cs) tables → AreSetsOf (columns_of_kind Input cs) now → AreSetsOf (columns_of_kind Table cs) (tables_after a tables now)
   after_wide tables now kept ports = kinds_wide Table cs (at_end a tables now) (end_wide tables now kept ports)
 
+  -- also with nothing arriving
+  pub quiet_wide : (tables : Sets) → AreSetsOf (columns_of_kind Table cs) tables → AreSetsOfAll cs (at_end a tables nothing)
+  quiet_wide tables kept = end_wide tables nothing kept (empties_wide (port_columns (Module a)))
+
   -- ---- tables that stand still
 
   pub still_ends : (tables : Sets) → tables_after a tables (no_arrivals (Module a)) ≡ tables → (k : ℕ) → set_at (at_end a tables (no_arrivals (Module a))) k ≡ set_at (held_over a tables) k
@@ -103,11 +106,8 @@ module _ (a : Accepted) (checked : IsChecked a.form a.heads) where
 
   -- ---- what doesn't depend on what arrives
 
-  growing_quiet : (q : Query) → is_growing cs all_rules q ≡ true → is_momentary cs all_rules q ≡ false
-  growing_quiet q g = elim (cases_Bool (is_momentary cs all_rules q)) [
-    | inl t ↦ absurd (true≢false (sym (and_parts (not (is_momentary cs all_rules q)) (is_free cs all_rules q) g).0 ∙ ap not t))
-    | inr f ↦ f
-  ]
+  table_only : (q : Query) → not (is_momentary cs all_rules q) ≡ true → is_momentary cs all_rules q ≡ false
+  table_only q only = elim (cases_Bool (is_momentary cs all_rules q)) [ inl t ↦ absurd (true≢false (sym only ∙ ap not t)) | inr f ↦ f ]
 
   quiet_name : (q : Query) (m : Name) → Has m (names_of q) → is_momentary cs all_rules q ≡ false → is_momentary cs all_rules (base m) ≡ false
   quiet_name q m h quiet = elim (cases_Bool (is_momentary cs all_rules (base m))) [
@@ -181,30 +181,30 @@ module _ (a : Accepted) (checked : IsChecked a.form a.heads) where
     same_name : (n : Name) → IsSame n
     same_name = by_names a checked IsSame same_step
 
-    -- a collection that grows holds the same
-    same_grown : (n : Name) → kind_grows (kind_of cs n) (rules_grow a.form (collection_number cs n)) ≡ true → arriving n ≡ standing n
-    same_grown n grown = go (kind_of cs n) refl grown
+    -- a collection that is table-only holds the same
+    same_lasting : (n : Name) → kind_grows (kind_of cs n) (rules_last a.form (collection_number cs n)) ≡ true → arriving n ≡ standing n
+    same_lasting n last = go (kind_of cs n) refl last
       where
-        ruled : rules_grow a.form (collection_number cs n) ≡ true → union_of (declared cs) arriving (rules_of all_rules n) ≡ union_of (declared cs) standing (rules_of all_rules n)
+        ruled : rules_last a.form (collection_number cs n) ≡ true → union_of (declared cs) arriving (rules_of all_rules n) ≡ union_of (declared cs) standing (rules_of all_rules n)
         ruled all = quiet_union (rules_of all_rules n) (λ rule h.
             quiet_rule rule (own_rule n rule h).0
-            (growing_quiet rule.1 (all_member (λ (r : RuleForm). is_growing cs all_rules r.1) (rules_at cs all_rules (collection_number cs n)) rule all (numbered_rule n rule h)))
+            (table_only rule.1 (all_member (λ (r : RuleForm). not (is_momentary cs all_rules r.1)) (rules_at cs all_rules (collection_number cs n)) rule all (numbered_rule n rule h)))
             (λ m names. same_name m))
 
-        go : (o : Option Kind) → kind_of cs n ≡ o → kind_grows o (rules_grow a.form (collection_number cs n)) ≡ true → arriving n ≡ standing n
-        go None is g = absurd (true≢false (sym g))
-        go (Some Input) is g = absurd (true≢false (sym g))
-        go (Some Table) is g = same_table n is
-        go (Some Output) is g = over_by now n (Some Output) is ∙ ap set_of (ruled g) ∙ sym (over_by nothing n (Some Output) is)
-        go (Some Scratch) is g = over_by now n (Some Scratch) is ∙ ap set_of (ruled g) ∙ sym (over_by nothing n (Some Scratch) is)
+        go : (o : Option Kind) → kind_of cs n ≡ o → kind_grows o (rules_last a.form (collection_number cs n)) ≡ true → arriving n ≡ standing n
+        go None is t = absurd (true≢false (sym t))
+        go (Some Input) is t = absurd (true≢false (sym t))
+        go (Some Table) is t = same_table n is
+        go (Some Output) is t = over_by now n (Some Output) is ∙ ap set_of (ruled t) ∙ sym (over_by nothing n (Some Output) is)
+        go (Some Scratch) is t = over_by now n (Some Scratch) is ∙ ap set_of (ruled t) ∙ sym (over_by nothing n (Some Scratch) is)
 
-  pub after_ends : (growing : List Bool) → AreGrowing a growing → (tables now : Sets) (k : ℕ) → IsTrue (grows_at growing k) → set_at (at_end a tables now) k ≡ set_at (held_over a (tables_after a tables now)) k
-  after_ends growing are tables now k g =
+  pub after_ends : (lasting : List Bool) → AreLasting a lasting → (tables now : Sets) (k : ℕ) → IsTrue (lasts_at lasting k) → set_at (at_end a tables now) k ≡ set_at (held_over a (tables_after a tables now)) k
+  after_ends lasting are tables now k t =
       by_number cs checked.distinct (at_end a tables now) (held_over a (tables_after a tables now)) (length-at_end a tables now) (length-at_end (without_table_rules a) (tables_after a tables now) nothing) k (λ n is.
-      let grown : kind_grows (kind_of cs n) (rules_grow a.form (collection_number cs n)) ≡ true = (
-      ap (λ (o : Option Kind). kind_grows o (rules_grow a.form (collection_number cs n))) (sym (kind-number cs n))
-      ∙ ap (λ (j : ℕ). kind_grows (kind_at cs j) (rules_grow a.form j)) is
+      let last : kind_grows (kind_of cs n) (rules_last a.form (collection_number cs n)) ≡ true = (
+      ap (λ (o : Option Kind). kind_grows o (rules_last a.form (collection_number cs n))) (sym (kind-number cs n))
+      ∙ ap (λ (j : ℕ). kind_grows (kind_at cs j) (rules_last a.form j)) is
       ∙ sym (are.each k)
-      ∙ g
+      ∙ t
       ) in
-      end_over a checked.ordered tables now n ∙ same_grown tables now n grown)
+      end_over a checked.ordered tables now n ∙ same_lasting tables now n last)

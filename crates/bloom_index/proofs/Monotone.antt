@@ -1,14 +1,12 @@
 -- The rows of an expression that grows never become fewer.
-use Rattle.std.proofs.Common.{◌≡◌, ℕ, ◌≤◌, Bool, true, List, length, ◌∙◌, sym, arith}
+use Rattle.std.proofs.Common.{◌≡◌, ℕ, ◌≤◌, Bool, true, List, length, sym, arith}
 use Rattle.std.specs.Prelude.{nat_le}
 use Rattle.std.specs.Ordering.{eq_by_cmp}
 use Rattle.std.proofs.lemmas.Bool.{true≢false, and_parts}
 use Rattle.std.proofs.lemmas.Bool.Decides.{nat_tests}
 use Rattle.blz_value.specs.Groups.{with_key, at_least_rows}
-use Rattle.blz_value.specs.Members.{IsWithin}
 use Rattle.blz_value.specs.Operators.{cells, select_rows, project_rows, join_rows}
 use Rattle.blz_value.specs.Record.{Row, record_cmp}
-use Rattle.blz_value.specs.Sets.{IsRowSet}
 use Rattle.blz_value.specs.Test.{test_holds}
 use Rattle.blz_value.proofs.Membership.{Has-filter, Has-from_filter}
 use Rattle.blz_value.proofs.OperatorsLemmas.{from_select, in_select, from_project, in_project, from_join, in_join, from_at_least, in_at_least, sorted_filter, length-within}
@@ -17,13 +15,7 @@ use Rattle.bloom_forms.specs.declared.numbered.NumberedExpr.{NumberedExpr}
 use Rattle.bloom_forms.specs.declared.numbered.NumberedExpr as expr
 use Rattle.bloom_forms.specs.Step.{Sets, set_at}
 use Rattle.bloom_eval.specs.Code.NumberedRows.{numbered_rows}
-use Rattle.bloom_index.specs.Code.Growth.{grows_at, grows}
-
--- sets of rows, of which the second has those of the first
-pub record IsGrown (old new : List Row) : Type 0 where
-  pub old_sorted : IsRowSet old
-  pub new_sorted : IsRowSet new
-  pub within : IsWithin old new
+use Rattle.bloom_index.specs.Code.Growth.{grows_at, grows, IsGrown}
 
 more_often : (keys : List ℕ) (bound : ℕ) (old new : List Row) → IsGrown old new → (key : Row) → nat_le bound (length (with_key keys key old)) ≡ true → nat_le bound (length (with_key keys key new)) ≡ true
 more_often keys bound old new g key t =

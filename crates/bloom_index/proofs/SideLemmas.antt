@@ -23,14 +23,13 @@ use Rattle.bloom_forms.specs.Query.Query.{base, select, project, join, notin, gr
 use Rattle.bloom_forms.specs.Step.{Sets}
 use Rattle.bloom_eval.specs.Code.NumberedRows.{numbered_rows}
 use Rattle.bloom_eval.proofs.ByNumbers.{same_rows}
-use Rattle.bloom_index.specs.declared.heads.RuleMemo.{RuleMemo}
 use Rattle.bloom_growth.specs.declared.side.Side.{Side}
 use Rattle.bloom_index.specs.Growing.{is_growing}
 use Rattle.bloom_index.specs.Sides.{SidePart, side_if, pairs_by_number, sides_in, module_sides, rows_over, part_side, side_rows}
 use Rattle.bloom_index.specs.Code.Growth.{grows, AreGrowing}
-use Rattle.bloom_index.specs.Code.Kept.{held_over, RuleStands}
+use Rattle.bloom_index.specs.Code.Kept.{held_over}
 use Rattle.bloom_growth.specs.Sides.{rows_at}
-use Rattle.bloom_index.specs.Code.SideParts.{NumberedSide, grown_side, numbered_sides, rules_sides, BodiesStand, HasRowsOf, IsSideAt}
+use Rattle.bloom_index.specs.Code.SideParts.{NumberedSide, grown_side, numbered_sides, rules_sides, HasRowsOf, IsSideAt}
 use Rattle.bloom_index.proofs.GrowsLemmas.{AreKnown, expr_is, rule_known}
 
 -- two lists after two lists
@@ -124,10 +123,3 @@ module _ (a : Accepted) (checked : IsChecked a.form a.heads) (growing : List Boo
             let rows : numbered_rows (held_over a kept) s.part ≡ rows_over a kept p.part = same_rows cs (held_over a kept) p.part s.part zip.part in
             let columns = zip.columns in
             found key ∙ (λ i. with_key (columns i) key (rows i))
-
--- what is kept of rules is kept of their bodies
-pub bodies_stand : (a : Accepted) (growing : List Bool) (sets : Sets) (rules : List NumberedRule) (memos : List RuleMemo) → AllZip (RuleStands a growing sets) rules memos → BodiesStand growing sets rules memos
-bodies_stand a growing sets [] [] all = tt
-bodies_stand a growing sets [] (m ∷ memos) all = absurd all
-bodies_stand a growing sets (r ∷ rules) [] all = absurd all
-bodies_stand a growing sets (r ∷ rules) (m ∷ memos) all = (all.0.body, bodies_stand a growing sets rules memos all.1)

@@ -1,25 +1,29 @@
 -- Sides one rule after the other, and one part of a rule after the other.
-use Rattle.std.proofs.Common.{◌≡◌, ◌∙◌, ◌<◌, ◌≤◌, ◌+◌, ℕ, zero, suc, Bool, IsTrue, IsSomeAnd, List, [], ◌∷◌, ◌++◌, length, get_or, take, drop, slice_get, Bor, ap, sym, subst, arith}
+use Rattle.std.proofs.Common.{◌≡◌, ◌∙◌, ◌<◌, ◌+◌, ℕ, zero, suc, Bool, if◌then◌else◌, IsSomeAnd, List, [], ◌∷◌, ◌++◌, length, get_or, take, drop, slice_get, Bor, ap, sym, subst, arith}
 use Rattle.std.specs.List.{AllZip, flat_map}
 use Rattle.std.specs.declared.ops.ControlFlow.{ControlFlow}
 use Rattle.std.specs.declared.ops.ControlFlow.TheVariants.{Continue, Break}
-use Rattle.std.proofs.lemmas.List.{append-nil, take_more, take-append-drop, drop_more, length-append, get_or_default}
+use Rattle.std.proofs.lemmas.List.{append-nil, take_more, take-append-drop, drop_more, length-append}
 use Rattle.std.proofs.lemmas.List.Concat.{flat_map-append}
 use Rattle.std.proofs.lemmas.Slice.Zip.{AllZip-long}
 use Rattle.bloom_forms.specs.declared.numbered.NumberedExpr.{NumberedExpr}
 use Rattle.bloom_forms.specs.declared.numbered.NumberedExpr as expr
 use Rattle.bloom_forms.specs.declared.numbered.NumberedRule.{NumberedRule}
 use Rattle.bloom_forms.specs.Step.{Sets}
-use Rattle.bloom_index.specs.declared.heads.RuleMemo.{RuleMemo}
 use Rattle.bloom_index.specs.declared.memo.Memo.{Memo}
 use Rattle.bloom_index.specs.declared.memo.Memo as shape
+use Rattle.bloom_index.specs.declared.part_rows.PartRows.{PartRows}
+use Rattle.bloom_index.specs.declared.part_rows.PartRows.TheVariants.{Growing, Keyed}
 use Rattle.bloom_growth.specs.declared.side.Side.{Side}
 use Rattle.bloom_eval.specs.Code.NumberedRows.{numbered_rows}
 use Rattle.bloom_index.specs.Code.Evaluation.{Stands}
 use Rattle.bloom_index.specs.Code.Growth.{grows}
 use Rattle.bloom_growth.specs.Sides.{IsSideOf}
-use Rattle.bloom_index.specs.Code.Memos.{part_kept}
-use Rattle.bloom_index.specs.Code.SideParts.{NumberedSide, grown_side, numbered_sides, rules_sides, IsKept, BodiesStand, HasRowsOf, IsSideAt, Finds}
+use Rattle.bloom_index.specs.Code.Lasting.{lasts, GrowLast}
+use Rattle.bloom_index.specs.Code.Memos.{PartStands, part_kept}
+use Rattle.bloom_index.specs.Code.PartForms.{kept_of}
+use Rattle.bloom_index.specs.Code.SideParts.{NumberedSide, grown_side, numbered_sides, rules_sides, IsKept, AreKept, HasRowsOf, IsSideAt, FindsOwn, Finds}
+use Rattle.bloom_index.proofs.LastsLemmas.{grow_lasts}
 
 -- the element at a place of two lists
 pub zip_at : {X Y : Type 0} (R : X → Y → Type 0) (xs : List X) (ys : List Y) (i : ℕ) (x : X) (y : Y) → AllZip R xs ys → i < length xs → x ≡ get_or xs i x → y ≡ get_or ys i y → R x y
@@ -73,18 +77,30 @@ pub finds_later : (sets : Sets) (xs ys : List NumberedSide) (number left : ℕ) 
 finds_later sets xs ys number left (Break side) passed found = at_after (HasRowsOf sets side.now) xs ys left number (omega (arith, passed)) found
 finds_later sets xs ys number left (Continue more) passed found = omega (arith, passed, found, length-append xs ys)
 
--- what is found of a part itself
-abbrev FindsPart : List Bool → NumberedExpr → Side → (number : ℕ) → ControlFlow (Bor Side) ℕ → Type 0
-FindsPart growing e side number r = (sets : Sets) (columns : List ℕ) → (IsTrue (grows growing e) → IsSideOf columns (numbered_rows sets e) side) → Finds sets (grown_side growing e columns) number r
+-- what is found of a part itself, of which what is kept stands
+pub part_finds : (growing lasting : List Bool) → GrowLast growing lasting → (e : NumberedExpr) (sets : Sets) (columns : List ℕ) (rows : PartRows) (number : ℕ) (r : ControlFlow (Bor Side) ℕ) → FindsOwn rows number r
+    → PartStands columns (grows growing e) (lasts lasting e) (numbered_rows sets e) (kept_of rows) → Finds sets (grown_side growing e columns) number r
+part_finds growing lasting last e sets columns (Growing side) number (Break found) own stands =
+    let one : NumberedSide = record { part = e; columns = columns } in
+    let has : IsSideOf columns (numbered_rows sets e) found.now = subst (λ (s : Side). IsSideOf columns (numbered_rows sets e) s) (sym own.1) (stands.by_key (grow_lasts growing lasting last e (sym stands.form))) in
+    subst (λ (b : Bool). IsSideAt sets (if b then one ∷ [] else []) number found.now) stands.form (subst (λ (n : ℕ). IsSideAt sets (one ∷ []) n found.now) (sym own.0) has)
+part_finds growing lasting last e sets columns (Growing side) number (Continue left) own stands =
+    let one : NumberedSide = record { part = e; columns = columns } in
+    subst (λ (b : Bool). length (if b then one ∷ [] else []) + left ≡ number) stands.form own
+part_finds growing lasting last e sets columns (Keyed rows) number (Break found) own stands = absurd own
+part_finds growing lasting last e sets columns (Keyed rows) number (Continue left) own stands =
+    let one : NumberedSide = record { part = e; columns = columns } in
+    subst (λ (b : Bool). length (if b then one ∷ [] else []) + left ≡ number) stands.form (omega (arith, own))
 
-pub part_found : (growing : List Bool) (e0 e : NumberedExpr) (side : Side) (number : ℕ) (r : ControlFlow (Bor Side) ℕ) → e0 ≡ e → FindsPart growing e0 side number r → FindsPart growing e side number r
-part_found growing e0 e side number r ee f = subst (λ (x : NumberedExpr). FindsPart growing x side number r) ee f
+-- what is kept of an expression has what is kept of another
+abbrev pub in_kept : (growing : List Bool) (e part : NumberedExpr) (m own : Memo) → (kept : IsKept growing e m) → Stands growing kept.lasting kept.sets part own → IsKept growing part own
+in_kept growing e part m own kept stands = record { lasting = kept.lasting; sets = kept.sets; last = kept.last; stands = stands }
 
 -- what is found of equal expressions and memos
 pub transport : (growing : List Bool) (e0 e : NumberedExpr) (m0 m : Memo) (number : ℕ) (r : ControlFlow (Bor Side) ℕ) → e0 ≡ e → m0 ≡ m → ((kept : IsKept growing e m) → Finds kept.sets (numbered_sides growing e) number r)
     → (kept : IsKept growing e0 m0) → Finds kept.sets (numbered_sides growing e0) number r
 transport growing e0 e m0 m number r ee em f kept =
-    let there : IsKept growing e m = record { sets = kept.sets; stands = subst (λ (x : Memo). Stands growing kept.sets e x) em (subst (λ (x : NumberedExpr). Stands growing kept.sets x m0) ee kept.stands) } in
+    let there : IsKept growing e m = in_kept growing e0 e m0 m kept (subst (λ (x : Memo). Stands growing kept.lasting kept.sets e x) em (subst (λ (x : NumberedExpr). Stands growing kept.lasting kept.sets x m0) ee kept.stands)) in
     subst (λ (x : NumberedExpr). Finds kept.sets (numbered_sides growing x) number r) (sym ee) (f there)
 
 -- the one part of an expression, and one without parts or of two itself
@@ -97,35 +113,32 @@ part_of (expr.NotIn' p a q b pairs) = expr.NotIn' p a q b pairs
 part_of (expr.Group' p e keys agg) = e
 part_of (expr.AtLeast' p e keys bound) = e
 
-pub kept_part : (growing : List Bool) (sets : Sets) (e : NumberedExpr) (m : Memo) → Stands growing sets e m → Stands growing sets (part_of e) (part_kept m)
-kept_part growing sets (expr.Base number) shape.Base stands = stands
-kept_part growing sets (expr.Select' p e test) (shape.Select' q m) stands = stands
-kept_part growing sets (expr.Project' p e columns) (shape.Project' q m rows) stands = stands.0
-kept_part growing sets (expr.Join' p a q b pairs) (shape.Join' r m s n kept) stands = stands
-kept_part growing sets (expr.NotIn' p a q b pairs) (shape.NotIn' r m s n kept) stands = stands
-kept_part growing sets (expr.Group' p e keys agg) (shape.Group' q m groups) stands = stands.0
-kept_part growing sets (expr.AtLeast' p e keys bound) (shape.AtLeast' q m groups rows) stands = stands.0
-kept_part growing sets e m stands = absurd stands
+pub kept_part : (growing lasting : List Bool) (sets : Sets) (e : NumberedExpr) (m : Memo) → Stands growing lasting sets e m → Stands growing lasting sets (part_of e) (part_kept m)
+kept_part growing lasting sets (expr.Base number) shape.Base stands = stands
+kept_part growing lasting sets (expr.Select' p e test) (shape.Select' q m) stands = stands
+kept_part growing lasting sets (expr.Project' p e columns) (shape.Project' q m bag) stands = stands.0
+kept_part growing lasting sets (expr.Join' p a q b pairs) (shape.Join' r m s n kept) stands = stands
+kept_part growing lasting sets (expr.NotIn' p a q b pairs) (shape.NotIn' r m s n kept) stands = stands
+kept_part growing lasting sets (expr.Group' p e keys agg) (shape.Group' q m groups) stands = stands.0
+kept_part growing lasting sets (expr.AtLeast' p e keys bound) (shape.AtLeast' q m groups) stands = stands.0
+kept_part growing lasting sets e m stands = absurd stands
 
 -- what is kept of an expression has what is kept of its part
 abbrev pub part_is_kept : (growing : List Bool) (e : NumberedExpr) (m : Memo) → IsKept growing e m → IsKept growing (part_of e) (part_kept m)
-part_is_kept growing e m kept = record { sets = kept.sets; stands = kept_part growing kept.sets e m kept.stands }
+part_is_kept growing e m kept = in_kept growing e (part_of e) m (part_kept m) kept (kept_part growing kept.lasting kept.sets e m kept.stands)
 
 -- ---- what is kept of the rules
 
-module _ (growing : List Bool) (sets : Sets) (rules : List NumberedRule) (memos : List RuleMemo) (all : BodiesStand growing sets rules memos) where
-  abbrev Kept : NumberedRule → RuleMemo → Type 0
-  Kept rule memo = Stands growing sets rule.body memo.memo
+module _ (growing : List Bool) (rules : List NumberedRule) (memos : List Memo) (all : AreKept growing rules memos) where
+  abbrev Kept : NumberedRule → Memo → Type 0
+  Kept rule memo = Stands growing all.lasting all.sets rule.body memo
 
   pub as_many : length memos ≡ length rules
-  as_many = AllZip-long Kept rules memos all
+  as_many = AllZip-long Kept rules memos all.stand
 
   -- what is kept of the rule at a place
-  abbrev pub body_at : (i : ℕ) (rule : NumberedRule) (d : RuleMemo) → i < length rules → rule ≡ get_or rules i rule → IsKept growing rule.body (get_or memos i d).memo
-  body_at i rule d lt is = record {
-    sets = sets;
-    stands = zip_at Kept rules memos i rule (get_or memos i d) all lt is (get_or_default memos i d (get_or memos i d) (omega (arith, lt, as_many)));
-  }
+  abbrev pub body_at : (i : ℕ) (rule : NumberedRule) (memo : Memo) → i < length rules → rule ≡ get_or rules i rule → memo ≡ get_or memos i memo → IsKept growing rule.body memo
+  body_at i rule memo lt is also = record { lasting = all.lasting; sets = all.sets; last = all.last; stands = zip_at Kept rules memos i rule memo all.stand lt is also }
 
 -- one rule more is passed
 pub passed_more : (growing : List Bool) (rules : List NumberedRule) (i : ℕ) (rule : NumberedRule) (left later number : ℕ) → i < length rules → rule ≡ get_or rules i rule → left + length (rules_sides growing (take i rules)) ≡ number

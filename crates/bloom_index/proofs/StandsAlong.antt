@@ -1,21 +1,21 @@
--- What is kept of an expression speaks of the collections that grow alone: over sets that hold the same of those which it names it stands as well.
-use Rattle.std.proofs.Common.{◌≡◌, ℕ, Bool, true, IsTrue, List, refl, ap, ◌∙◌, sym, subst, inl}
-use Rattle.std.proofs.lemmas.Bool.{true≢false, and_parts}
+-- What is kept of an expression speaks of the collections that are kept alone: over sets that hold the same of those which it names it stands as well.
+use Rattle.std.proofs.Common.{◌≡◌, ◌≤◌, ℕ, Bool, true, IsTrue, List, [], ◌∷◌, ◌++◌, length, refl, ap, ◌∙◌, sym, subst, inl, inr}
+use Rattle.std.specs.Prelude.{◌==◌, ◌&&◌}
+use Rattle.std.proofs.lemmas.Bool.{cases_Bool, eqb-true, and_parts}
 use Rattle.blz_value.specs.Members.{Has}
 use Rattle.blz_value.specs.Record.{Row}
 use Rattle.blz_value.specs.Sets.{set_of}
 use Rattle.blz_value.specs.Test.{test_holds}
-use Rattle.blz_value.specs.Operators.{Pairs, select_rows, project_rows, join_rows}
-use Rattle.blz_value.specs.Groups.{at_least_rows}
-use Rattle.blz_value.specs.declared.aggregate.Agg.{Agg}
+use Rattle.blz_value.specs.Operators.{Pairs, select_rows, project_rows, join_rows, notin_rows}
+use Rattle.blz_value.specs.Groups.{group_rows, at_least_rows}
 use Rattle.blz_value.specs.declared.aggregate.Agg.TheVariants.{Count}
 use Rattle.blz_value.proofs.Membership.{Has-append_left, Has-append_right}
 use Rattle.blz_set.specs.Code.Pairs.{lefts_of, rights_of}
+use Rattle.blz_set.specs.RecordSet.{row_limit}
 use Rattle.bloom_forms.specs.declared.module.Collection.{Collection}
 use Rattle.bloom_forms.specs.declared.numbered.NumberedExpr.{NumberedExpr}
 use Rattle.bloom_forms.specs.declared.numbered.NumberedExpr as expr
 use Rattle.bloom_forms.specs.declared.numbered.NumberedRule.{NumberedRule}
-use Rattle.bloom_forms.specs.Form.{Accepted}
 use Rattle.bloom_forms.specs.Heads.{names_of}
 use Rattle.bloom_forms.specs.Lookup.{collection_number}
 use Rattle.bloom_forms.specs.Numbered.{IsNumbered}
@@ -23,43 +23,49 @@ use Rattle.bloom_forms.specs.Query.{Name, Query}
 use Rattle.bloom_forms.specs.Query.Query.{base, select, project, join, notin, group, at_least}
 use Rattle.bloom_forms.specs.Step.{Sets, set_at}
 use Rattle.bloom_eval.specs.Code.NumberedRows.{numbered_rows}
-use Rattle.bloom_index.specs.declared.excluding.NotInMemo.{NotInMemo}
-use Rattle.bloom_growth.specs.declared.groups.Groups.{Groups}
-use Rattle.bloom_index.specs.declared.heads.RuleMemo.{RuleMemo}
-use Rattle.bloom_growth.specs.declared.joining.JoinMemo.{JoinMemo}
+use Rattle.bloom_growth.specs.declared.bag.Bag.{Bag}
+use Rattle.bloom_growth.specs.declared.turn_joins.KeptJoin.{KeptJoin}
+use Rattle.bloom_growth.specs.declared.turn_notins.KeptNotIn.{KeptNotIn}
+use Rattle.bloom_growth.specs.Bags.{IsBag}
+use Rattle.bloom_growth.specs.Code.ByKey.{AreByKey}
+use Rattle.bloom_growth.specs.Kept.{Kept}
+use Rattle.bloom_growth.specs.Keyed.{IsKeyedBy}
+use Rattle.bloom_growth.specs.TurningGroups.{TalliesStand}
 use Rattle.bloom_index.specs.declared.memo.Memo.{Memo}
 use Rattle.bloom_index.specs.declared.memo.Memo as memo
+use Rattle.bloom_index.specs.declared.part_rows.PartRows.{PartRows}
 use Rattle.bloom_index.specs.Code.Evaluation.{Stands}
-use Rattle.bloom_growth.specs.Groups.{AreRunning, GroupsStand}
-use Rattle.bloom_index.specs.Code.Growth.{grows_at, grows}
-use Rattle.bloom_index.specs.Code.Kept.{RuleStands}
-use Rattle.bloom_index.specs.Code.Memos.{JoinStands, NotInStands}
-use Rattle.bloom_growth.specs.Sides.{IsSideOf}
+use Rattle.bloom_index.specs.Code.Growth.{grows}
+use Rattle.bloom_index.specs.Code.HeadRules.{HasGiven}
+use Rattle.bloom_index.specs.Code.Heads.{kept_rules, rows_given}
+use Rattle.bloom_index.specs.Code.Lasting.{lasts_at, lasts}
+use Rattle.bloom_index.specs.Code.Memos.{PartStands, JoinStands, NotInStands}
+use Rattle.bloom_index.specs.Code.PartForms.{kept_of}
 
--- the sets hold the same of each collection that grows and stands in the expression
+-- the sets hold the same of each collection that is kept and stands in the expression
 abbrev pub AgreeOn : List Bool → (xs ys : Sets) → NumberedExpr → Type 0
-AgreeOn growing xs ys (expr.Base number) = IsTrue (grows_at growing number) → set_at xs number ≡ set_at ys number
-AgreeOn growing xs ys (expr.Select' p e test) = AgreeOn growing xs ys e
-AgreeOn growing xs ys (expr.Project' p e columns) = AgreeOn growing xs ys e
-AgreeOn growing xs ys (expr.Join' p a q b pairs) = AgreeOn growing xs ys a × AgreeOn growing xs ys b
-AgreeOn growing xs ys (expr.NotIn' p a q b pairs) = AgreeOn growing xs ys a × AgreeOn growing xs ys b
-AgreeOn growing xs ys (expr.Group' p e keys agg) = AgreeOn growing xs ys e
-AgreeOn growing xs ys (expr.AtLeast' p e keys bound) = AgreeOn growing xs ys e
+AgreeOn lasting xs ys (expr.Base number) = IsTrue (lasts_at lasting number) → set_at xs number ≡ set_at ys number
+AgreeOn lasting xs ys (expr.Select' p e test) = AgreeOn lasting xs ys e
+AgreeOn lasting xs ys (expr.Project' p e columns) = AgreeOn lasting xs ys e
+AgreeOn lasting xs ys (expr.Join' p a q b pairs) = AgreeOn lasting xs ys a × AgreeOn lasting xs ys b
+AgreeOn lasting xs ys (expr.NotIn' p a q b pairs) = AgreeOn lasting xs ys a × AgreeOn lasting xs ys b
+AgreeOn lasting xs ys (expr.Group' p e keys agg) = AgreeOn lasting xs ys e
+AgreeOn lasting xs ys (expr.AtLeast' p e keys bound) = AgreeOn lasting xs ys e
 
 -- ---- when they do
 
-pub agree_all : (growing : List Bool) (xs ys : Sets) → ((k : ℕ) → IsTrue (grows_at growing k) → set_at xs k ≡ set_at ys k) → (e : NumberedExpr) → AgreeOn growing xs ys e
-agree_all growing xs ys same (expr.Base number) = same number
-agree_all growing xs ys same (expr.Select' p e test) = agree_all growing xs ys same e
-agree_all growing xs ys same (expr.Project' p e columns) = agree_all growing xs ys same e
-agree_all growing xs ys same (expr.Join' p a q b pairs) = (agree_all growing xs ys same a, agree_all growing xs ys same b)
-agree_all growing xs ys same (expr.NotIn' p a q b pairs) = (agree_all growing xs ys same a, agree_all growing xs ys same b)
-agree_all growing xs ys same (expr.Group' p e keys agg) = agree_all growing xs ys same e
-agree_all growing xs ys same (expr.AtLeast' p e keys bound) = agree_all growing xs ys same e
+pub agree_all : (lasting : List Bool) (xs ys : Sets) → ((k : ℕ) → IsTrue (lasts_at lasting k) → set_at xs k ≡ set_at ys k) → (e : NumberedExpr) → AgreeOn lasting xs ys e
+agree_all lasting xs ys same (expr.Base number) = same number
+agree_all lasting xs ys same (expr.Select' p e test) = agree_all lasting xs ys same e
+agree_all lasting xs ys same (expr.Project' p e columns) = agree_all lasting xs ys same e
+agree_all lasting xs ys same (expr.Join' p a q b pairs) = (agree_all lasting xs ys same a, agree_all lasting xs ys same b)
+agree_all lasting xs ys same (expr.NotIn' p a q b pairs) = (agree_all lasting xs ys same a, agree_all lasting xs ys same b)
+agree_all lasting xs ys same (expr.Group' p e keys agg) = agree_all lasting xs ys same e
+agree_all lasting xs ys same (expr.AtLeast' p e keys bound) = agree_all lasting xs ys same e
 
-module _ (cs : List Collection) (growing : List Bool) (xs ys : Sets) where
-  pub agree_named : (q : Query) (e : NumberedExpr) → IsNumbered cs q e → ((n : Name) → Has n (names_of q) → IsTrue (grows_at growing (collection_number cs n)) → set_at xs (collection_number cs n) ≡ set_at ys (collection_number cs n)) → AgreeOn growing xs ys e
-  agree_named (base name) (expr.Base number) is same = λ g. ap (set_at xs) is ∙ same name (inl refl) (ap (grows_at growing) (sym is) ∙ g) ∙ sym (ap (set_at ys) is)
+module _ (cs : List Collection) (lasting : List Bool) (xs ys : Sets) where
+  pub agree_named : (q : Query) (e : NumberedExpr) → IsNumbered cs q e → ((n : Name) → Has n (names_of q) → IsTrue (lasts_at lasting (collection_number cs n)) → set_at xs (collection_number cs n) ≡ set_at ys (collection_number cs n)) → AgreeOn lasting xs ys e
+  agree_named (base name) (expr.Base number) is same = λ g. ap (set_at xs) is ∙ same name (inl refl) (ap (lasts_at lasting) (sym is) ∙ g) ∙ sym (ap (set_at ys) is)
   agree_named (select q f) (expr.Select' p e test) is same = agree_named q e is.0 same
   agree_named (project q items) (expr.Project' p e columns) is same = agree_named q e is.0 same
   agree_named (join a b pairs) (expr.Join' p left r right numbers) is same = (
@@ -76,70 +82,84 @@ module _ (cs : List Collection) (growing : List Bool) (xs ys : Sets) where
 
 -- ---- what follows
 
-module _ (growing : List Bool) (xs ys : Sets) where
-  -- a part that grows has the same rows
-  pub same_part : (e : NumberedExpr) → AgreeOn growing xs ys e → grows growing e ≡ true → numbered_rows xs e ≡ numbered_rows ys e
-  same_part (expr.Base number) agree g = agree g
-  same_part (expr.Select' p e test) agree g = ap (λ (rows : List Row). set_of (select_rows (test_holds test) rows)) (same_part e agree g)
-  same_part (expr.Project' p e columns) agree g = ap (λ (rows : List Row). set_of (project_rows columns rows)) (same_part e agree g)
-  same_part (expr.Join' p a q b pairs) agree g =
-      let both = and_parts (grows growing a) (grows growing b) g in
+module _ (lasting : List Bool) (xs ys : Sets) where
+  -- a part that is kept has the same rows
+  pub same_part : (e : NumberedExpr) → AgreeOn lasting xs ys e → lasts lasting e ≡ true → numbered_rows xs e ≡ numbered_rows ys e
+  same_part (expr.Base number) agree t = agree t
+  same_part (expr.Select' p e test) agree t = ap (λ (rows : List Row). set_of (select_rows (test_holds test) rows)) (same_part e agree t)
+  same_part (expr.Project' p e columns) agree t = ap (λ (rows : List Row). set_of (project_rows columns rows)) (same_part e agree t)
+  same_part (expr.Join' p a q b pairs) agree t =
+      let both = and_parts (lasts lasting a) (lasts lasting b) t in
       let lefts = same_part a agree.0 both.0 in
       let rights = same_part b agree.1 both.1 in
       λ i. set_of (join_rows pairs (lefts i) (rights i))
-  same_part (expr.NotIn' p a q b pairs) agree g = absurd (true≢false (sym g))
-  same_part (expr.Group' p e keys agg) agree g = absurd (true≢false (sym g))
-  same_part (expr.AtLeast' p e keys bound) agree g = ap (λ (rows : List Row). set_of (at_least_rows keys bound rows)) (same_part e agree g)
+  same_part (expr.NotIn' p a q b pairs) agree t =
+      let both = and_parts (lasts lasting a) (lasts lasting b) t in
+      let lefts = same_part a agree.0 both.0 in
+      let rights = same_part b agree.1 both.1 in
+      λ i. set_of (notin_rows pairs (lefts i) (rights i))
+  same_part (expr.Group' p e keys agg) agree t = ap (λ (rows : List Row). set_of (group_rows keys agg rows)) (same_part e agree t)
+  same_part (expr.AtLeast' p e keys bound) agree t = ap (λ (rows : List Row). set_of (at_least_rows keys bound rows)) (same_part e agree t)
 
-  join_along : (pairs : Pairs) (left right : Bool) (ls ms rs ss : List Row) (kept : JoinMemo) → (IsTrue left → ls ≡ ms) → (IsTrue right → rs ≡ ss) → JoinStands pairs left right ls rs kept → JoinStands pairs left right ms ss kept
-  join_along pairs left right ls ms rs ss kept lefts rights s = record {
-    left_columns = s.left_columns;
-    right_columns = s.right_columns;
-    left = λ t. subst (λ (rows : List Row). IsSideOf (lefts_of pairs) rows kept.left) (lefts t) (s.left t);
-    right = λ t. subst (λ (rows : List Row). IsSideOf (rights_of pairs) rows kept.right) (rights t) (s.right t);
-    rows = λ t u. s.rows t u ∙ (λ i. set_of (join_rows pairs (lefts t i) (rights u i)));
-  }
+  -- the rules of a head that are kept give the same
+  pub same_given : (rules : List NumberedRule) (head : ℕ) → ((rule : NumberedRule) → Has rule rules → rule.head ≡ head → AgreeOn lasting xs ys rule.body) → rows_given xs (kept_rules lasting rules head) ≡ rows_given ys (kept_rules lasting rules head)
+  same_given [] head agree = refl
+  same_given (rule ∷ rules) head agree =
+      let more = same_given rules head (λ r h. agree r (inr h)) in
+      elim (cases_Bool (rule.head == head && lasts lasting rule.body)) [
+        | inl t ↦
+            let both = and_parts (rule.head == head) (lasts lasting rule.body) t in
+            let own = same_part rule.body (agree rule (inl refl) (eqb-true rule.head head both.0)) both.1 in
+            rw t (λ i. own i ++ more i)
+        | inr f ↦ rw f more
+      ]
 
-  notin_along : (pairs : Pairs) (left right : Bool) (ls ms rs ss : List Row) (kept : NotInMemo) → (IsTrue left → ls ≡ ms) → (IsTrue right → rs ≡ ss) → NotInStands pairs left right ls rs kept → NotInStands pairs left right ms ss kept
-  notin_along pairs left right ls ms rs ss kept lefts rights s = record {
-    right_columns = s.right_columns;
-    left = λ t. s.left t ∙ lefts t;
-    right = λ t. subst (λ (rows : List Row). IsSideOf (rights_of pairs) rows kept.right) (rights t) (s.right t);
-  }
+  -- so a bag that has it over the one has it over the other
+  pub given_along : (rules : List NumberedRule) (head : ℕ) (bag : Bag) → ((rule : NumberedRule) → Has rule rules → rule.head ≡ head → AgreeOn lasting xs ys rule.body) → HasGiven lasting xs rules head bag → HasGiven lasting ys rules head bag
+  given_along rules head bag agree given = λ needs. subst (λ (rows : List Row). IsBag rows bag) (same_given rules head agree) (given needs)
 
-  groups_along : (keys : List ℕ) (agg : Agg) (grow : Bool) (rs ss : List Row) (kept : Groups) → (IsTrue grow → rs ≡ ss) → GroupsStand keys agg grow rs kept → GroupsStand keys agg grow ss kept
-  groups_along keys agg grow rs ss kept rows s = record {
-    keys_are = s.keys_are;
-    agg_is = s.agg_is;
-    running = λ t. subst (λ (l : List Row). AreRunning keys agg l kept.running) (rows t) (s.running t);
-  }
+-- ---- what is kept of a part, of which only the rows of one that is kept are told
 
-  pub stands_along : (e : NumberedExpr) (m : Memo) → AgreeOn growing xs ys e → Stands growing xs e m → Stands growing ys e m
+part_along : (columns : List ℕ) (grow last : Bool) (ls ms : List Row) (kept : Kept) → (IsTrue last → ls ≡ ms) → PartStands columns grow last ls kept → PartStands columns grow last ms kept
+part_along columns grow last ls ms kept same s = record {
+  form = s.form;
+  columns_are = s.columns_are;
+  by_key = λ t. subst (λ (rows : List Row). AreByKey columns rows kept.sets) (same t) (s.by_key t);
+}
+
+join_along : (pairs : Pairs) (left_grows left right_grows right : Bool) (ls ms rs ss : List Row) (kept : KeptJoin PartRows PartRows) → (IsTrue left → ls ≡ ms) → (IsTrue right → rs ≡ ss) → JoinStands pairs left_grows left right_grows right ls rs kept → JoinStands pairs left_grows left right_grows right ms ss kept
+join_along pairs left_grows left right_grows right ls ms rs ss kept lefts rights s = record {
+  left = part_along (lefts_of pairs) left_grows left ls ms (kept_of kept.left) lefts s.left;
+  right = part_along (rights_of pairs) right_grows right rs ss (kept_of kept.right) rights s.right;
+  counted = λ t u. s.counted t u ∙ (λ i. length (set_of (join_rows pairs (lefts t i) (rights u i))));
+  few = λ t u. subst (λ (n : ℕ). n ≤ row_limit) (λ i. length (set_of (join_rows pairs (lefts t i) (rights u i)))) (s.few t u);
+}
+
+notin_along : (pairs : Pairs) (left right_grows right : Bool) (ls ms rs ss : List Row) (kept : KeptNotIn PartRows) → (IsTrue left → ls ≡ ms) → (IsTrue right → rs ≡ ss) → NotInStands pairs left right_grows right ls rs kept → NotInStands pairs left right_grows right ms ss kept
+notin_along pairs left right_grows right ls ms rs ss kept lefts rights s = record {
+  left_columns = s.left_columns;
+  left = λ t. subst (λ (rows : List Row). IsKeyedBy (lefts_of pairs) rows kept.left) (lefts t) (s.left t);
+  right = part_along (rights_of pairs) right_grows right rs ss (kept_of kept.right) rights s.right;
+}
+
+module _ (growing lasting : List Bool) (xs ys : Sets) where
+  pub stands_along : (e : NumberedExpr) (m : Memo) → AgreeOn lasting xs ys e → Stands growing lasting xs e m → Stands growing lasting ys e m
   stands_along (expr.Base number) memo.Base agree s = s
   stands_along (expr.Select' p e test) (memo.Select' q m) agree s = stands_along e m agree s
-  stands_along (expr.Project' p e columns) (memo.Project' q m rows) agree s = (stands_along e m agree s.0, λ g. s.1 g ∙ same_part (expr.Project' p e columns) agree g)
+  stands_along (expr.Project' p e columns) (memo.Project' q m bag) agree s = (
+    stands_along e m agree s.0,
+    λ t. subst (λ (rows : List Row). IsBag (project_rows columns rows) bag) (same_part lasting xs ys e agree t) (s.1 t),
+  )
   stands_along (expr.Join' p a q b pairs) (memo.Join' r m t n kept) agree s = (
     stands_along a m agree.0 s.0,
     stands_along b n agree.1 s.1,
-    join_along pairs (grows growing a) (grows growing b) (numbered_rows xs a) (numbered_rows ys a) (numbered_rows xs b) (numbered_rows ys b) kept (same_part a agree.0) (same_part b agree.1) s.2,
+    join_along pairs (grows growing a) (lasts lasting a) (grows growing b) (lasts lasting b) (numbered_rows xs a) (numbered_rows ys a) (numbered_rows xs b) (numbered_rows ys b) kept (same_part lasting xs ys a agree.0) (same_part lasting xs ys b agree.1) s.2,
   )
   stands_along (expr.NotIn' p a q b pairs) (memo.NotIn' r m t n kept) agree s = (
     stands_along a m agree.0 s.0,
     stands_along b n agree.1 s.1,
-    notin_along pairs (grows growing a) (grows growing b) (numbered_rows xs a) (numbered_rows ys a) (numbered_rows xs b) (numbered_rows ys b) kept (same_part a agree.0) (same_part b agree.1) s.2,
+    notin_along pairs (lasts lasting a) (grows growing b) (lasts lasting b) (numbered_rows xs a) (numbered_rows ys a) (numbered_rows xs b) (numbered_rows ys b) kept (same_part lasting xs ys a agree.0) (same_part lasting xs ys b agree.1) s.2,
   )
-  stands_along (expr.Group' p e keys agg) (memo.Group' q m groups) agree s = (stands_along e m agree s.0, groups_along keys agg (grows growing e) (numbered_rows xs e) (numbered_rows ys e) groups (same_part e agree) s.1)
-  stands_along (expr.AtLeast' p e keys bound) (memo.AtLeast' q m groups rows) agree s = (
-    stands_along e m agree s.0,
-    groups_along keys Count (grows growing e) (numbered_rows xs e) (numbered_rows ys e) groups (same_part e agree) s.1,
-    λ g. s.2 g ∙ same_part (expr.AtLeast' p e keys bound) agree g,
-  )
+  stands_along (expr.Group' p e keys agg) (memo.Group' q m groups) agree s = (stands_along e m agree s.0, λ t. subst (λ (rows : List Row). TalliesStand keys agg rows groups) (same_part lasting xs ys e agree t) (s.1 t))
+  stands_along (expr.AtLeast' p e keys bound) (memo.AtLeast' q m groups) agree s = (stands_along e m agree s.0, λ t. subst (λ (rows : List Row). TalliesStand keys Count rows groups) (same_part lasting xs ys e agree t) (s.1 t))
   stands_along e m agree s = absurd s
-
-  -- the same of a rule
-  pub rule_along : (a : Accepted) (rule : NumberedRule) (kept : RuleMemo) → AgreeOn growing xs ys rule.body → RuleStands a growing xs rule kept → RuleStands a growing ys rule kept
-  rule_along a rule kept agree s = record {
-    body = stands_along rule.body kept.memo agree s.body;
-    rows = λ g none. s.rows g none ∙ same_part rule.body agree g;
-    alone = s.alone;
-  }

@@ -1,12 +1,11 @@
--- Loops of a step: what the collections begin with, one after the other, and what the outputs put out.
-use Rattle.std.proofs.Common.{◌≡◌, ◌<◌, ◌≤◌, ◌+◌, ℕ, zero, suc, Bool, cond, ◌∷◌, ◌++◌, [], drop, get_or, List, length, Option, None, Some, Result, Err, refl, ap, ◌∙◌, sym, subst, ◌⊎◌, inl, inr, arith}
-use Rattle.std.specs.Prelude.{◌&&◌, slice_get}
+-- Loops of a step: what the collections begin with, one after the other, and which head is next.
+use Rattle.std.proofs.Common.{◌≡◌, ◌<◌, ◌≤◌, ◌+◌, ℕ, zero, suc, Bool, ◌∷◌, ◌++◌, [], drop, get_or, List, length, Option, None, Some, Result, Err, refl, ap, ◌∙◌, sym, subst, ◌⊎◌, inl, inr, arith}
+use Rattle.std.specs.Prelude.{slice_get, slice_index_or, slice_set}
 use Rattle.std.specs.Option.{option_map}
 use Rattle.std.specs.Result.{IsErrAnd}
-use Rattle.std.proofs.lemmas.Bool.{cases_Bool, cases_eq, cases_lt}
+use Rattle.std.proofs.lemmas.Bool.{cases_eq, cases_lt}
 use Rattle.std.proofs.lemmas.List.{drop_more, length-append, get_or_past}
-use Rattle.std.proofs.lemmas.List.FromFn.{length-map-range_with_len, get_or-map-range_with_len}
-use Rattle.std.proofs.lemmas.Option.{slice_get-get_or, same_Some}
+use Rattle.std.proofs.lemmas.Option.{slice_get-get_or, slice_get_read, same_Some}
 use Rattle.blz_value.specs.Record.{Row}
 use Rattle.blz_set.specs.RecordSet.{IsRecordSet}
 use Rattle.blz_set.proofs.RecordSets.{none_is_set}
@@ -15,16 +14,15 @@ use Rattle.blz_set.specs.declared.fault.SetFault.TheVariants as set
 use Rattle.bloom_forms.specs.declared.module.Kind.{Kind}
 use Rattle.bloom_forms.specs.declared.module.Kind.TheVariants.{Input}
 use Rattle.bloom_forms.specs.declared.module.Collection.{Collection}
-use Rattle.bloom_forms.specs.Kinds.{same_kind, kind_at, place_in_kind}
-use Rattle.bloom_forms.specs.Step.{Sets, set_at, begun, at_start, sets_of_kind}
+use Rattle.bloom_forms.specs.Kinds.{kind_at, place_in_kind}
+use Rattle.bloom_forms.specs.Step.{Sets, set_at, begun, at_start}
 use Rattle.bloom_forms.proofs.Ends.Equated.{starts}
-use Rattle.bloom_eval.specs.Code.Finish.{placed}
 use Rattle.bloom_eval.specs.declared.fault.StepFault.{StepFault}
 use Rattle.bloom_eval.specs.declared.fault.StepFault.TheVariants.{TooManyRows, NoMemory}
 use Rattle.bloom_eval.specs.StepAnswers.{step_fault}
 use Rattle.bloom_index.specs.declared.change.Change.{Change}
-use Rattle.bloom_index.specs.Code.Growth.{grows_at}
-use Rattle.bloom_index.specs.Code.StepSets.{held_rows, IsBegunAt, AreBegunAt, out_rows, out_sets}
+use Rattle.bloom_index.specs.Code.StepSets.{IsBegunAt, AreBegunAt}
+use Rattle.bloom_index.proofs.HeadRulesLemmas.{got_set}
 
 -- ---- the beginning
 
@@ -34,22 +32,26 @@ got_push [] x y (suc k) at = absurd (let bad : None ≡ Some y = at in cc)
 got_push (z ∷ xs) x y zero at = inl at
 got_push (z ∷ xs) x y (suc k) at = elim (got_push xs x y k at) [ inl here ↦ inl here | inr last ↦ inr (ap suc last.0, last.1) ]
 
-pub none_begun : (cs : List Collection) (growing : List Bool) (now : Sets) (held : List Change) → held ≡ [] → AreBegunAt cs growing now 0 held
-none_begun cs growing now held none = subst (AreBegunAt cs growing now 0) (sym none) (record { many = refl; each = λ k change at. absurd (let bad : None ≡ Some change = at in cc) })
+pub none_begun : (cs : List Collection) (lasting : List Bool) (now : Sets) (held : List Change) → held ≡ [] → AreBegunAt cs lasting now 0 held
+none_begun cs lasting now held none = subst (AreBegunAt cs lasting now 0) (sym none) (record { many = refl; each = λ k change at. absurd (let bad : None ≡ Some change = at in cc) })
 
-pub begun_more : (cs : List Collection) (growing : List Bool) (now : Sets) (i : ℕ) (held held2 : List Change) (change : Change) → held2 ≡ held ++ change ∷ [] → IsBegunAt cs growing now i change → AreBegunAt cs growing now i held → AreBegunAt cs growing now (i + 1) held2
-begun_more cs growing now i held held2 change put own b = record {
+pub begun_more : (cs : List Collection) (lasting : List Bool) (now : Sets) (i : ℕ) (held held2 : List Change) (change : Change) → held2 ≡ held ++ change ∷ [] → IsBegunAt cs lasting now i change → AreBegunAt cs lasting now i held → AreBegunAt cs lasting now (i + 1) held2
+begun_more cs lasting now i held held2 change put own b = record {
   many = ap length put ∙ length-append held (change ∷ []) ∙ ap (λ n. n + 1) b.many;
   each = λ k c at. elim (got_push held change c k (ap (λ (l : List Change). slice_get l k) (sym put) ∙ at)) [
     | inl here ↦ b.each k c here
-    | inr last ↦ subst (λ (x : Change). IsBegunAt cs growing now k x) last.1 (subst (λ (j : ℕ). IsBegunAt cs growing now j change) (sym (last.0 ∙ b.many)) own)
+    | inr last ↦ subst (λ (x : Change). IsBegunAt cs lasting now k x) last.1 (subst (λ (j : ℕ). IsBegunAt cs lasting now j change) (sym (last.0 ∙ b.many)) own)
   ];
 }
+
+-- the kind of a collection that was read
+pub kind_read : (cs : List Collection) (i : ℕ) (c : Collection) → i < length cs → c ≡ get_or cs i c → kind_at cs i ≡ Some c.kind
+kind_read cs i c lt is = ap (option_map (λ (d : Collection). d.kind)) (slice_get-get_or cs i c lt ∙ ap Some (sym is))
 
 -- what a collection of a kind begins with
 pub begun_at_kind : (cs : List Collection) (now : Sets) (i port : ℕ) (c : Collection) (rows : List Row) → i < length cs → c ≡ get_or cs i c → port ≡ place_in_kind Input cs i → rows ≡ begun (Some c.kind) [] (set_at now port) → rows ≡ set_at (at_start cs [] now) i
 begun_at_kind cs now i port c rows lt is at made =
-    let kind : kind_at cs i ≡ Some c.kind = ap (option_map (λ (d : Collection). d.kind)) (slice_get-get_or cs i c lt ∙ ap Some (sym is)) in
+    let kind = kind_read cs i c lt is in
     made
     ∙ ap (λ (p : ℕ). begun (Some c.kind) [] (set_at now p)) at
     ∙ sym (ap (λ (o : Option Kind). begun o [] (set_at now (place_in_kind Input cs i))) kind)
@@ -68,25 +70,15 @@ known_more rows i each own k lt = elim (cases_eq k i) [
   | inr differ ↦ each k (omega (arith, lt, differ))
 ]
 
--- ---- the end
+-- ---- one of a list
 
--- the sets of a kind from a collection on
-pub kind_more : (kind : Kind) (cs : List Collection) (sets : Sets) (i : ℕ) (c : Collection) → i < length cs → length sets ≡ length cs → c ≡ get_or cs i c → sets_of_kind kind (drop i cs) (drop i sets) ≡ placed kind c.kind (set_at sets i) ++ sets_of_kind kind (drop (i + 1) cs) (drop (i + 1) sets)
-kind_more kind cs sets i c lt many is =
-    let first : drop i cs ≡ c ∷ drop (i + 1) cs = drop_more cs i c lt ∙ ap (λ (d : Collection). d ∷ drop (i + 1) cs) (sym is) in
-    let second : drop i sets ≡ set_at sets i ∷ drop (i + 1) sets = drop_more sets i [] (omega (arith, lt, many)) in
-    let split : sets_of_kind kind (c ∷ drop (i + 1) cs) (set_at sets i ∷ drop (i + 1) sets) ≡ placed kind c.kind (set_at sets i) ++ sets_of_kind kind (drop (i + 1) cs) (drop (i + 1) sets) =
-    elim (cases_Bool (same_kind kind c.kind)) [ inl t ↦ rw t refl | inr f ↦ rw f refl ] in
-    (λ j. sets_of_kind kind (first j) (second j)) ∙ split
+-- what is read at a place is what stands there
+pub read_is : {X : Type 0} (xs : List X) (i : ℕ) (x y : X) → i < length xs → x ≡ slice_index_or xs i x → slice_get xs i ≡ Some y → x ≡ y
+read_is xs i x y lt is at = same_Some x y (sym (slice_get_read xs (length xs) i x refl lt is) ∙ at)
 
-pub out_count : (all : Bool) (growing : List Bool) (rows : Sets) (held : List Change) (n : ℕ) → length (out_sets all growing rows held n) ≡ n
-out_count all growing rows held n = length-map-range_with_len (out_rows all growing rows held) 0 n
-
--- what a collection puts out is the same while it has what it had
-pub out_here : (all : Bool) (growing : List Bool) (rows : Sets) (held first : List Change) (n i : ℕ) → i < n → held_rows held i ≡ held_rows first i → out_rows all growing rows held i ≡ set_at (out_sets all growing rows first n) i
-out_here all growing rows held first n i lt same =
-    ap (λ (r : List Row). cond (all && grows_at growing i) (set_at rows i) r) same
-    ∙ sym (get_or-map-range_with_len (out_rows all growing rows first) 0 n i i [] lt (omega arith))
+-- and what is put at a place
+pub put_is : {X : Type 0} (xs : List X) (i : ℕ) (x y : X) → i < length xs → slice_get (slice_set xs i x) i ≡ Some y → x ≡ y
+put_is xs i x y lt at = same_Some x y (sym (got_set xs i x lt) ∙ at)
 
 -- ---- faults
 

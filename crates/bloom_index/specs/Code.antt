@@ -1,7 +1,9 @@
 -- What private functions give.
 pub mod Turns
+pub mod PartForms
 pub mod Memos
 pub mod Growth
+pub mod Lasting
 pub mod Evaluation
 pub mod Emptiness
 pub mod Heads

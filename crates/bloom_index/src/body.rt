@@ -1,12 +1,13 @@
 //! A loaded module with what is kept.
-ghost use Rattle.std.specs.Prelude.{◌≡◌, ◌<◌, [], None, Some, Err, length, IfOk, OnOk};
+ghost use Rattle.std.specs.Prelude.{◌≡◌, ◌<◌, ◌++◌, [], None, Some, Err, length, IfOk, OnOk};
 ghost use Rattle.bloom_forms.specs.declared.module.Kind.TheVariants.{Input, Table};
 ghost use Rattle.bloom_forms.specs.declared.program.Program.TheVariants.{Module as ModuleProgram};
 ghost use Rattle.bloom_forms.specs.Kinds.{kind_at, place_in_kind, of_kind};
 ghost use Rattle.bloom_forms.specs.Program.{columns_of_kind};
 ghost use Rattle.bloom_forms.specs.ProgramStep.{empty_tables};
-ghost use Rattle.bloom_forms.specs.Step.{set_at, tables_after};
+ghost use Rattle.bloom_forms.specs.Step.{set_at, sets_of_kind, tables_after, outputs_of};
 ghost use Rattle.bloom_forms.specs.Widths.{AreSetsOf};
+ghost use Rattle.bloom_eval.specs.Code.Finish.{placed};
 ghost use Rattle.bloom_eval.specs.declared.fault.StepFault.TheVariants.{TooManyRows};
 ghost use Rattle.bloom_eval.specs.StepAnswers.{AllFit, SomeIsOver, counted_sets};
 ghost use Rattle.bloom_index.specs.Code.Kept.{tables_in, kept_tables, PartsStand, KeptStands, PutsOut};
@@ -17,8 +18,9 @@ use crate::empty::empty_parts;
 use crate::grows::growing_heads;
 use crate::sides::{side_at, side_count};
 use crate::step::{Parts, step};
-use bloom_eval::{Arrivals, Outs, StepFault};
+use bloom_eval::{Arrivals, Kept, Outs, StepFault, step_plain};
 use bloom_forms::{Checked, Collection, Kind};
+use bloom_growth::GrowSet;
 use blz_set::RecordSet;
 use blz_value::Record;
 use std::alloc::{AllocError, Global};
@@ -55,6 +57,37 @@ fn table_number(collections: &[Collection], table: u32) -> usize
     unreachable!()
 }
 
+// Adds a copy of what a collection has, where it is a table.
+fn push_table(
+    alloc: Global,
+    kind: Kind,
+    rows: &GrowSet,
+    tables: &mut Vec<RecordSet>,
+) -> Result<(), AllocError>
+    ensures { OnOk result (tables.new.items ≡ tables.old.items ++ placed Table kind rows.now) }
+{
+    if kind == Kind::Table {
+        tables.push(rows.to_set(alloc)?)?;
+    }
+    Ok(())
+}
+
+// A copy of the tables.
+fn copied_tables(
+    alloc: Global,
+    collections: &[Collection],
+    parts: &Parts,
+) -> Result<Kept, AllocError>
+    requires { length parts.now.rows.items ≡ length collections.now }
+    ensures { IfOk result (λ kept. kept ≡ sets_of_kind Table collections.now parts.now.rows.items) }
+{
+    let mut tables = Vec::new(alloc);
+    for (i, collection) in collections.iter().enumerate() {
+        push_table(alloc, collection.kind, &parts.rows[i], &mut tables)?;
+    }
+    Ok(Kept::from_sets(tables))
+}
+
 impl IndexBody {
     /// A module with nothing kept.
     pub(crate) fn new(alloc: Global, program: &Checked) -> Result<IndexBody, AllocError>
@@ -89,24 +122,48 @@ impl IndexBody {
         }
     }
 
-    /// One step, which puts out all, or may leave out what the tables of before already give. After a
-    /// fault nothing is kept.
-    pub(crate) fn step(
-        &mut self,
-        now: &Arrivals,
-        outs: &mut Outs,
-        all: bool,
-    ) -> Result<(), StepFault>
+    // What a step puts out, evaluated plainly over a copy of the tables.
+    fn all_outs(&self, parts: &Parts, now: &Arrivals) -> Result<Outs, StepFault>
+        requires parts { PartsStand self.now.program parts.now }
+        requires ports { AreSetsOf (columns_of_kind Input self.now.program.form.collections) now.now }
+        ensures outs { IfOk result (λ outs. outs ≡ outputs_of self.now.program (tables_in self.now.program parts.now.rows.items) now.now) }
+        ensures too_many { result ≡ Err TooManyRows → SomeIsOver (counted_sets self.now.program (tables_in self.now.program parts.now.rows.items) now.now) }
+    {
+        let collections = self.program.module().collections.as_slice();
+        let mut tables = copied_tables(self.alloc, collections, parts)?;
+        step_plain(self.alloc, &self.program, &mut tables, now)
+    }
+
+    /// One step, which puts out all and evaluates each rule anew for it. After a fault nothing is kept.
+    pub(crate) fn step(&mut self, now: &Arrivals, outs: &mut Outs) -> Result<(), StepFault>
         requires ports { AreSetsOf (columns_of_kind Input self.old.program.form.collections) now.now }
         ensures program { self.new.program ≡ self.old.program }
         ensures kept { OnOk result (kept_tables self.new.program self.new.parts ≡ tables_after self.old.program (kept_tables self.old.program self.old.parts) now.now) }
-        ensures outs { OnOk result (PutsOut self.old.program all (kept_tables self.old.program self.old.parts) now.now outs.new) }
+        ensures outs { OnOk result (outs.new ≡ outputs_of self.old.program (kept_tables self.old.program self.old.parts) now.now) }
         ensures few { OnOk result (AllFit (counted_sets self.old.program (kept_tables self.old.program self.old.parts) now.now)) }
         ensures too_many { result ≡ Err TooManyRows → SomeIsOver (counted_sets self.old.program (kept_tables self.old.program self.old.parts) now.now) }
         ensures wide { AreSetsOf (columns_of_kind Table self.new.program.form.collections) (kept_tables self.new.program self.new.parts) }
     {
         let mut parts = self.taken()?;
-        *outs = step(self.alloc, &self.program, &mut parts, now.sets(), all)?;
+        *outs = self.all_outs(&parts, now)?;
+        step(self.alloc, &self.program, &mut parts, now.sets())?;
+        self.parts = Some(parts);
+        Ok(())
+    }
+
+    /// One step, which may leave out what the tables of before already give. After a fault nothing is
+    /// kept.
+    pub(crate) fn step_changes(&mut self, now: &Arrivals, outs: &mut Outs) -> Result<(), StepFault>
+        requires ports { AreSetsOf (columns_of_kind Input self.old.program.form.collections) now.now }
+        ensures program { self.new.program ≡ self.old.program }
+        ensures kept { OnOk result (kept_tables self.new.program self.new.parts ≡ tables_after self.old.program (kept_tables self.old.program self.old.parts) now.now) }
+        ensures outs { OnOk result (PutsOut self.old.program (kept_tables self.old.program self.old.parts) now.now outs.new) }
+        ensures few { OnOk result (AllFit (counted_sets self.old.program (kept_tables self.old.program self.old.parts) now.now)) }
+        ensures too_many { result ≡ Err TooManyRows → SomeIsOver (counted_sets self.old.program (kept_tables self.old.program self.old.parts) now.now) }
+        ensures wide { AreSetsOf (columns_of_kind Table self.new.program.form.collections) (kept_tables self.new.program self.new.parts) }
+    {
+        let mut parts = self.taken()?;
+        *outs = step(self.alloc, &self.program, &mut parts, now.sets())?;
         self.parts = Some(parts);
         Ok(())
     }

@@ -1,17 +1,18 @@
 //! The shell of modules with indexes: it keeps what tables give, and a step costs what changes.
 #![tactic(auto)]
 
+mod bags;
 mod body;
 mod change;
 mod empty;
 mod evaluate;
-mod excluding;
 mod grouping;
 mod grows;
 mod heads;
 mod joins;
 mod memo;
 mod nots;
+mod part_rows;
 mod parts;
 mod shell;
 mod sides;

@@ -1,11 +1,14 @@
 //! What is kept of an expression and its parts from step to step.
 ghost use Rattle.std.specs.Prelude.{◌≡◌, IfOk};
-ghost use Rattle.bloom_growth.specs.Groups.{AreFreshGroups};
+ghost use Rattle.bloom_growth.specs.TurningGroups.{AreFreshTallies};
 ghost use Rattle.bloom_index.specs.Code.Emptiness.{IsFreshJoin, IsFreshNotIn, IsFresh};
 
-use crate::excluding::NotInMemo;
+use crate::grows::grows;
+use crate::part_rows::{PartRows, part_rows};
 use bloom_forms::NumberedExpr;
-use bloom_growth::{Groups, GrowSet, JoinMemo, Side, left_columns, right_columns};
+use bloom_growth::{
+    Bag, KeptJoin, KeptNotIn, KeyedRows, TurningGroups, left_columns, right_columns,
+};
 use blz_value::Agg;
 use std::alloc::{AllocError, Global};
 
@@ -14,16 +17,16 @@ use std::alloc::{AllocError, Global};
 pub(crate) enum Memo {
     Base,
     Select(Box<Memo>),
-    /// The rows, where they grow.
-    Project(Box<Memo>, GrowSet),
-    /// Each part that grows by the columns that are equated, and the rows where both grow.
-    Join(Box<Memo>, Box<Memo>, JoinMemo),
-    /// The left rows where they grow, and the right part where it grows.
-    NotIn(Box<Memo>, Box<Memo>, NotInMemo),
-    /// The aggregates, where the part grows.
-    Group(Box<Memo>, Groups),
-    /// How many rows there are of each key, and the rows, where they grow.
-    AtLeast(Box<Memo>, Groups, GrowSet),
+    /// The rows, where the part is kept, each with how many rows give it.
+    Project(Box<Memo>, Bag),
+    /// Each part that is kept by the columns that are equated, and the number of rows where both are.
+    Join(Box<Memo>, Box<Memo>, KeptJoin<PartRows, PartRows>),
+    /// Each part that is kept by the columns that are equated.
+    NotIn(Box<Memo>, Box<Memo>, KeptNotIn<PartRows>),
+    /// The aggregates.
+    Group(Box<Memo>, TurningGroups),
+    /// How many rows there are of each key.
+    AtLeast(Box<Memo>, TurningGroups),
 }
 
 impl Memo {
@@ -37,35 +40,44 @@ impl Memo {
             Memo::Select(part) => part,
             Memo::Project(part, _) => part,
             Memo::Group(part, _) => part,
-            Memo::AtLeast(part, _, _) => part,
+            Memo::AtLeast(part, _) => part,
             Memo::Base | Memo::Join(_, _, _) | Memo::NotIn(_, _, _) => self,
         }
     }
 }
 
-fn join_memo(alloc: Global, pairs: &[(u32, u32)]) -> Result<JoinMemo, AllocError>
-    ensures { IfOk result (IsFreshJoin pairs.now) }
+fn join_memo(
+    alloc: Global,
+    pairs: &[(u32, u32)],
+    left_grows: bool,
+    right_grows: bool,
+) -> Result<KeptJoin<PartRows, PartRows>, AllocError>
+    ensures { IfOk result (IsFreshJoin pairs.now left_grows right_grows) }
 {
-    Ok(JoinMemo {
-        left: Side::new(alloc, left_columns(alloc, pairs)?),
-        right: Side::new(alloc, right_columns(alloc, pairs)?),
-        rows: GrowSet::new(alloc),
+    Ok(KeptJoin {
+        left: part_rows(alloc, left_grows, left_columns(alloc, pairs)?),
+        right: part_rows(alloc, right_grows, right_columns(alloc, pairs)?),
+        count: 0,
     })
 }
 
-fn not_in_memo(alloc: Global, pairs: &[(u32, u32)]) -> Result<NotInMemo, AllocError>
-    ensures { IfOk result (IsFreshNotIn pairs.now) }
+fn not_in_memo(
+    alloc: Global,
+    pairs: &[(u32, u32)],
+    right_grows: bool,
+) -> Result<KeptNotIn<PartRows>, AllocError>
+    ensures { IfOk result (IsFreshNotIn pairs.now right_grows) }
 {
-    Ok(NotInMemo {
-        lefts: GrowSet::new(alloc),
-        right: Side::new(alloc, right_columns(alloc, pairs)?),
+    Ok(KeptNotIn {
+        left: KeyedRows::new(alloc, left_columns(alloc, pairs)?),
+        right: part_rows(alloc, right_grows, right_columns(alloc, pairs)?),
     })
 }
 
-fn groups(alloc: Global, keys: &[u32], agg: Agg) -> Result<Groups, AllocError>
-    ensures { IfOk result (AreFreshGroups keys.now agg) }
+fn groups(alloc: Global, keys: &[u32], agg: Agg) -> Result<TurningGroups, AllocError>
+    ensures { IfOk result (AreFreshTallies keys.now agg) }
 {
-    Ok(Groups::new(alloc, Vec::from_slice(alloc, keys)?, agg))
+    Ok(TurningGroups::new(alloc, Vec::from_slice(alloc, keys)?, agg))
 }
 
 fn boxed(alloc: Global, memo: Memo) -> Result<Box<Memo>, AllocError>
@@ -75,48 +87,57 @@ fn boxed(alloc: Global, memo: Memo) -> Result<Box<Memo>, AllocError>
 }
 
 // What is kept of a part before the first step.
-fn part_memo(alloc: Global, expr: &NumberedExpr) -> Result<Box<Memo>, AllocError>
-    ensures { IfOk result (λ memo. IsFresh expr.now memo.value) }
+fn part_memo(alloc: Global, expr: &NumberedExpr, growing: &[bool]) -> Result<Box<Memo>, AllocError>
+    ensures { IfOk result (λ memo. IsFresh growing.now expr.now memo.value) }
 {
     match expr {
         NumberedExpr::Base(_) => boxed(alloc, Memo::Base),
         NumberedExpr::Select(part, _) => {
-            let part = part_memo(alloc, part)?;
+            let part = part_memo(alloc, part, growing)?;
             boxed(alloc, Memo::Select(part))
         }
         NumberedExpr::Project(part, _) => {
-            let part = part_memo(alloc, part)?;
-            boxed(alloc, Memo::Project(part, GrowSet::new(alloc)))
+            let part = part_memo(alloc, part, growing)?;
+            boxed(alloc, Memo::Project(part, Bag::new(alloc)))
         }
         NumberedExpr::Join(left, right, pairs) => {
-            let left = part_memo(alloc, left)?;
-            let right = part_memo(alloc, right)?;
-            let memo = join_memo(alloc, pairs.as_slice())?;
+            let memo = join_memo(
+                alloc,
+                pairs.as_slice(),
+                grows(left, growing),
+                grows(right, growing),
+            )?;
+            let left = part_memo(alloc, left, growing)?;
+            let right = part_memo(alloc, right, growing)?;
             boxed(alloc, Memo::Join(left, right, memo))
         }
         NumberedExpr::NotIn(left, right, pairs) => {
-            let left = part_memo(alloc, left)?;
-            let right = part_memo(alloc, right)?;
-            let memo = not_in_memo(alloc, pairs.as_slice())?;
+            let memo = not_in_memo(alloc, pairs.as_slice(), grows(right, growing))?;
+            let left = part_memo(alloc, left, growing)?;
+            let right = part_memo(alloc, right, growing)?;
             boxed(alloc, Memo::NotIn(left, right, memo))
         }
         NumberedExpr::Group(part, keys, agg) => {
-            let part = part_memo(alloc, part)?;
+            let part = part_memo(alloc, part, growing)?;
             let groups = groups(alloc, keys.as_slice(), *agg)?;
             boxed(alloc, Memo::Group(part, groups))
         }
         NumberedExpr::AtLeast(part, keys, _) => {
-            let part = part_memo(alloc, part)?;
+            let part = part_memo(alloc, part, growing)?;
             let groups = groups(alloc, keys.as_slice(), Agg::Count)?;
-            boxed(alloc, Memo::AtLeast(part, groups, GrowSet::new(alloc)))
+            boxed(alloc, Memo::AtLeast(part, groups))
         }
     }
 }
 
 /// What is kept of an expression before the first step. It recurses as deep as the expression.
-pub(crate) fn memo_of(alloc: Global, expr: &NumberedExpr) -> Result<Memo, AllocError>
-    ensures { IfOk result (IsFresh expr.now) }
+pub(crate) fn memo_of(
+    alloc: Global,
+    expr: &NumberedExpr,
+    growing: &[bool],
+) -> Result<Memo, AllocError>
+    ensures { IfOk result (IsFresh growing.now expr.now) }
 {
-    let memo = part_memo(alloc, expr)?;
+    let memo = part_memo(alloc, expr, growing)?;
     Ok(Box::into_inner(memo))
 }

@@ -80,14 +80,14 @@ impl Component for IndexShell {
         let Some(body) = &mut self.body else {
             unreachable!()
         };
-        body.step(now, outs, true)
+        body.step(now, outs)
     }
 
     fn step_changes(&mut self, now: &Arrivals, outs: &mut Outs) -> Result<(), StepFault> {
         let Some(body) = &mut self.body else {
             unreachable!()
         };
-        body.step(now, outs, false)
+        body.step_changes(now, outs)
     }
 
     fn kept_rows(&self, table: u32, into: &mut RecordSet) -> Result<(), AllocError> {

@@ -1,14 +1,10 @@
 //! The sides of rules, in the order of the text.
-ghost use Rattle.std.specs.Prelude.{◌≡◌, ◌+◌, ◌<◌, List, ℕ, length, IfSome, IfOk, IsTrue};
-ghost use Rattle.bloom_forms.specs.Step.{Sets};
-ghost use Rattle.bloom_eval.specs.Code.NumberedRows.{numbered_rows};
-ghost use Rattle.bloom_index.specs.Code.Growth.{grows};
-ghost use Rattle.bloom_growth.specs.Sides.{IsSideOf};
-ghost use Rattle.bloom_index.specs.Code.SideParts.{grown_side, numbered_sides, rules_sides, IsKept, AreKept, IsSideAt, Finds};
+ghost use Rattle.std.specs.Prelude.{◌≡◌, ◌+◌, ◌<◌, List, ℕ, length, IfSome, IfOk};
+ghost use Rattle.bloom_index.specs.Code.SideParts.{grown_side, numbered_sides, rules_sides, IsKept, AreKept, IsSideAt, FindsOwn, Finds};
 
 use crate::grows::grows;
-use crate::heads::RuleMemo;
 use crate::memo::Memo;
+use crate::part_rows::PartRows;
 use bloom_forms::{NumberedExpr, NumberedRule};
 use bloom_growth::Side;
 use std::alloc::AllocError;
@@ -63,18 +59,15 @@ pub(crate) fn side_count(rules: &[NumberedRule], growing: &[bool]) -> Result<u32
     Ok(count)
 }
 
-// The side of a part where it grows and none is to be passed before it, or how many are.
-fn this_side<'a>(
-    part: &NumberedExpr,
-    growing: &[bool],
-    side: &'a Side,
-    number: u32,
-) -> ControlFlow<&'a Side, u32>
-    ensures { (sets : Sets) (columns : List ℕ) → (IsTrue (grows growing.now part.now) → IsSideOf columns (numbered_rows sets part.now) side.now) → Finds sets (grown_side growing.now part.now columns) number result }
+// The side of a part that grows, where none is to be passed before it, or how many are to be passed
+// after it.
+fn this_side(rows: &PartRows, number: u32) -> ControlFlow<&Side, u32>
+    ensures { FindsOwn rows.now number result }
 {
-    if !grows(part, growing) {
-        ControlFlow::Continue(number)
-    } else if number == 0 {
+    let PartRows::Growing(side) = rows else {
+        return ControlFlow::Continue(number);
+    };
+    if number == 0 {
         ControlFlow::Break(side)
     } else {
         ControlFlow::Continue(number - 1)
@@ -100,9 +93,9 @@ fn find_side<'a>(
             let Memo::Join(left, right, memo) = memo else {
                 unreachable!()
             };
-            let number = this_side(a, growing, &memo.left, number)?;
+            let number = this_side(&memo.left, number)?;
             let number = find_side(a, growing, left, number)?;
-            let number = this_side(b, growing, &memo.right, number)?;
+            let number = this_side(&memo.right, number)?;
             find_side(b, growing, right, number)
         }
         NumberedExpr::NotIn(a, b, _) => {
@@ -110,7 +103,7 @@ fn find_side<'a>(
                 unreachable!()
             };
             let number = find_side(a, growing, left, number)?;
-            let number = this_side(b, growing, &memo.right, number)?;
+            let number = this_side(&memo.right, number)?;
             find_side(b, growing, right, number)
         }
         NumberedExpr::Group(part, _, _) => find_side(part, growing, memo.part(), number),
@@ -123,7 +116,7 @@ fn find_side<'a>(
 pub(crate) fn side_at<'a>(
     rules: &[NumberedRule],
     growing: &[bool],
-    memos: &'a [RuleMemo],
+    memos: &'a [Memo],
     number: u32,
 ) -> &'a Side
     requires within { number < length (rules_sides growing.now rules.now) }
@@ -132,7 +125,7 @@ pub(crate) fn side_at<'a>(
 {
     let mut left = number;
     for (i, rule) in rules.iter().enumerate() {
-        match find_side(&rule.body, growing, &memos[i].memo, left) {
+        match find_side(&rule.body, growing, &memos[i], left) {
             ControlFlow::Break(side) => return side,
             ControlFlow::Continue(later) => left = later,
         }

@@ -1,5 +1,5 @@
 //! One step over what is kept.
-ghost use Rattle.std.specs.Prelude.{◌≡◌, ◌<◌, ◌^◌, ◌+◌, ◌∷◌, ◌++◌, [], false, Some, Err, ℕ, length, slice_set, IfOk, IsTrue, OnOk};
+ghost use Rattle.std.specs.Prelude.{◌≡◌, ◌<◌, ◌^◌, ◌+◌, ◌∷◌, ◌++◌, [], false, Some, Err, ℕ, length, slice_get, slice_set, IfOk, IsTrue, OnOk};
 ghost use Rattle.blz_set.specs.RecordSet.{IsRecordSet};
 ghost use Rattle.bloom_forms.specs.declared.module.Kind.TheVariants.{Input, Output};
 ghost use Rattle.bloom_forms.specs.Kinds.{of_kind};
@@ -11,26 +11,32 @@ ghost use Rattle.bloom_eval.specs.Code.Finish.{placed};
 ghost use Rattle.bloom_eval.specs.declared.fault.StepFault.TheVariants.{TooManyRows};
 ghost use Rattle.bloom_eval.specs.StepAnswers.{AllFit, SomeIsOver, counted_sets};
 ghost use Rattle.bloom_index.specs.Code.Growth.{grows_at};
-ghost use Rattle.bloom_index.specs.Code.HeadRules.{AreReady, HasOldHead, GrowsHead, MakesHead};
+ghost use Rattle.bloom_growth.specs.declared.bag.Bag.{Bag as TheBag};
+ghost use Rattle.bloom_index.specs.Code.HeadRules.{AreReady, HasOldHead, HasGiven, AllLast, GrowsHead, TurnsHead, MakesHead};
+ghost use Rattle.bloom_index.specs.Code.Lasting.{lasts_at};
 ghost use Rattle.bloom_index.specs.Code.Kept.{tables_in, PartsStand, PutsOut};
-ghost use Rattle.bloom_index.specs.Code.StepSets.{owned_change, held_rows, AreBegunAt, out_rows, out_sets};
+ghost use Rattle.bloom_index.specs.Code.StepSets.{AreBegunAt, held_sets};
 ghost use Rattle.bloom_index.specs.Code.Turns.{rows_in};
 
 use crate::change::{Change, Rows};
-use crate::heads::{RuleMemo, grow_head, make_changes, make_head};
+use crate::heads::{grow_head, make_head, turn_head};
+use crate::memo::Memo;
 use bloom_eval::{Outs, StepFault};
 use bloom_forms::{Checked, Collection, Kind, NumberedRule};
-use bloom_growth::GrowSet;
+use bloom_growth::{Bag, GrowSet};
 use blz_set::{RecordSet, SetFault};
 use std::alloc::{AllocError, Global};
 use std::mem;
 
-/// What is kept: of each collection that grows its rows, and what is kept of each rule.
+/// What is kept: of each collection that grows its rows, of each other what its rules that are kept give
+/// it, and what is kept of each rule.
 #[derive(Drop)]
 pub(crate) struct Parts {
     pub(crate) growing: Vec<bool>,
+    pub(crate) lasting: Vec<bool>,
     pub(crate) rows: Vec<GrowSet>,
-    pub(crate) memos: Vec<RuleMemo>,
+    pub(crate) bags: Vec<Bag>,
+    pub(crate) memos: Vec<Memo>,
 }
 
 // The place of the next port, after a collection of a kind.
@@ -58,16 +64,17 @@ fn begin_rows<'a>(alloc: Global, kind: Kind, now: &'a [RecordSet], port: usize) 
 // Adds what a collection has.
 fn push_change<'a>(
     held: &mut Vec<Change<'a>>,
-    fresh: bool,
+    kept: bool,
     rows: Rows<'a>,
+    gone: Rows<'a>,
 ) -> Result<(), AllocError>
     ensures many { OnOk result (length held.new.items ≡ length held.old.items + 1) }
-    ensures held { OnOk result (held.new.items ≡ held.old.items ++ (record { fresh = fresh; rows = rows.entry }) ∷ []) }
+    ensures held { OnOk result (held.new.items ≡ held.old.items ++ (record { kept = kept; rows = rows.entry; gone = gone.entry }) ∷ []) }
     ensures set { IsRecordSet (rows_in rows.entry) }
 {
     // for the proof alone: what holds of each set
     let _set = rows.as_set();
-    held.push(Change { fresh, rows })?;
+    held.push(Change { kept, rows, gone })?;
     Ok(())
 }
 
@@ -78,10 +85,10 @@ fn begin<'a>(
     parts: &Parts,
     now: &'a [RecordSet],
 ) -> Result<Vec<Change<'a>>, AllocError>
-    requires growing { length parts.now.growing.items ≡ length collections.now }
+    requires lasting { length parts.now.lasting.items ≡ length collections.now }
     requires rows { length parts.now.rows.items ≡ length collections.now }
     requires ports { length now.now ≡ length (of_kind Input collections.now) }
-    ensures begun { IfOk result (λ held. AreBegunAt collections.now parts.now.growing.items now.now (length collections.now) held.items) }
+    ensures begun { IfOk result (λ held. AreBegunAt collections.now parts.now.lasting.items now.now (length collections.now) held.items) }
     ensures sets { OnOk result ((number : ℕ) → IsRecordSet (set_at parts.now.rows.items number)) }
 {
     let mut held = Vec::new(alloc);
@@ -90,138 +97,111 @@ fn begin<'a>(
         // for the proof alone: what holds of each set
         parts.rows[i].known();
         let rows = begin_rows(alloc, collection.kind, now, port);
-        push_change(&mut held, parts.growing[i], rows)?;
+        let gone = Rows::Own(RecordSet::new(alloc));
+        push_change(&mut held, parts.lasting[i], rows, gone)?;
         port = next_port(collection.kind, port);
     }
     Ok(held)
 }
 
-// The rows of a head: where it grows the new ones, else all, or where not all are asked for what is
-// new of a group that can be put out alone.
-fn head_rows(
+// What a head has: where it is kept what changes of it, else all, or where not the whole is asked for
+// all but what the tables of before gave.
+fn head_change<'a>(
     alloc: Global,
     rules: &[NumberedRule],
     head: u32,
     parts: &mut Parts,
     held: &[Change<'_>],
-    all: bool,
-) -> Result<RecordSet, SetFault>
+    whole: bool,
+) -> Result<Change<'a>, SetFault>
     requires growing { head < length parts.old.growing.items }
+    requires lasting { head < length parts.old.lasting.items }
     requires rows { head < length parts.old.rows.items }
+    requires bags { head < length parts.old.bags.items }
     requires ready { AreReady rules.now head parts.old.memos.items held.now }
     ensures growing { parts.new.growing ≡ parts.old.growing }
+    ensures lasting { parts.new.lasting ≡ parts.old.lasting }
     ensures rows { parts.new.rows.items ≡ slice_set parts.old.rows.items head (set_at parts.new.rows.items head) }
+    ensures bags { length parts.new.bags.items ≡ length parts.old.bags.items }
+    ensures others { (number : ℕ) → ¬ (number ≡ head) → slice_get parts.new.bags.items number ≡ slice_get parts.old.bags.items number }
     ensures grown { (ready : AreReady rules.now head parts.old.memos.items held.now) → ready.growing ≡ parts.old.growing.items → HasOldHead rules.now head parts.old.memos.items held.now ready (set_at parts.old.rows.items head) → IsTrue (grows_at parts.old.growing.items head) → GrowsHead rules.now head parts.old.memos.items held.now ready (set_at parts.old.rows.items head) (set_at parts.new.rows.items head) parts.new.memos.items result }
-    ensures made { (ready : AreReady rules.now head parts.old.memos.items held.now) → ready.growing ≡ parts.old.growing.items → grows_at parts.old.growing.items head ≡ false → MakesHead rules.now head parts.old.memos.items held.now ready all parts.new.memos.items result }
+    ensures turned { (ready : AreReady rules.now head parts.old.memos.items held.now) (old new : TheBag) → slice_get parts.old.bags.items head ≡ Some old → slice_get parts.new.bags.items head ≡ Some new → ready.lasting ≡ parts.old.lasting.items → HasGiven ready.lasting ready.old rules.now head old → AllLast ready.lasting rules.now head → grows_at parts.old.growing.items head ≡ false → IsTrue (lasts_at parts.old.lasting.items head) → TurnsHead rules.now head parts.old.memos.items held.now ready new parts.new.memos.items result }
+    ensures made { (ready : AreReady rules.now head parts.old.memos.items held.now) (old new : TheBag) → slice_get parts.old.bags.items head ≡ Some old → slice_get parts.new.bags.items head ≡ Some new → ready.lasting ≡ parts.old.lasting.items → HasGiven ready.lasting ready.old rules.now head old → grows_at parts.old.growing.items head ≡ false → lasts_at parts.old.lasting.items head ≡ false → MakesHead rules.now head parts.old.memos.items held.now ready whole new parts.new.memos.items result }
 {
     let number = head as usize;
     if parts.growing[number] {
         let rows = &mut parts.rows[number];
-        grow_head(alloc, rules, head, &mut parts.memos, held, rows)
-    } else if all {
-        make_head(alloc, rules, head, &mut parts.memos, held)
+        return grow_head(alloc, rules, head, &mut parts.memos, held, rows);
+    }
+    let bag = &mut parts.bags[number];
+    if parts.lasting[number] {
+        turn_head(alloc, rules, head, &mut parts.memos, held, bag)
     } else {
-        make_changes(alloc, rules, head, &mut parts.memos, held)
+        make_head(alloc, rules, head, &mut parts.memos, held, bag, whole)
     }
 }
 
-// Makes a set the rows of a collection.
-fn put_rows(held: &mut Vec<Change<'_>>, number: usize, fresh: bool, set: RecordSet)
+// Makes a change that of a collection.
+fn put_change<'a>(held: &mut Vec<Change<'a>>, number: usize, change: Change<'a>)
     requires { number < length held.old.items }
-    ensures held { held.new.items ≡ slice_set held.old.items number (owned_change fresh set) }
-    ensures set { IsRecordSet set }
+    ensures held { held.new.items ≡ slice_set held.old.items number change.entry }
+    ensures set { IsRecordSet (rows_in change.entry.rows) }
 {
     // for the proof alone: what holds of each set
-    let _rows = set.rows();
-    held[number] = Change {
-        fresh,
-        rows: Rows::Own(set),
-    };
+    let _set = change.rows.as_set();
+    held[number] = change;
 }
 
-// What an output puts out, which is taken out of what it has.
-fn out_of(
-    alloc: Global,
-    number: usize,
-    parts: &Parts,
-    held: &mut Vec<Change<'_>>,
-    all: bool,
-) -> Result<RecordSet, AllocError>
-    requires growing { number < length parts.now.growing.items }
-    requires rows { number < length parts.now.rows.items }
-    requires held { number < length held.old.items }
-    ensures out { IfOk result (λ set. set ≡ out_rows all parts.now.growing.items parts.now.rows.items held.old.items number) }
-    ensures many { length held.new.items ≡ length held.old.items }
-    ensures others { (other : ℕ) → ¬ (other ≡ number) → held_rows held.new.items other ≡ held_rows held.old.items other }
+// Takes what a collection has, and leaves nothing in its place.
+fn take_rows<'a>(alloc: Global, held: &mut Vec<Change<'a>>, number: usize) -> Rows<'a>
+    requires { number < length held.old.items }
+    ensures taken { rows_in result ≡ set_at (held_sets held.old.items) number }
+    ensures left { held_sets held.new.items ≡ slice_set (held_sets held.old.items) number [] }
 {
-    if all && parts.growing[number] {
-        return parts.rows[number].to_set(alloc);
-    }
-    let change = mem::replace(
-        &mut held[number],
-        Change::owned(false, RecordSet::new(alloc)),
-    );
-    change.rows.into_set()
+    let change = mem::replace(&mut held[number], Change::all(alloc, RecordSet::new(alloc)));
+    change.rows
 }
 
-// Adds what a collection puts out, where it is an output.
-fn push_out(
-    alloc: Global,
-    kind: Kind,
-    number: usize,
-    parts: &Parts,
-    held: &mut Vec<Change<'_>>,
-    all: bool,
-    outs: &mut Vec<RecordSet>,
-) -> Result<(), AllocError>
-    requires growing { number < length parts.now.growing.items }
-    requires rows { number < length parts.now.rows.items }
-    requires held { number < length held.old.items }
-    ensures outs { OnOk result (outs.new.items ≡ outs.old.items ++ placed Output kind (out_rows all parts.now.growing.items parts.now.rows.items held.old.items number)) }
-    ensures many { length held.new.items ≡ length held.old.items }
-    ensures others { (other : ℕ) → ¬ (other ≡ number) → held_rows held.new.items other ≡ held_rows held.old.items other }
+// Adds what a collection has, where it is an output.
+fn push_out(kind: Kind, rows: Rows<'_>, outs: &mut Vec<RecordSet>) -> Result<(), AllocError>
+    ensures { OnOk result (outs.new.items ≡ outs.old.items ++ placed Output kind (rows_in rows.entry)) }
 {
     if kind == Kind::Output {
-        outs.push(out_of(alloc, number, parts, held, all)?)?;
+        outs.push(rows.into_set()?)?;
     }
     Ok(())
 }
 
-// What the outputs put out.
+// What the outputs have.
 fn finish(
     alloc: Global,
     collections: &[Collection],
-    parts: &Parts,
     mut held: Vec<Change<'_>>,
-    all: bool,
 ) -> Result<Outs, AllocError>
-    requires growing { length parts.now.growing.items ≡ length collections.now }
-    requires rows { length parts.now.rows.items ≡ length collections.now }
-    requires held { length held.items ≡ length collections.now }
-    ensures { IfOk result (λ outs. outs ≡ sets_of_kind Output collections.now (out_sets all parts.now.growing.items parts.now.rows.items held.entry.items (length collections.now))) }
+    requires { length held.items ≡ length collections.now }
+    ensures { IfOk result (λ outs. outs ≡ sets_of_kind Output collections.now (held_sets held.entry.items)) }
 {
     let mut outs = Vec::new(alloc);
     for (i, collection) in collections.iter().enumerate() {
-        push_out(alloc, collection.kind, i, parts, &mut held, all, &mut outs)?;
+        let rows = take_rows(alloc, &mut held, i);
+        push_out(collection.kind, rows, &mut outs)?;
     }
     Ok(Outs::from_sets(outs))
 }
 
-/// One step: what is kept becomes what is kept after it, and the answer is all that it puts out, or
-/// that less rows which the tables of before already give. After a fault nothing is said of what is
-/// kept.
+/// One step: what is kept becomes what is kept after it, and the answer is what it puts out, less rows
+/// which the tables of before already give. After a fault nothing is said of what is kept.
 pub(crate) fn step(
     alloc: Global,
     program: &Checked,
     parts: &mut Parts,
     now: &[RecordSet],
-    all: bool,
 ) -> Result<Outs, StepFault>
     requires parts { PartsStand program.now parts.old }
     requires ports { AreSetsOf (columns_of_kind Input program.now.form.collections) now.now }
     ensures parts { OnOk result (PartsStand program.now parts.new) }
     ensures tables { OnOk result (tables_in program.now parts.new.rows.items ≡ tables_after program.now (tables_in program.now parts.old.rows.items) now.now) }
-    ensures outs { IfOk result (λ outs. PutsOut program.now all (tables_in program.now parts.old.rows.items) now.now outs) }
+    ensures outs { IfOk result (λ outs. PutsOut program.now (tables_in program.now parts.old.rows.items) now.now outs) }
     ensures few { OnOk result (AllFit (counted_sets program.now (tables_in program.now parts.old.rows.items) now.now)) }
     ensures too_many { result ≡ Err TooManyRows → SomeIsOver (counted_sets program.now (tables_in program.now parts.old.rows.items) now.now) }
 {
@@ -230,13 +210,11 @@ pub(crate) fn step(
     let rules = program.rules();
     let mut held = begin(alloc, collections, parts, now)?;
     for head in program.heads() {
-        let set = head_rows(alloc, rules, *head, parts, &held, all)?;
-        put_rows(
-            &mut held,
-            *head as usize,
-            parts.growing[*head as usize],
-            set,
-        );
+        let number = *head as usize;
+        // What reads a scratch asks for all its rows.
+        let whole = collections[number].kind != Kind::Output;
+        let change = head_change(alloc, rules, *head, parts, &held, whole)?;
+        put_change(&mut held, number, change);
     }
-    Ok(finish(alloc, collections, parts, held, all)?)
+    Ok(finish(alloc, collections, held)?)
 }

@@ -1,5 +1,5 @@
 -- Maps that have rows at keys.
-use Rattle.std.specs.Prelude.{ℕ, ◌≡◌, ◌<◌, Result, Ok, Err, List, [], length, unwrap_or}
+use Rattle.std.specs.Prelude.{ℕ, ◌≡◌, ◌<◌, Some, Result, Ok, Err, List, [], length, unwrap_or}
 use Rattle.std.specs.BTreeMap.{BTreeMap, get}
 use Rattle.blz_value.specs.Groups.{with_key}
 use Rattle.blz_value.specs.Record.{Row, record_cmp}
@@ -20,3 +20,7 @@ abbrev pub MakesByKey : {X : Type 0} → List ℕ → List Row → BTreeMap Row 
 MakesByKey columns rows sets (Ok x) = AreByKey columns rows sets
 MakesByKey columns rows sets (Err TooManyRows) = row_limit < length rows
 MakesByKey columns rows sets (Err NoMemory) = Unit {0}
+
+-- no key stands without rows
+abbrev pub NoneIsEmpty : BTreeMap Row (List Row) → Type 0
+NoneIsEmpty sets = (key : Row) → get record_cmp sets key ≡ Some [] → ⊥

@@ -1,7 +1,9 @@
 -- What grows, by numbers.
 use Rattle.std.specs.Prelude.{ℕ, ◌≡◌, ◌==◌, ◌&&◌, ◌||◌, not, Bool, true, false, Option, None, Some, List, length, slice_index_or}
 use Rattle.std.specs.List.{list_all}
-use Rattle.blz_value.specs.Members.{Has}
+use Rattle.blz_value.specs.Members.{Has, IsWithin}
+use Rattle.blz_value.specs.Record.{Row}
+use Rattle.blz_value.specs.Sets.{IsRowSet}
 use Rattle.bloom_forms.specs.declared.module.Kind.{Kind}
 use Rattle.bloom_forms.specs.declared.module.Kind.TheVariants.{Input, Output, Table, Scratch}
 use Rattle.bloom_forms.specs.declared.numbered.NumberedExpr.{NumberedExpr}
@@ -57,3 +59,9 @@ AreMarkedBelow form growing head = (rule : RuleForm) (name : Name) → Has rule 
 pub record AreGrowing (a : Accepted) (growing : List Bool) : Type 0 where
   pub many : length growing ≡ length a.form.collections
   pub each : (number : ℕ) → IsMarked a.form growing number
+
+-- sets of rows, of which the second has those of the first
+pub record IsGrown (old new : List Row) : Type 0 where
+  pub old_sorted : IsRowSet old
+  pub new_sorted : IsRowSet new
+  pub within : IsWithin old new

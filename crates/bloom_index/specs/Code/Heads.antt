@@ -1,59 +1,96 @@
--- What a rule gives to its head in a step.
-use Rattle.std.specs.Prelude.{◌≡◌, Bool, false, IsTrue, Result, Ok, Err, List, ◌∷◌, ◌++◌}
+-- What the rules of a head give to it in a step.
+use Rattle.std.specs.Prelude.{ℕ, ◌≡◌, ◌≤◌, ◌<◌, ◌==◌, ◌&&◌, not, Bool, true, false, IsTrue, Result, Ok, Err, List, ◌∷◌, ◌++◌, length, map, filter}
+use Rattle.std.specs.List.{AllZip, flat_map}
 use Rattle.blz_value.specs.Members.{Has, IsWithin}
 use Rattle.blz_value.specs.Record.{Row}
 use Rattle.blz_value.specs.Sets.{set_of}
+use Rattle.blz_set.specs.RecordSet.{row_limit}
 use Rattle.blz_set.specs.declared.fault.SetFault.{SetFault}
 use Rattle.blz_set.specs.declared.fault.SetFault.TheVariants.{TooManyRows, NoMemory}
 use Rattle.bloom_forms.specs.declared.numbered.NumberedExpr.{NumberedExpr}
-use Rattle.bloom_forms.specs.declared.numbered.NumberedExpr as expr
+use Rattle.bloom_forms.specs.declared.numbered.NumberedRule.{NumberedRule}
 use Rattle.bloom_forms.specs.Step.{Sets}
 use Rattle.bloom_eval.specs.Code.NumberedRows.{numbered_rows, numbered_sets}
 use Rattle.bloom_eval.specs.StepAnswers.{AllFit, SomeIsOver}
+use Rattle.bloom_growth.specs.Growth.{Extends}
 use Rattle.bloom_index.specs.declared.change.Change.{Change}
 use Rattle.bloom_index.specs.declared.memo.Memo.{Memo}
-use Rattle.bloom_growth.specs.Growth.{Extends}
 use Rattle.bloom_index.specs.Code.Evaluation.{Stands, IsReady}
-use Rattle.bloom_index.specs.Code.Growth.{grows}
+use Rattle.bloom_index.specs.Code.Lasting.{lasts}
+use Rattle.bloom_index.specs.Code.Turns.{rows_in, Turns}
+
+-- ---- one rule
 
 -- a growing head, of which the fresh rows are new since the start, gets the rows of a rule's body; TooManyRows comes exactly where it gets too many or a part has
 abbrev pub GrowsBy : (body : NumberedExpr) (m after : Memo) (held : List Change) → IsReady body m held → (start rows new made : List Row) → Result (Unit {0}) SetFault → Type 0
 GrowsBy body m after held ready start rows new made (Ok x) =
-    (new ≡ set_of (rows ++ numbered_rows ready.new body)) × Stands ready.growing ready.new body after × AllFit (new ∷ numbered_sets ready.new body) × Extends start new made
+    (new ≡ set_of (rows ++ numbered_rows ready.new body)) × Stands ready.growing ready.lasting ready.new body after × AllFit (new ∷ numbered_sets ready.new body) × Extends start new made
 GrowsBy body m after held ready start rows new made (Err TooManyRows) = SomeIsOver (set_of (rows ++ numbered_rows ready.new body) ∷ numbered_sets ready.new body)
 GrowsBy body m after held ready start rows new made (Err NoMemory) = Unit {0}
 
--- the rows of the body that a head has already, where they grow
+-- the rows of the body that a head has already, where the body is kept
 abbrev pub HasOldRows : (body : NumberedExpr) (m : Memo) (held : List Change) → IsReady body m held → (rows : List Row) → Type 0
-HasOldRows body m held ready rows = IsTrue (grows ready.growing body) → IsWithin (numbered_rows ready.old body) rows
-
--- the rows of a body, where they grow
-abbrev pub KeepsRows : List Bool → Sets → (body : NumberedExpr) → (rows : List Row) → Type 0
-KeepsRows growing sets body rows = IsTrue (grows growing body) → rows ≡ numbered_rows sets body
-
--- the rows of a body were added to a set; TooManyRows comes exactly where they make it too large or a part has too many
-abbrev pub AddsBody : (body : NumberedExpr) (m after : Memo) (held : List Change) → IsReady body m held → (set new : List Row) → Result (Unit {0}) SetFault → Type 0
-AddsBody body m after held ready set new (Ok x) = (new ≡ set_of (set ++ numbered_rows ready.new body)) × Stands ready.growing ready.new body after × AllFit (new ∷ numbered_sets ready.new body)
-AddsBody body m after held ready set new (Err TooManyRows) = SomeIsOver (set_of (set ++ numbered_rows ready.new body) ∷ numbered_sets ready.new body)
-AddsBody body m after held ready set new (Err NoMemory) = Unit {0}
-
--- a group over a part that grows
-abbrev pub is_running : List Bool → NumberedExpr → Bool
-is_running growing (expr.Base number) = false
-is_running growing (expr.Select' p e test) = false
-is_running growing (expr.Project' p e columns) = false
-is_running growing (expr.Join' p a q b pairs) = false
-is_running growing (expr.NotIn' p a q b pairs) = false
-is_running growing (expr.Group' p e keys agg) = grows growing e
-is_running growing (expr.AtLeast' p e keys bound) = false
+HasOldRows body m held ready rows = IsTrue (lasts ready.lasting body) → IsWithin (numbered_rows ready.old body) rows
 
 -- rows of the new ones, and each of these that isn't an old one
 pub record AreNew (old new some : List Row) : Type 0 where
   pub only : IsWithin some new
   pub all : (row : Row) → Has row new → ¬ Has row old → Has row some
 
--- it was evaluated by what is new of it
-abbrev pub EvaluatesNew : (e : NumberedExpr) (m after : Memo) (held : List Change) → IsReady e m held → Result (List Row) SetFault → Type 0
-EvaluatesNew e m after held ready (Ok some) = AreNew (numbered_rows ready.old e) (numbered_rows ready.new e) some × Stands ready.growing ready.new e after × AllFit (numbered_sets ready.new e)
-EvaluatesNew e m after held ready (Err TooManyRows) = SomeIsOver (numbered_sets ready.new e)
-EvaluatesNew e m after held ready (Err NoMemory) = Unit {0}
+-- ---- the rules of a head that are kept, and the others
+
+-- those of some rules that are of a head and whose bodies are kept
+abbrev pub kept_rules : List Bool → List NumberedRule → (head : ℕ) → List NumberedRule
+kept_rules lasting rules head = filter (λ rule. rule.head == head && lasts lasting rule.body) rules
+
+-- and those whose bodies aren't
+abbrev pub passing_rules : List Bool → List NumberedRule → (head : ℕ) → List NumberedRule
+passing_rules lasting rules head = filter (λ rule. rule.head == head && not (lasts lasting rule.body)) rules
+
+-- what some rules give, a row as often as they do
+abbrev pub rows_given : Sets → List NumberedRule → List Row
+rows_given sets rules = flat_map (λ rule. numbered_rows sets rule.body) rules
+
+-- the rows of a body before and after
+pub record BodyRows : Type 0 where
+  pub old : List Row
+  pub new : List Row
+
+-- that of a rule
+abbrev pub body_of : (old new : Sets) → NumberedRule → BodyRows
+body_of old new rule = record { old = numbered_rows old rule.body; new = numbered_rows new rule.body }
+
+abbrev pub bodies_of : (old new : Sets) → List NumberedRule → List BodyRows
+bodies_of old new rules = map (body_of old new) rules
+
+abbrev pub olds_of : List BodyRows → List Row
+olds_of bodies = flat_map (λ body. body.old) bodies
+
+abbrev pub news_of : List BodyRows → List Row
+news_of bodies = flat_map (λ body. body.new) bodies
+
+-- a body that is kept turned
+pub record BodyTurns (body : BodyRows) (change : Change) : Type 0 where
+  pub kept : IsTrue change.kept
+  pub turned : Turns body.old body.new change
+
+-- each change is that of a body that is kept, and they are few
+pub record BodiesTurn (bodies : List BodyRows) (changes : List Change) : Type 0 where
+  pub few : length changes ≤ 64
+  pub each : AllZip BodyTurns bodies changes
+
+-- what goes of some bodies, and what comes
+abbrev pub gone_of : List Change → List Row
+gone_of changes = flat_map (λ change. rows_in change.gone) changes
+
+abbrev pub more_of : List Change → List Row
+more_of changes = flat_map (λ change. rows_in change.rows) changes
+
+-- ---- what a bag has beside a set
+
+-- the answer is the set with all given rows, or with those that came; TooManyRows comes exactly where the set with all is too large
+abbrev pub AddsGiven : (whole : Bool) → (rows given more : List Row) → Result (List Row) SetFault → Type 0
+AddsGiven true rows given more (Ok set) = (set ≡ set_of (rows ++ given)) × (length set ≤ row_limit)
+AddsGiven false rows given more (Ok set) = (set ≡ set_of (rows ++ more)) × (length (set_of (rows ++ given)) ≤ row_limit)
+AddsGiven whole rows given more (Err TooManyRows) = row_limit < length (set_of (rows ++ given))
+AddsGiven whole rows given more (Err NoMemory) = Unit {0}

@@ -9,11 +9,13 @@ use Rattle.bloom_forms.specs.declared.numbered.NumberedExpr.{NumberedExpr, Base,
 use Rattle.bloom_forms.specs.declared.numbered.NumberedRule.{NumberedRule}
 use Rattle.bloom_forms.specs.Step.{Sets}
 use Rattle.bloom_eval.specs.Code.NumberedRows.{numbered_rows}
-use Rattle.bloom_index.specs.declared.heads.RuleMemo.{RuleMemo}
 use Rattle.bloom_index.specs.declared.memo.Memo.{Memo}
+use Rattle.bloom_index.specs.declared.part_rows.PartRows.{PartRows}
+use Rattle.bloom_index.specs.declared.part_rows.PartRows.TheVariants.{Growing, Keyed}
 use Rattle.bloom_growth.specs.declared.side.Side.{Side}
 use Rattle.bloom_index.specs.Code.Evaluation.{Stands}
 use Rattle.bloom_index.specs.Code.Growth.{grows}
+use Rattle.bloom_index.specs.Code.Lasting.{GrowLast}
 use Rattle.bloom_growth.specs.Sides.{IsSideOf}
 
 -- ---- sides by numbers
@@ -46,17 +48,21 @@ rules_sides growing rules = flat_map (λ rule. numbered_sides growing rule.body)
 
 -- what is kept of an expression stands for it over some sets
 pub record IsKept (growing : List Bool) (e : NumberedExpr) (m : Memo) : Type 0 where
+  pub lasting : List Bool
   pub sets : Sets
-  pub stands : Stands growing sets e m
+  pub last : GrowLast growing lasting
+  pub stands : Stands growing lasting sets e m
 
 -- what is kept of each rule's body is that over these sets
-abbrev pub BodiesStand : List Bool → Sets → List NumberedRule → List RuleMemo → Type 0
-BodiesStand growing sets rules memos = AllZip (λ rule kept. Stands growing sets rule.body kept.memo) rules memos
+abbrev pub BodiesStand : (growing lasting : List Bool) → Sets → List NumberedRule → List Memo → Type 0
+BodiesStand growing lasting sets rules memos = AllZip (λ rule memo. Stands growing lasting sets rule.body memo) rules memos
 
 -- the same over some sets
-pub record AreKept (growing : List Bool) (rules : List NumberedRule) (memos : List RuleMemo) : Type 0 where
+pub record AreKept (growing : List Bool) (rules : List NumberedRule) (memos : List Memo) : Type 0 where
+  pub lasting : List Bool
   pub sets : Sets
-  pub stand : BodiesStand growing sets rules memos
+  pub last : GrowLast growing lasting
+  pub stand : BodiesStand growing lasting sets rules memos
 
 -- a side has the rows of a part over the sets, by the part's columns
 abbrev pub HasRowsOf : Sets → Side → NumberedSide → Type 0
@@ -65,6 +71,13 @@ HasRowsOf sets side numbered = IsSideOf numbered.columns (numbered_rows sets num
 -- it is the side with the number
 abbrev pub IsSideAt : Sets → List NumberedSide → (number : ℕ) → Side → Type 0
 IsSideAt sets sides number side = IsSomeAnd (slice_get sides number) (HasRowsOf sets side)
+
+-- what is kept of a part in the form for parts that grow was found or passed, in another form there is nothing to find
+abbrev pub FindsOwn : PartRows → (number : ℕ) → ControlFlow (Bor Side) ℕ → Type 0
+FindsOwn (Growing side) number (Break found) = (number ≡ 0) × (found.now ≡ side)
+FindsOwn (Growing side) number (Continue left) = 1 + left ≡ number
+FindsOwn (Keyed rows) number (Break found) = ⊥
+FindsOwn (Keyed rows) number (Continue left) = left ≡ number
 
 -- the side with the number was found, or all were passed and so many are to be passed after them
 abbrev pub Finds : Sets → List NumberedSide → (number : ℕ) → ControlFlow (Bor Side) ℕ → Type 0

@@ -5,11 +5,11 @@ use Rattle.blz_value.specs.Record.{Row}
 use Rattle.blz_value.specs.Sets.{set_of}
 use Rattle.blz_set.specs.Code.Pairs.{rights_of}
 use Rattle.blz_set.specs.RecordSet.{IsRecordSet}
-use Rattle.bloom_growth.specs.Sides.{IsSideOf}
+use Rattle.bloom_growth.specs.Code.ByKey.{AreByKey}
 use Rattle.bloom_growth.proofs.partners.join_to_right.Given as goal
 
 abbrev pub invariant-loop-left : goal.invariant-loop-left
-invariant-loop-left l = record {
+invariant-loop-left g l = record {
   set : IsRecordSet l.set;
-  added : (rights : List Row) → IsSideOf (rights_of l.pairs) rights l.side → set_of (l.set ++ l.rows.items) ≡ set_of (l.initial.set ++ join_rows l.pairs (take l.left-index l.left-items) rights);
+  added : (rights : List Row) → AreByKey (rights_of l.pairs) rights (g.S.RowsByKey.kept l.side).sets → set_of (l.set ++ l.rows.items) ≡ set_of (l.initial.set ++ join_rows l.pairs (take l.left-index l.left-items) rights);
 }

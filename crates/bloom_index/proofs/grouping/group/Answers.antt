@@ -1,33 +1,11 @@
-use Rattle.std.proofs.Common.{false, refl, sym, subst}
 use Rattle.blz_value.specs.Groups.{group_rows}
 use Rattle.blz_value.specs.Sets.{set_of}
-use Rattle.blz_value.proofs.SetLaws.{sorted_set_of}
-use Rattle.blz_set.proofs.Unions.{handed_on}
-use Rattle.bloom_growth.specs.Groups.{GroupsStand}
-use Rattle.bloom_index.specs.Code.Turns.{TurnsTo}
-use Rattle.bloom_index.proofs.Turning.{no_fault}
-use Rattle.bloom_index.proofs.GroupTurns.{groups_grow, few_grouped, gives_turns}
+use Rattle.bloom_index.proofs.Turning.{turned_of, turned_into, few_grouped, groups_turn}
 use Rattle.bloom_index.proofs.grouping.group.Goals as goal
 
-pub returns-in_err-set-clause-turned : goal.returns-in_err-set-clause-turned
-returns-in_err-set-clause-turned c = λ old new turns stands.
-    let keys = c.args.keys.now in
-    let before = set_of (group_rows keys c.args.agg old) in
-    let now = set_of (group_rows keys c.args.agg new) in
-    let grow = groups_grow keys c.args.agg c.args.part.now.fresh old new c.args.groups.now c.args.part.now c.as_set-rows.result.now stands refl c.if-part.true turns c.as_set-rows.ensures.rows in
-    subst (TurnsTo false before now) (sym (handed_on _ c.from_residual.result c.in_err-set.field-0.0 c.from_residual.ensures.1))
-    (no_fault false before now now c.in_err-set.field-0.0 (few_grouped keys c.args.agg new turns.few) (c.in_err-set.ensures.rows keys c.args.agg old new grow))
-
-pub returns-in_ok-set-clause-turned : goal.returns-in_ok-set-clause-turned
-returns-in_ok-set-clause-turned c = λ old new turns stands.
-    let keys = c.args.keys.now in
-    let before = set_of (group_rows keys c.args.agg old) in
-    let now = set_of (group_rows keys c.args.agg new) in
-    let grow = groups_grow keys c.args.agg c.args.part.now.fresh old new c.args.groups.now c.args.part.now c.as_set-rows.result.now stands refl c.if-part.true turns c.as_set-rows.ensures.rows in
-    gives_turns before now c.in_ok-set.set c.owned.result c.owned.ensures.fresh c.owned.ensures.rows (sorted_set_of (group_rows keys c.args.agg new)) (c.in_ok-set.ensures.rows keys c.args.agg old new grow)
-
-pub returns-in_ok-set-clause-kept : goal.returns-in_ok-set-clause-kept
-returns-in_ok-set-clause-kept c = λ old new turns stands.
-    let keys = c.args.keys.now in
-    let grow = groups_grow keys c.args.agg c.args.part.now.fresh old new c.args.groups.now c.args.part.now c.as_set-rows.result.now stands refl c.if-part.true turns c.as_set-rows.ensures.rows in
-    subst (λ b. GroupsStand keys c.args.agg b new c.grown_rows.new.self) (sym c.if-part.true) (c.in_ok-set.ensures.stand keys c.args.agg old new grow)
+pub returns-clause-turned : goal.returns-clause-turned
+returns-clause-turned c = λ keys agg old new turns stands.
+    let part = c.args.part.now in
+    let made = c.turned.ensures in
+    let turn = groups_turn keys agg old new c.turning.result.more.now c.turning.result.gone.now part c.args.groups.now c.requires c.turning.ensures.more c.turning.ensures.gone turns stands in
+    turned_into (set_of (group_rows keys agg old)) (set_of (group_rows keys agg new)) c.in_ok-turn.turn c.turned.result made.kept made.rows made.gone (few_grouped keys agg old (turned_of old new part turns c.requires).1) (c.in_ok-turn.ensures.rows keys agg old new turn)

@@ -1,7 +1,8 @@
 -- all collections but the heads that are left are marked
 use Rattle.std.proofs.Common.{drop}
+use Rattle.bloom_index.specs.Code.Growth.{rules_grow}
 use Rattle.bloom_index.proofs.Marking.{AreMarkedBut}
 use Rattle.bloom_index.proofs.grows.growing_heads.Given as goal
 
 abbrev pub invariant-loop-head : goal.invariant-loop-head
-invariant-loop-head l = AreMarkedBut l.program l.growing.items (drop l.head-index l.program.heads)
+invariant-loop-head l = AreMarkedBut l.program.form (rules_grow l.program.form) l.growing.items (drop l.head-index l.program.heads)

@@ -11,5 +11,5 @@ invariant-loop-i l = record {
   many : length l.memos.items ≡ length l.initial.memos.items;
   later : (k : ℕ) → l.i ≤ k → slice_get l.memos.items k ≡ slice_get l.initial.memos.items k;
   growing : (ready : AreReady l.rules l.head l.initial.memos.items l.held) → HasOldHead l.rules l.head l.initial.memos.items l.held ready l.initial.rows → IsTrue (grows_at ready.growing l.head)
-      → IsGrowingAt l.rules l.head l.initial.memos.items l.held ready l.initial.rows l.rows l.fresh l.i l.memos.items;
+      → IsGrowingAt l.rules l.head l.initial.memos.items l.held ready l.initial.rows l.rows l.more l.i l.memos.items;
 }

@@ -5,7 +5,7 @@ use Rattle.blz_set.specs.Code.Pairs.{lefts_of, rights_of}
 use Rattle.bloom_growth.specs.declared.side.Side.{Side}
 use Rattle.bloom_index.specs.Code.Memos.{part_kept}
 use Rattle.bloom_index.specs.Code.SideParts.{grown_side, numbered_sides, IsKept, Finds}
-use Rattle.bloom_index.proofs.SidePlaces.{part_is_kept, finds_first, finds_later, part_found, transport}
+use Rattle.bloom_index.proofs.SidePlaces.{part_is_kept, finds_first, finds_later, part_finds, in_kept, transport}
 use Rattle.bloom_index.proofs.sides.+find_side.Goals as goal
 
 pub returns-in-Select : goal.returns-in-Select
@@ -54,7 +54,7 @@ returns-in_err-number-in-Join t c =
     subst (λ (x : ControlFlow (Bor Side) ℕ). (kept : IsKept growing c.args.expr.now c.args.memo.now) → Finds kept.sets (numbered_sides growing c.args.expr.now) c.args.number x) (sym c.from_residual.ensures)
     (transport growing c.args.expr.now _ c.args.memo.now _ c.args.number (Break side) c.in-Join.is c.in-Join-memo.is (λ kept.
     finds_first kept.sets own (within ++ (other ++ last)) c.args.number side
-    (part_found growing c.deref-in-Join.result.now l memo.left c.args.number (Break side) c.deref-in-Join.ensures c.in_err-number-in-Join.ensures kept.sets lefts kept.stands.2.left)))
+    (part_finds growing kept.lasting kept.last l kept.sets lefts memo.left c.args.number (Break side) c.in_err-number-in-Join.ensures kept.stands.2.left)))
 
 pub returns-in_err-number-in-Join-2 : goal.returns-in_err-number-in-Join-2
 returns-in_err-number-in-Join-2 t c =
@@ -75,9 +75,9 @@ returns-in_err-number-in-Join-2 t c =
     subst (λ (x : ControlFlow (Bor Side) ℕ). (kept : IsKept growing c.args.expr.now c.args.memo.now) → Finds kept.sets (numbered_sides growing c.args.expr.now) c.args.number x) (sym c.from_residual-in_err-number-in-Join-2.ensures)
     (transport growing c.args.expr.now _ c.args.memo.now _ c.args.number (Break side) c.in-Join.is c.in-Join-memo.is (λ kept.
     finds_later kept.sets own (within ++ (other ++ last)) c.args.number n1 (Break side)
-    (part_found growing c.deref-in-Join.result.now l memo.left c.args.number (Continue n1) c.deref-in-Join.ensures c.in_ok-number-in-Join.ensures kept.sets lefts kept.stands.2.left)
+    (part_finds growing kept.lasting kept.last l kept.sets lefts memo.left c.args.number (Continue n1) c.in_ok-number-in-Join.ensures kept.stands.2.left)
     (finds_first kept.sets within (other ++ last) n1 side
-    (transport growing l c.deref-in-Join-2.result.now ml c.deref-in-Join-3.result.now n1 (Break side) (sym c.deref-in-Join-2.ensures) (sym c.deref-in-Join-3.ensures) c.in_err-number-in-Join-2.ensures (record { sets = kept.sets; stands = kept.stands.0 })))))
+    (transport growing l c.deref-in-Join.result.now ml c.deref-in-Join-2.result.now n1 (Break side) (sym c.deref-in-Join.ensures) (sym c.deref-in-Join-2.ensures) c.in_err-number-in-Join-2.ensures (in_kept growing _ _ _ _ kept kept.stands.0)))))
 
 pub returns-in_err-number-in-Join-3 : goal.returns-in_err-number-in-Join-3
 returns-in_err-number-in-Join-3 t c =
@@ -99,11 +99,11 @@ returns-in_err-number-in-Join-3 t c =
     subst (λ (x : ControlFlow (Bor Side) ℕ). (kept : IsKept growing c.args.expr.now c.args.memo.now) → Finds kept.sets (numbered_sides growing c.args.expr.now) c.args.number x) (sym c.from_residual-in_err-number-in-Join-3.ensures)
     (transport growing c.args.expr.now _ c.args.memo.now _ c.args.number (Break side) c.in-Join.is c.in-Join-memo.is (λ kept.
     finds_later kept.sets own (within ++ (other ++ last)) c.args.number n1 (Break side)
-    (part_found growing c.deref-in-Join.result.now l memo.left c.args.number (Continue n1) c.deref-in-Join.ensures c.in_ok-number-in-Join.ensures kept.sets lefts kept.stands.2.left)
+    (part_finds growing kept.lasting kept.last l kept.sets lefts memo.left c.args.number (Continue n1) c.in_ok-number-in-Join.ensures kept.stands.2.left)
     (finds_later kept.sets within (other ++ last) n1 n2 (Break side)
-    (transport growing l c.deref-in-Join-2.result.now ml c.deref-in-Join-3.result.now n1 (Continue n2) (sym c.deref-in-Join-2.ensures) (sym c.deref-in-Join-3.ensures) c.in_ok-number-in-Join-2.ensures (record { sets = kept.sets; stands = kept.stands.0 }))
+    (transport growing l c.deref-in-Join.result.now ml c.deref-in-Join-2.result.now n1 (Continue n2) (sym c.deref-in-Join.ensures) (sym c.deref-in-Join-2.ensures) c.in_ok-number-in-Join-2.ensures (in_kept growing _ _ _ _ kept kept.stands.0))
     (finds_first kept.sets other last n2 side
-    (part_found growing c.deref-in-Join-4.result.now r memo.right n2 (Break side) c.deref-in-Join-4.ensures c.in_err-number-in-Join-3.ensures kept.sets rights kept.stands.2.right)))))
+    (part_finds growing kept.lasting kept.last r kept.sets rights memo.right n2 (Break side) c.in_err-number-in-Join-3.ensures kept.stands.2.right)))))
 
 pub returns-in_ok-number-in-Join-3 : goal.returns-in_ok-number-in-Join-3
 returns-in_ok-number-in-Join-3 t c =
@@ -125,12 +125,12 @@ returns-in_ok-number-in-Join-3 t c =
     let found = c.find_side-in-Join-2.result in
     transport growing c.args.expr.now _ c.args.memo.now _ c.args.number found c.in-Join.is c.in-Join-memo.is (λ kept.
     finds_later kept.sets own (within ++ (other ++ last)) c.args.number n1 found
-    (part_found growing c.deref-in-Join.result.now l memo.left c.args.number (Continue n1) c.deref-in-Join.ensures c.in_ok-number-in-Join.ensures kept.sets lefts kept.stands.2.left)
+    (part_finds growing kept.lasting kept.last l kept.sets lefts memo.left c.args.number (Continue n1) c.in_ok-number-in-Join.ensures kept.stands.2.left)
     (finds_later kept.sets within (other ++ last) n1 n2 found
-    (transport growing l c.deref-in-Join-2.result.now ml c.deref-in-Join-3.result.now n1 (Continue n2) (sym c.deref-in-Join-2.ensures) (sym c.deref-in-Join-3.ensures) c.in_ok-number-in-Join-2.ensures (record { sets = kept.sets; stands = kept.stands.0 }))
+    (transport growing l c.deref-in-Join.result.now ml c.deref-in-Join-2.result.now n1 (Continue n2) (sym c.deref-in-Join.ensures) (sym c.deref-in-Join-2.ensures) c.in_ok-number-in-Join-2.ensures (in_kept growing _ _ _ _ kept kept.stands.0))
     (finds_later kept.sets other last n2 n3 found
-    (part_found growing c.deref-in-Join-4.result.now r memo.right n2 (Continue n3) c.deref-in-Join-4.ensures c.in_ok-number-in-Join-3.ensures kept.sets rights kept.stands.2.right)
-    (transport growing r c.deref-in-Join-5.result.now mr c.deref-in-Join-6.result.now n3 found (sym c.deref-in-Join-5.ensures) (sym c.deref-in-Join-6.ensures) c.find_side-in-Join-2.ensures (record { sets = kept.sets; stands = kept.stands.1 })))))
+    (part_finds growing kept.lasting kept.last r kept.sets rights memo.right n2 (Continue n3) c.in_ok-number-in-Join-3.ensures kept.stands.2.right)
+    (transport growing r c.deref-in-Join-3.result.now mr c.deref-in-Join-4.result.now n3 found (sym c.deref-in-Join-3.ensures) (sym c.deref-in-Join-4.ensures) c.find_side-in-Join-2.ensures (in_kept growing _ _ _ _ kept kept.stands.1)))))
 
 pub returns-in_err-number-in-NotIn : goal.returns-in_err-number-in-NotIn
 returns-in_err-number-in-NotIn t c =
@@ -148,7 +148,7 @@ returns-in_err-number-in-NotIn t c =
     subst (λ (x : ControlFlow (Bor Side) ℕ). (kept : IsKept growing c.args.expr.now c.args.memo.now) → Finds kept.sets (numbered_sides growing c.args.expr.now) c.args.number x) (sym c.from_residual-in_err-number-in-NotIn.ensures)
     (transport growing c.args.expr.now _ c.args.memo.now _ c.args.number (Break side) c.in-NotIn.is c.in-NotIn-memo.is (λ kept.
     finds_first kept.sets within (other ++ last) c.args.number side
-    (transport growing l c.deref-in-NotIn.result.now ml c.deref-in-NotIn-2.result.now c.args.number (Break side) (sym c.deref-in-NotIn.ensures) (sym c.deref-in-NotIn-2.ensures) c.in_err-number-in-NotIn.ensures (record { sets = kept.sets; stands = kept.stands.0 }))))
+    (transport growing l c.deref-in-NotIn.result.now ml c.deref-in-NotIn-2.result.now c.args.number (Break side) (sym c.deref-in-NotIn.ensures) (sym c.deref-in-NotIn-2.ensures) c.in_err-number-in-NotIn.ensures (in_kept growing _ _ _ _ kept kept.stands.0))))
 
 pub returns-in_err-number-in-NotIn-2 : goal.returns-in_err-number-in-NotIn-2
 returns-in_err-number-in-NotIn-2 t c =
@@ -167,9 +167,9 @@ returns-in_err-number-in-NotIn-2 t c =
     subst (λ (x : ControlFlow (Bor Side) ℕ). (kept : IsKept growing c.args.expr.now c.args.memo.now) → Finds kept.sets (numbered_sides growing c.args.expr.now) c.args.number x) (sym c.from_residual-in_err-number-in-NotIn-2.ensures)
     (transport growing c.args.expr.now _ c.args.memo.now _ c.args.number (Break side) c.in-NotIn.is c.in-NotIn-memo.is (λ kept.
     finds_later kept.sets within (other ++ last) c.args.number n1 (Break side)
-    (transport growing l c.deref-in-NotIn.result.now ml c.deref-in-NotIn-2.result.now c.args.number (Continue n1) (sym c.deref-in-NotIn.ensures) (sym c.deref-in-NotIn-2.ensures) c.in_ok-number-in-NotIn.ensures (record { sets = kept.sets; stands = kept.stands.0 }))
+    (transport growing l c.deref-in-NotIn.result.now ml c.deref-in-NotIn-2.result.now c.args.number (Continue n1) (sym c.deref-in-NotIn.ensures) (sym c.deref-in-NotIn-2.ensures) c.in_ok-number-in-NotIn.ensures (in_kept growing _ _ _ _ kept kept.stands.0))
     (finds_first kept.sets other last n1 side
-    (part_found growing c.deref-in-NotIn-3.result.now r memo.right n1 (Break side) c.deref-in-NotIn-3.ensures c.in_err-number-in-NotIn-2.ensures kept.sets rights kept.stands.2.right))))
+    (part_finds growing kept.lasting kept.last r kept.sets rights memo.right n1 (Break side) c.in_err-number-in-NotIn-2.ensures kept.stands.2.right))))
 
 pub returns-in_ok-number-in-NotIn-2 : goal.returns-in_ok-number-in-NotIn-2
 returns-in_ok-number-in-NotIn-2 t c =
@@ -188,7 +188,7 @@ returns-in_ok-number-in-NotIn-2 t c =
     let found = c.find_side-in-NotIn-2.result in
     transport growing c.args.expr.now _ c.args.memo.now _ c.args.number found c.in-NotIn.is c.in-NotIn-memo.is (λ kept.
     finds_later kept.sets within (other ++ last) c.args.number n1 found
-    (transport growing l c.deref-in-NotIn.result.now ml c.deref-in-NotIn-2.result.now c.args.number (Continue n1) (sym c.deref-in-NotIn.ensures) (sym c.deref-in-NotIn-2.ensures) c.in_ok-number-in-NotIn.ensures (record { sets = kept.sets; stands = kept.stands.0 }))
+    (transport growing l c.deref-in-NotIn.result.now ml c.deref-in-NotIn-2.result.now c.args.number (Continue n1) (sym c.deref-in-NotIn.ensures) (sym c.deref-in-NotIn-2.ensures) c.in_ok-number-in-NotIn.ensures (in_kept growing _ _ _ _ kept kept.stands.0))
     (finds_later kept.sets other last n1 n2 found
-    (part_found growing c.deref-in-NotIn-3.result.now r memo.right n1 (Continue n2) c.deref-in-NotIn-3.ensures c.in_ok-number-in-NotIn-2.ensures kept.sets rights kept.stands.2.right)
-    (transport growing r c.deref-in-NotIn-4.result.now mr c.deref-in-NotIn-5.result.now n2 found (sym c.deref-in-NotIn-4.ensures) (sym c.deref-in-NotIn-5.ensures) c.find_side-in-NotIn-2.ensures (record { sets = kept.sets; stands = kept.stands.1 }))))
+    (part_finds growing kept.lasting kept.last r kept.sets rights memo.right n1 (Continue n2) c.in_ok-number-in-NotIn-2.ensures kept.stands.2.right)
+    (transport growing r c.deref-in-NotIn-3.result.now mr c.deref-in-NotIn-4.result.now n2 found (sym c.deref-in-NotIn-3.ensures) (sym c.deref-in-NotIn-4.ensures) c.find_side-in-NotIn-2.ensures (in_kept growing _ _ _ _ kept kept.stands.1))))

@@ -13,7 +13,7 @@ loop-i-init c = record {
   port = refl;
   few = omega arith;
   within = omega arith;
-  begun = none_begun c.args.collections.now c.args.parts.now.growing.items c.args.now.now c.new-held.result.items c.new-held.ensures.items;
+  begun = none_begun c.args.collections.now c.args.parts.now.lasting.items c.args.now.now c.new-held.result.items c.new-held.ensures.items;
   sets = λ k lt. absurd (omega (arith, lt));
 }
 
@@ -23,7 +23,7 @@ begin_rows-rows-requires c = λ is. omega (arith, place_within Input c.args.coll
 pub loop-i-preserved : goal.loop-i-preserved
 loop-i-preserved c =
     let cs = c.args.collections.now in
-    let growing = c.args.parts.now.growing.items in
+    let lasting = c.args.parts.now.lasting.items in
     let rows = c.args.parts.now.rows.items in
     let now = c.args.now.now in
     let i = c.loop-i.i in
@@ -33,8 +33,9 @@ loop-i-preserved c =
       port = c.next_port-port.ensures ∙ ap (place_after Input item.kind) inv.port ∙ sym (place_more Input cs i item c.loop-i-test.true c.index-collections-i.is);
       few = omega (arith, c.next_port-port.ensures, place_after-le Input item.kind c.loop-i.port i inv.few);
       within = omega (arith, c.loop-i-test.true);
-      begun = begun_more cs growing now i c.loop-i.held.items c.push_change.new.held.items _ c.in_ok-push_change.ensures.held (record {
-        fresh = get_or_read growing i c.index-in-loop-i.result.now (omega (arith, c.loop-i-test.true, c.requires.growing)) c.index-in-loop-i.ensures false;
+      begun = begun_more cs lasting now i c.loop-i.held.items c.push_change.new.held.items _ c.in_ok-push_change.ensures.held (record {
+        kept = get_or_read lasting i c.index-in-loop-i.result.now (omega (arith, c.loop-i-test.true, c.requires.lasting)) c.index-in-loop-i.ensures false;
+        none_gone = c.new.ensures;
         rows = begun_at_kind cs now i c.loop-i.port item _ c.loop-i-test.true c.index-collections-i.is inv.port c.begin_rows-rows.ensures;
         set = c.in_ok-push_change.ensures.set;
       }) inv.begun;
@@ -42,7 +43,7 @@ loop-i-preserved c =
     }
 
 pub returns-clause-begun : goal.returns-clause-begun
-returns-clause-begun c = subst (λ n. AreBegunAt c.args.collections.now c.args.parts.now.growing.items c.args.now.now n c.loop-i.held.items) (let e : c.loop-i.i ≡ length c.args.collections.now = omega (arith, c.loop-i-test.false, c.loop-i.invariant.within) in e) c.loop-i.invariant.begun
+returns-clause-begun c = subst (λ n. AreBegunAt c.args.collections.now c.args.parts.now.lasting.items c.args.now.now n c.loop-i.held.items) (let e : c.loop-i.i ≡ length c.args.collections.now = omega (arith, c.loop-i-test.false, c.loop-i.invariant.within) in e) c.loop-i.invariant.begun
 
 pub returns-clause-sets : goal.returns-clause-sets
 returns-clause-sets c = all_known c.args.parts.now.rows.items c.loop-i.i (omega (arith, c.loop-i-test.false, c.requires.rows)) c.loop-i.invariant.sets

@@ -12,6 +12,6 @@ invariant-loop-i l = record {
   port : l.port ≡ place_in_kind Input l.collections l.i;
   few : l.port ≤ l.i;
   within : l.i ≤ length l.collections;
-  begun : AreBegunAt l.collections l.parts.growing.items l.now l.i l.held.items;
+  begun : AreBegunAt l.collections l.parts.lasting.items l.now l.i l.held.items;
   sets : (k : ℕ) → k < l.i → IsRecordSet (set_at l.parts.rows.items k);
 }

@@ -8,5 +8,6 @@ use Rattle.bloom_index.proofs.step.step.Given as goal
 abbrev pub invariant-loop-head : goal.invariant-loop-head
 invariant-loop-head l =
     let growing = l.initial.parts.growing.items in
+    let lasting = l.initial.parts.lasting.items in
     let tables = tables_in l.program l.initial.parts.rows.items in
-    (st : IsStep l.program l.rules growing tables l.now) × IsMid l.program l.rules growing tables l.now st l.all l.parts l.held.items (drop l.head-index l.program.heads)
+    (st : IsStep l.program l.rules growing lasting tables l.now) × IsMid l.program l.rules growing lasting tables l.now st l.parts l.held.items (drop l.head-index l.program.heads)

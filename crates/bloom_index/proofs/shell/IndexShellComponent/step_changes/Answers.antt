@@ -10,10 +10,10 @@ use Rattle.bloom_index.proofs.shell.IndexShellComponent.step_changes.Goals as go
 
 pub returns-clause-few : goal.returns-clause-few
 returns-clause-few c =
-    subst (λ (loaded : Option IndexBody). OnOk c.step.result (AllFit (counted_next (option_map (λ body. ModuleProgram body.program) loaded) (option_map_or (λ body. kept_tables body.program body.parts) loaded []) c.args.now.now))) (sym c.in-Some.is)
-    c.step.ensures.few
+    subst (λ (loaded : Option IndexBody). OnOk c.step_changes.result (AllFit (counted_next (option_map (λ body. ModuleProgram body.program) loaded) (option_map_or (λ body. kept_tables body.program body.parts) loaded []) c.args.now.now))) (sym c.in-Some.is)
+    c.step_changes.ensures.few
 
 pub returns-clause-too_many : goal.returns-clause-too_many
 returns-clause-too_many c =
-    subst (λ (loaded : Option IndexBody). c.step.result ≡ Err TooManyRows → SomeIsOver (counted_next (option_map (λ body. ModuleProgram body.program) loaded) (option_map_or (λ body. kept_tables body.program body.parts) loaded []) c.args.now.now)) (sym c.in-Some.is)
-    c.step.ensures.too_many
+    subst (λ (loaded : Option IndexBody). c.step_changes.result ≡ Err TooManyRows → SomeIsOver (counted_next (option_map (λ body. ModuleProgram body.program) loaded) (option_map_or (λ body. kept_tables body.program body.parts) loaded []) c.args.now.now)) (sym c.in-Some.is)
+    c.step_changes.ensures.too_many

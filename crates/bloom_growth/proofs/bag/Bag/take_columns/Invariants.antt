@@ -1,0 +1,15 @@
+-- the columns of the rows so far were taken out
+use Rattle.std.proofs.Common.{◌≡◌, ◌++◌, List, drop}
+use Rattle.blz_value.specs.Operators.{project_rows}
+use Rattle.blz_value.specs.Record.{Row}
+use Rattle.blz_value.specs.Sets.{set_of}
+use Rattle.bloom_growth.specs.Bags.{IsBag, left_rows, entered_rows}
+use Rattle.bloom_growth.specs.Growth.{Extends}
+use Rattle.bloom_growth.proofs.bag.Bag.take_columns.Given as goal
+
+abbrev pub invariant-loop-row : goal.invariant-loop-row
+invariant-loop-row l = record {
+  bag : (rows : List Row) → IsBag (project_rows l.columns l.row-items ++ rows) l.fn.self → IsBag (project_rows l.columns (drop l.row-index l.row-items) ++ rows) l.self;
+  left : (old rows : List Row) → IsBag (project_rows l.columns l.row-items ++ rows) l.fn.self → Extends (set_of (project_rows l.columns l.row-items ++ rows)) old (left_rows l.fn.passing) → Extends (set_of (project_rows l.columns (drop l.row-index l.row-items) ++ rows)) old (left_rows l.passing);
+  entered : entered_rows l.passing ≡ entered_rows l.fn.passing;
+}

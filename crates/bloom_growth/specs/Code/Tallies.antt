@@ -1,0 +1,38 @@
+-- What becomes of aggregates by keys where one row comes or goes.
+use Rattle.std.specs.Prelude.{◌≡◌, ◌<◌, ◌↔◌, Bool, true, false, IsTrue, Option, None, Some, List, ◌∷◌, length}
+use Rattle.std.specs.BTreeMap.{BTreeMap, IsUnchanged, get}
+use Rattle.blz_value.specs.declared.aggregate.Agg.{Agg}
+use Rattle.blz_value.specs.Record.{Row, record_cmp}
+use Rattle.blz_set.specs.RecordSet.{row_limit}
+use Rattle.bloom_growth.specs.declared.tally.Tally.{Tally}
+use Rattle.bloom_growth.specs.Tallies.{IsTally}
+use Rattle.bloom_growth.specs.TurningGroups.{IsTalliedAt}
+
+-- at all keys but this one stands what stood there
+abbrev pub KeepsOthers : Row → (old new : BTreeMap Row Tally) → Type 0
+KeepsOthers key old new = (other : Row) → ¬ (other ≡ key) → get record_cmp new other ≡ get record_cmp old other
+
+-- the aggregate at a key goes on with one row more
+pub record GoesOn (agg : Agg) (key row : Row) (old new : BTreeMap Row Tally) : Type 0 where
+  pub at_key : (run : List Row) → length run < row_limit → IsTalliedAt agg run (get record_cmp old key) → IsTalliedAt agg (row ∷ run) (get record_cmp new key)
+  pub others : KeepsOthers key old new
+
+-- the same where the key is there, which is the answer, and else nothing changes
+abbrev pub GoesOnIf : Bool → Agg → (key row : Row) → (old new : BTreeMap Row Tally) → Type 0
+GoesOnIf true agg key row old new = GoesOn agg key row old new
+GoesOnIf false agg key row old new = IsUnchanged old new × (get record_cmp old key ≡ None)
+
+-- the aggregate at a key goes on with one row less
+pub record GoesBack (agg : Agg) (key row : Row) (old new : BTreeMap Row Tally) : Type 0 where
+  pub at_key : (run : List Row) → length run < row_limit → IsTalliedAt agg (row ∷ run) (get record_cmp old key) → IsTalliedAt agg run (get record_cmp new key)
+  pub others : KeepsOthers key old new
+
+-- an aggregate without rows may be left, and whether it is so is the answer
+abbrev pub IsLeft : Bool → Agg → List Row → Option Tally → Type 0
+IsLeft last agg run None = ⊥
+IsLeft last agg run (Some tally) = IsTally agg run tally × (IsTrue last ↔ (length run ≡ 0))
+
+-- one row less, where an aggregate without rows may be left
+pub record LeavesAt (last : Bool) (agg : Agg) (key row : Row) (old new : BTreeMap Row Tally) : Type 0 where
+  pub at_key : (run : List Row) → length run < row_limit → IsTalliedAt agg (row ∷ run) (get record_cmp old key) → IsLeft last agg run (get record_cmp new key)
+  pub others : KeepsOthers key old new

@@ -14,9 +14,9 @@
 //!   `*` in them is the number of the time, counted from 0.
 //! - `== fail NUMBER`: the read with this number fails, counted from 1; with 0 none does.
 //! - `== room COUNT`: no more than so many bytes can be written.
-//! - `== bench WORDS`: the bench has these shells, of `WORD*COUNT` so many and of `module` one for modules,
-//!   where it has four for modules and sixteen of each stock body else. It is used again from answer to
-//!   answer.
+//! - `== bench WORDS`: the bench has these shells, of `WORD*COUNT` so many, of `module` one for modules and of
+//!   `plain` one that never keeps indexes, where it has four for modules and sixteen of each stock body else.
+//!   It is used again from answer to answer.
 //! - `== ask WORDS`: the words of the command line, with a blank between two; `\n` is the end of a line.
 //! - `== show WORDS`: in place of the program these rows themselves answer, with the status Done.
 //! - `== hold NAME`: what is written, asked so over the files so far, is the file NAME.
@@ -42,7 +42,7 @@ use std::env;
 use worked_calls::{PoorShell, TellingShell};
 
 // The bench of rows that name none.
-const USUAL_BENCH: &str = "bench module*4 split*16 latest*16 number*16";
+const USUAL_BENCH: &str = "module*4 split*16 latest*16 number*16";
 
 // Which shells for modules the benches have.
 #[derive(Clone, Copy)]
@@ -63,18 +63,54 @@ impl Modules {
     }
 }
 
-// The headings of a text of rows, each with the text below it; the first is that of the usual bench.
-fn sections(alloc: Global, text: &str) -> Result<Vec<(&str, String)>> {
-    let mut sections: Vec<(&str, String)> = Vec::new(alloc);
-    sections.push((USUAL_BENCH, String::new(alloc)))?;
-    for line in text.lines() {
+// How many rows were answered, and how many of them as they say.
+#[derive(Clone, Copy)]
+struct Count {
+    right: u64,
+    all: u64,
+}
+
+impl Count {
+    // Counts a row that was compared, if one was.
+    fn add(&mut self, found: Option<bool>) {
+        self.all = self.all.wrapping_add(found.is_some() as u64);
+        self.right = self.right.wrapping_add((found == Some(true)) as u64);
+    }
+}
+
+// The rows that share a bench: the words of its shells, and the headings, each with the text below it.
+#[derive(Drop)]
+struct Group<'a> {
+    shells: &'a str,
+    sections: Vec<(&'a str, String)>,
+}
+
+// Adds a line of a text of rows, which may be a heading.
+fn add_line<'a>(alloc: Global, groups: &mut Vec<Group<'a>>, line: &'a str) -> Result<()> {
+    if let Some(shells) = line.strip_prefix("== bench ") {
+        let sections = Vec::new(alloc);
+        groups.push(Group { shells, sections })?;
+    } else if let Some(group) = groups.last_mut() {
         if let Some(heading) = line.strip_prefix("== ") {
-            sections.push((heading, String::new(alloc)))?;
-        } else if let Some((_, below)) = sections.last_mut() {
+            group.sections.push((heading, String::new(alloc)))?;
+        } else if let Some((_, below)) = group.sections.last_mut() {
             push_line(line, below)?;
         }
     }
-    Ok(sections)
+    Ok(())
+}
+
+// The rows of a text by their benches; the first is the usual one.
+fn groups_of(alloc: Global, text: &str) -> Result<Vec<Group<'_>>> {
+    let mut groups = Vec::new(alloc);
+    groups.push(Group {
+        shells: USUAL_BENCH,
+        sections: Vec::new(alloc),
+    })?;
+    for line in text.lines() {
+        add_line(alloc, &mut groups, line)?;
+    }
+    Ok(groups)
 }
 
 // Adds a line with its end, or without one where it goes on in the next.
@@ -130,67 +166,88 @@ fn compared(
     }
 }
 
+// Whether a heading asks for an answer.
+fn asks(kind: &str) -> bool {
+    matches!(kind, "answer" | "writes" | "hold")
+}
+
+// Heeds a heading that asks for none.
+fn heed(rt: &HostRuntime, asked: &mut Question, heading: (&str, &str), below: &str) -> Result<()> {
+    if !asked.heed(rt, heading, below)? {
+        println!(rt; "no heading: {}", heading.0)?;
+    }
+    Ok(())
+}
+
+// The words of the shells of a bench, each once.
+fn shell_words(alloc: Global, shells: &str) -> Result<Vec<&str>> {
+    let mut all = Vec::new(alloc);
+    for words in shells.split(' ') {
+        let (word, count) = words.split_once('*').unwrap_or((words, "1"));
+        for _ in 0..count.parse::<usize>()? {
+            all.push(word)?;
+        }
+    }
+    Ok(all)
+}
+
+// Counts the rows that share a bench. Who owns a bench makes its shells and asks the program itself: no
+// function hands one out.
+fn count_group(
+    rt: &HostRuntime,
+    modules: Modules,
+    group: &Group<'_>,
+    asked: &mut Question,
+    count: &mut Count,
+) -> Result<()> {
+    let alloc = rt.alloc();
+    let words = shell_words(alloc, group.shells)?;
+    let mut bench: Vec<Box<dyn Component>> = Vec::new(alloc);
+    for word in &words {
+        match *word {
+            "module" if modules.is_indexed(bench.len()) => {
+                bench.push(Box::new(alloc, IndexShell::new(alloc))?)?;
+            }
+            "module" | "plain" => bench.push(Box::new(alloc, PlainShell::new(alloc))?)?,
+            "split" => bench.push(Box::new(alloc, SplitShell::new(alloc))?)?,
+            "latest" => bench.push(Box::new(alloc, LatestShell::new(alloc))?)?,
+            "number" => bench.push(Box::new(alloc, NumberShell::new(alloc))?)?,
+            "telling" => bench.push(Box::new(alloc, TellingShell::new(alloc))?)?,
+            "poor" => bench.push(Box::new(alloc, PoorShell::new(PlainShell::new(alloc)))?)?,
+            "poor-split" => bench.push(Box::new(alloc, PoorShell::new(SplitShell::new(alloc)))?)?,
+            _ => bail!("no shell is {word}"),
+        }
+    }
+    for (heading, below) in &group.sections {
+        let heading = heading.split_once(' ').unwrap_or((*heading, ""));
+        if !asks(heading.0) {
+            heed(rt, asked, heading, below.as_str())?;
+            continue;
+        }
+        let answered = if asked.is_shown() {
+            asked.shown(alloc)?
+        } else {
+            let mut files = asked.copied(alloc)?;
+            let mut out = MemSink::new(alloc, asked.room())?;
+            let status = blazes(alloc, asked.words(), &mut files, &mut out, &mut bench);
+            (status, out)
+        };
+        count.add(compared(rt, asked, &answered, heading, below.as_str())?);
+    }
+    Ok(())
+}
+
 // How many of the rows of a file are as it says, and how many it has.
-fn right_rows(rt: &HostRuntime, modules: Modules, name: &str) -> Result<(u64, u64)> {
+fn count_rows(rt: &HostRuntime, modules: Modules, name: &str) -> Result<Count> {
     let bytes = bytes_of(rt, name)?;
     let text = str::from_utf8(bytes.as_slice())?;
     let alloc = rt.alloc();
     let mut asked = Question::new(alloc)?;
-    let mut bench: Vec<Box<dyn Component>> = Vec::new(alloc);
-    let (mut right, mut all) = (0u64, 0u64);
-    for (heading, below) in &sections(alloc, text)? {
-        let kind_and_rest = heading.split_once(' ').unwrap_or((*heading, ""));
-        let (kind, rest) = kind_and_rest;
-        match kind {
-            "bench" => {
-                bench.clear();
-                // Who owns a bench makes its shells: no function hands one out.
-                for words in rest.split(' ') {
-                    let (word, count) = words.split_once('*').unwrap_or((words, "1"));
-                    for _ in 0..count.parse::<usize>()? {
-                        match word {
-                            "module" if modules.is_indexed(bench.len()) => {
-                                bench.push(Box::new(alloc, IndexShell::new(alloc))?)?;
-                            }
-                            "module" => bench.push(Box::new(alloc, PlainShell::new(alloc))?)?,
-                            "split" => bench.push(Box::new(alloc, SplitShell::new(alloc))?)?,
-                            "latest" => bench.push(Box::new(alloc, LatestShell::new(alloc))?)?,
-                            "number" => bench.push(Box::new(alloc, NumberShell::new(alloc))?)?,
-                            "telling" => bench.push(Box::new(alloc, TellingShell::new(alloc))?)?,
-                            "poor" => bench.push(Box::new(
-                                alloc,
-                                PoorShell::new(PlainShell::new(alloc)),
-                            )?)?,
-                            "poor-split" => bench.push(Box::new(
-                                alloc,
-                                PoorShell::new(SplitShell::new(alloc)),
-                            )?)?,
-                            _ => bail!("no shell is {word}"),
-                        }
-                    }
-                }
-            }
-            "answer" | "writes" | "hold" => {
-                let answered = if asked.is_shown() {
-                    asked.shown(alloc)?
-                } else {
-                    let mut files = asked.copied(alloc)?;
-                    let mut out = MemSink::new(alloc, asked.room())?;
-                    let status = blazes(alloc, asked.words(), &mut files, &mut out, &mut bench);
-                    (status, out)
-                };
-                let found = compared(rt, &mut asked, &answered, kind_and_rest, below.as_str())?;
-                all = all.wrapping_add(found.is_some() as u64);
-                right = right.wrapping_add((found == Some(true)) as u64);
-            }
-            _ => {
-                if !asked.heed(rt, kind_and_rest, below.as_str())? {
-                    println!(rt; "no heading: {heading}")?;
-                }
-            }
-        }
+    let mut count = Count { right: 0, all: 0 };
+    for group in &groups_of(alloc, text)? {
+        count_group(rt, modules, group, &mut asked, &mut count)?;
     }
-    Ok((right, all))
+    Ok(count)
 }
 
 fn main(rt: HostRuntime) -> Result<()> {
@@ -200,7 +257,7 @@ fn main(rt: HostRuntime) -> Result<()> {
             "over-indexed-shells" => modules = Modules::Indexed,
             "over-both-kinds" => modules = Modules::Both,
             name => {
-                let (right, all) = right_rows(&rt, modules, name)?;
+                let Count { right, all } = count_rows(&rt, modules, name)?;
                 println!(rt; "{name}: {right} of {all} rows")?;
             }
         }

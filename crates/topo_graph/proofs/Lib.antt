@@ -5,6 +5,9 @@ pub mod RegionsFound
 pub mod LinesFound
 pub mod PortsFound
 pub mod PathsFound
+pub mod RowsInto
+pub mod RowsKept
+pub mod FeedersTold
 pub mod AllFound
 pub mod Altered
 pub mod KeyNames

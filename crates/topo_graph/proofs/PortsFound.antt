@@ -1,5 +1,5 @@
 -- The streams into each port, as they are found, are those that go to it.
-use Rattle.std.proofs.Common.{◌≡◌, ◌≤◌, ◌<◌, ◌+◌, ◌++◌, ◌&&◌, ◌||◌, inl, inr, ℕ, nat_eq, is_some, cond, if◌then◌else◌, Bool, true, false, List, [], ◌∷◌, map, filter, length, get_or, bit_or, refl, arith, ap, ◌∙◌, sym}
+use Rattle.std.proofs.Common.{◌≡◌, ◌≤◌, ◌<◌, ◌++◌, ◌&&◌, ◌||◌, inl, inr, ℕ, nat_eq, is_some, cond, if◌then◌else◌, Bool, true, false, List, [], ◌∷◌, map, filter, length, get_or, bit_or, refl, arith, ap, ◌∙◌, sym}
 use Rattle.std.specs.List.{flat_map, list_all, list_any}
 use Rattle.std.proofs.lemmas.Bool.{cases_Bool, cases_lt}
 use Rattle.std.proofs.lemmas.Grind.{common_steps}
@@ -114,7 +114,7 @@ pub rows_found : (v : View) → all_rows v ≡ map (into_ports v) (component_num
 rows_found v = map_same (row_of v) (into_ports v) (λ c. map_same (set_of_port (feeds_of v c)) (into_port v c) (λ p. sets_of_streams v c p 0 (stream_numbers v)) (port_numbers v c)) (component_numbers v)
 
 -- those of some numbers that pass a test
-set_of_passing : (test : ℕ → Bool) (set : ℕ) (ns : List ℕ) → with_all set (map (λ n. bit_if (test n) n) ns) ≡ with_all set (map bit_of (filter test ns))
+pub set_of_passing : (test : ℕ → Bool) (set : ℕ) (ns : List ℕ) → with_all set (map (λ n. bit_if (test n) n) ns) ≡ with_all set (map bit_of (filter test ns))
 set_of_passing test set [] = refl
 set_of_passing test set (n ∷ ns) = by (test n) (set_of_passing test set ns) (set_of_passing test (bit_or set (bit_of n)) ns)
   where

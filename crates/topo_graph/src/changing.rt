@@ -3,9 +3,10 @@ ghost use Rattle.std.specs.Prelude.{◌≡◌, IfOk};
 ghost use Rattle.topo_forms.specs.Laws.{CanHaveMode, validated_with_mode};
 ghost use Rattle.topo_forms.specs.Valid.{Validated};
 
-use crate::finding::{found_with, regions_of};
+use crate::finding::found_again;
 use crate::modes::{kept_with_mode, topology_with_mode};
 use bloom_forms::Mode;
+use blz_value::Faithful;
 use std::alloc::{AllocError, Global};
 use topo_forms::{Valid, valid_copy};
 
@@ -31,7 +32,8 @@ impl WithMode for Valid {
 }
 
 /// The same topology with this mode and key written at a component, and all else as it was. Nothing
-/// is copied, and what is found of the view is found anew. After want of memory the topology is gone.
+/// is copied but the streams into each port; all else that is found of the view is found anew. After
+/// want of memory the topology is gone.
 pub fn replace_mode(
     alloc: Global,
     valid: Valid,
@@ -44,11 +46,11 @@ pub fn replace_mode(
     valid.whole();
     valid.known();
     let number = component as usize;
+    let rows = valid.found().into.copied()?;
     let (topology, kept) = valid.into_parts();
     let names = kept.attributes.names();
     let topology = topology_with_mode(alloc, names, topology, number, mode)?;
     let kept = kept_with_mode(kept, number, mode);
-    let regions = regions_of(alloc, &kept)?;
-    let found = found_with(alloc, &kept, regions)?;
+    let found = found_again(alloc, &kept, rows)?;
     Valid::new(alloc, topology, kept, found)
 }

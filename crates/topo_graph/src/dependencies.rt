@@ -10,6 +10,15 @@ use crate::lines::Line;
 use blz_value::{Fd, arrow, bit_if, closed, is_in, is_within, union_of};
 use std::alloc::{AllocError, Global};
 
+/// What is found of a dependency.
+#[derive(Clone, Copy)]
+pub(crate) struct Holding {
+    /// The streams that uphold it.
+    pub(crate) upheld: u64,
+    /// The components at which it is usable.
+    pub(crate) usable: u64,
+}
+
 // Whether a set has all columns of the dependency.
 fn has_both_sides(fd: Fd, columns: u64) -> bool
     ensures { result ≡ has_both fd columns }
@@ -65,21 +74,6 @@ fn upholders(alloc: Global, lines: &[Line], fd: Fd) -> Result<u64, AllocError>
     Ok(closed(union_of(&starts), &arrows))
 }
 
-/// The streams that uphold each dependency.
-pub(crate) fn all_upholders(
-    alloc: Global,
-    lines: &[Line],
-    fds: &[Fd],
-) -> Result<Vec<u64>, AllocError>
-    ensures { IfOk result (λ sets. sets.items ≡ map (spec.upholders_by lines.now) fds.now) }
-{
-    let mut sets = Vec::new(alloc);
-    for fd in fds {
-        sets.push(upholders(alloc, lines, *fd)?)?;
-    }
-    Ok(sets)
-}
-
 // Whether a stream upholds the dependency, and has all of `from` only with all of `to`.
 fn is_good(fd: Fd, upheld: u64, stream: usize, line: &Line) -> bool
     ensures { result ≡ spec.is_good fd upheld (stream, line.now) }
@@ -123,27 +117,42 @@ fn usable_by(alloc: Global, into: &[u64], good: u64) -> Result<u64, AllocError>
     Ok(union_of(&sets))
 }
 
-// The components at which a dependency is usable.
-fn usable_at(alloc: Global, lines: &[Line], into: &[u64], fd: Fd) -> Result<u64, AllocError>
-    ensures { IfOk result (λ set. set ≡ spec.usable_by into.now (spec.good_set lines.now fd (spec.upholders_by lines.now fd))) }
+// What is found of a dependency.
+fn holding_of(alloc: Global, lines: &[Line], into: &[u64], fd: Fd) -> Result<Holding, AllocError>
+    ensures { IfOk result (λ held. held ≡ spec.holding_by lines.now into.now fd) }
 {
     let upheld = upholders(alloc, lines, fd)?;
     let good = good_set(alloc, lines, fd, upheld)?;
-    usable_by(alloc, into, good)
+    let usable = usable_by(alloc, into, good)?;
+    Ok(Holding { upheld, usable })
 }
 
-/// The components at which each dependency is usable.
-pub(crate) fn all_usable(
+/// What is found of each dependency.
+pub(crate) fn all_holdings(
     alloc: Global,
     lines: &[Line],
     into: &[u64],
     fds: &[Fd],
-) -> Result<Vec<u64>, AllocError>
-    ensures { IfOk result (λ sets. sets.items ≡ map (λ fd. spec.usable_by into.now (spec.good_set lines.now fd (spec.upholders_by lines.now fd))) fds.now) }
+) -> Result<Vec<Holding>, AllocError>
+    ensures { IfOk result (λ held. held.items ≡ map (spec.holding_by lines.now into.now) fds.now) }
 {
-    let mut sets = Vec::new(alloc);
+    let mut held = Vec::new(alloc);
     for fd in fds {
-        sets.push(usable_at(alloc, lines, into, *fd)?)?;
+        held.push(holding_of(alloc, lines, into, *fd)?)?;
     }
-    Ok(sets)
+    Ok(held)
+}
+
+/// The streams that uphold each.
+pub(crate) fn all_upheld(alloc: Global, held: &[Holding]) -> Result<Vec<u64>, AllocError>
+    ensures { IfOk result (λ sets. sets.items ≡ map (λ h. h.upheld) held.now) }
+{
+    held.iter().map(|one| one.upheld).collect(alloc)
+}
+
+/// The components at which each is usable.
+pub(crate) fn all_usable(alloc: Global, held: &[Holding]) -> Result<Vec<u64>, AllocError>
+    ensures { IfOk result (λ sets. sets.items ≡ map (λ h. h.usable) held.now) }
+{
+    held.iter().map(|one| one.usable).collect(alloc)
 }

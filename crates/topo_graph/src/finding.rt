@@ -3,18 +3,19 @@ ghost use Rattle.std.specs.Prelude.{◌≡◌, ◌<◌, ◌≤◌, map, length, 
 ghost use Rattle.std.specs.List.{position_or_len};
 ghost use Rattle.blz_value.specs.Regions as reach;
 ghost use Rattle.topo_forms.specs.Found as spec;
-ghost use Rattle.topo_forms.specs.Dependencies.{upholders};
 ghost use Rattle.blz_value.specs.Graph as graph;
 ghost use Rattle.topo_forms.specs.Kept.{view_kept};
 ghost use Rattle.topo_forms.specs.Regions as regions_spec;
 ghost use Rattle.blz_value.specs.NumberSets.{below};
-ghost use Rattle.topo_forms.specs.View.{component_numbers, stream_numbers};
+ghost use Rattle.topo_forms.specs.View.{component_numbers};
+ghost use Rattle.topo_graph.specs.Code.Lines as lines_spec;
+ghost use Rattle.topo_graph.specs.Code.Ports as ports_spec;
 
-use crate::dependencies::{all_upholders, all_usable};
+use crate::dependencies::{all_holdings, all_upheld, all_usable};
 use crate::feeders::all_feeders;
 use crate::lines::{all_into, lines_of};
 use crate::paths::paths_of;
-use crate::ports::all_rows;
+use crate::ports::{all_rows, all_unions};
 use blz_value::{Items, all_carried, is_cyclic, is_in, regions_in, sets_of};
 use std::alloc::{AllocError, Global};
 use topo_forms::{GraphFacts, Kept};
@@ -74,16 +75,17 @@ fn numbers_of(alloc: Global, regions: &[u64], count: usize) -> Result<Vec<u32>, 
     Ok(numbers)
 }
 
-/// The regions of a view.
-#[tactic(auto, using(crate::proofs::RegionsFound::few_found, crate::proofs::RegionsFound::regions_found, crate::proofs::RegionsFound::cyclic_found, crate::proofs::RegionsFound::cycles_found, crate::proofs::RegionsFound::numbers_found))]
-pub fn regions_of(alloc: Global, kept: &Kept) -> Result<FoundRegions, AllocError>
-    requires { spec.HasEnds (view_kept kept.now) }
+// The regions of a view, told the streams into each component.
+#[tactic(auto, using(crate::proofs::FeedersTold::feeders_told, crate::proofs::RegionsFound::few_found, crate::proofs::RegionsFound::regions_found, crate::proofs::RegionsFound::cyclic_found, crate::proofs::RegionsFound::cycles_found, crate::proofs::RegionsFound::numbers_found))]
+fn regions_with(alloc: Global, kept: &Kept, into: &[u64]) -> Result<FoundRegions, AllocError>
+    requires ends { spec.HasEnds (view_kept kept.now) }
+    requires into { into.now ≡ lines_spec.all_into (view_kept kept.now) }
     ensures regions { IfOk result (λ r. r.regions.items ≡ regions_spec.regions (view_kept kept.now)) }
     ensures cyclic { IfOk result (λ r. r.cyclic.items ≡ map (regions_spec.is_cyclic (view_kept kept.now)) (below (length (regions_spec.regions (view_kept kept.now))))) }
     ensures numbers { IfOk result (λ r. r.numbers.items ≡ map (regions_spec.region_of (view_kept kept.now)) (component_numbers (view_kept kept.now))) }
     ensures cycles { IfOk result (λ r. r.cycles.items ≡ map (regions_spec.is_in_cycle (view_kept kept.now)) (component_numbers (view_kept kept.now))) }
 {
-    let feeding = all_feeders(alloc, kept)?;
+    let feeding = all_feeders(alloc, kept, into)?;
     let count = feeding.len();
     let sets = sets_of(alloc, &feeding)?;
     let regions = regions_in(alloc, &feeding, &sets)?;
@@ -98,8 +100,56 @@ pub fn regions_of(alloc: Global, kept: &Kept) -> Result<FoundRegions, AllocError
     })
 }
 
-/// What is found of a view, of which these are the regions.
+/// The regions of a view. Costs a step for each component and each port to which a stream goes.
+pub fn regions_of(alloc: Global, kept: &Kept) -> Result<FoundRegions, AllocError>
+    requires { spec.HasEnds (view_kept kept.now) }
+    ensures regions { IfOk result (λ r. r.regions.items ≡ regions_spec.regions (view_kept kept.now)) }
+    ensures cyclic { IfOk result (λ r. r.cyclic.items ≡ map (regions_spec.is_cyclic (view_kept kept.now)) (below (length (regions_spec.regions (view_kept kept.now))))) }
+    ensures numbers { IfOk result (λ r. r.numbers.items ≡ map (regions_spec.region_of (view_kept kept.now)) (component_numbers (view_kept kept.now))) }
+    ensures cycles { IfOk result (λ r. r.cycles.items ≡ map (regions_spec.is_in_cycle (view_kept kept.now)) (component_numbers (view_kept kept.now))) }
+{
+    let into = all_into(alloc, kept)?;
+    regions_with(alloc, kept, &into)
+}
+
+// What is found of a view, told its regions, the streams into each port and those into each
+// component.
 #[tactic(auto, using(crate::proofs::AllFound::upheld_found, crate::proofs::AllFound::usable_found, crate::proofs::AllFound::carried_found))]
+fn found_from(
+    alloc: Global,
+    kept: &Kept,
+    regions: FoundRegions,
+    rows: Items<Items<u64>>,
+    into: &[u64],
+) -> Result<GraphFacts, AllocError>
+    requires ends { spec.HasEnds (view_kept kept.now) }
+    requires regions { regions.regions.items ≡ regions_spec.regions (view_kept kept.now) }
+    requires cyclic { regions.cyclic.items ≡ map (regions_spec.is_cyclic (view_kept kept.now)) (below (length (regions_spec.regions (view_kept kept.now)))) }
+    requires numbers { regions.numbers.items ≡ map (regions_spec.region_of (view_kept kept.now)) (component_numbers (view_kept kept.now)) }
+    requires cycles { regions.cycles.items ≡ map (regions_spec.is_in_cycle (view_kept kept.now)) (component_numbers (view_kept kept.now)) }
+    requires rows { rows ≡ ports_spec.all_rows (view_kept kept.now) }
+    requires into { into.now ≡ lines_spec.all_into (view_kept kept.now) }
+    ensures { IfOk result (λ found. found ≡ spec.found_of (view_kept kept.now)) }
+{
+    let lines = lines_of(alloc, kept, &regions.cycles, into)?;
+    let held = all_holdings(alloc, &lines, into, kept.fds.as_slice())?;
+    let upheld = all_upheld(alloc, &held)?;
+    let usable = all_usable(alloc, &held)?;
+    let paths = paths_of(alloc, kept, rows.as_slice(), &usable)?;
+    let carried = all_carried(alloc, &paths)?;
+    Ok(GraphFacts {
+        into: rows,
+        regions: Items::from_vec(regions.regions),
+        cyclic: Items::from_vec(regions.cyclic),
+        numbers: Items::from_vec(regions.numbers),
+        upheld: Items::from_vec(upheld),
+        usable: Items::from_vec(usable),
+        carried: Items::from_vec(carried),
+    })
+}
+
+/// What is found of a view, of which these are the regions. Costs a step for each component and
+/// each port to which a stream goes.
 pub fn found_with(
     alloc: Global,
     kept: &Kept,
@@ -112,21 +162,25 @@ pub fn found_with(
     requires cycles { regions.cycles.items ≡ map (regions_spec.is_in_cycle (view_kept kept.now)) (component_numbers (view_kept kept.now)) }
     ensures { IfOk result (λ found. found ≡ spec.found_of (view_kept kept.now)) }
 {
-    let fds = kept.fds.as_slice();
     let into = all_into(alloc, kept)?;
-    let lines = lines_of(alloc, kept, &regions.cycles, &into)?;
-    let upheld = all_upholders(alloc, &lines, fds)?;
-    let usable = all_usable(alloc, &lines, &into, fds)?;
     let rows = all_rows(alloc, kept)?;
-    let paths = paths_of(alloc, kept, &rows, &usable)?;
-    let carried = all_carried(alloc, &paths)?;
-    Ok(GraphFacts {
-        into: Items::from_vec(rows),
-        regions: Items::from_vec(regions.regions),
-        cyclic: Items::from_vec(regions.cyclic),
-        numbers: Items::from_vec(regions.numbers),
-        upheld: Items::from_vec(upheld),
-        usable: Items::from_vec(usable),
-        carried: Items::from_vec(carried),
-    })
+    found_from(alloc, kept, regions, Items::from_vec(rows), &into)
+}
+
+/// What is found of a view, told the streams into each of its ports: no port to which a stream goes
+/// is looked at again.
+#[tactic(auto, using(crate::proofs::PortsFound::rows_found, crate::proofs::RowsInto::rows_into))]
+pub(crate) fn found_again(
+    alloc: Global,
+    kept: &Kept,
+    rows: Items<Items<u64>>,
+) -> Result<GraphFacts, AllocError>
+    requires ends { spec.HasEnds (view_kept kept.now) }
+    requires ports { ports_spec.HasPorts (view_kept kept.now) }
+    requires rows { rows ≡ map (spec.into_ports (view_kept kept.now)) (component_numbers (view_kept kept.now)) }
+    ensures { IfOk result (λ found. found ≡ spec.found_of (view_kept kept.now)) }
+{
+    let into = all_unions(alloc, rows.as_slice())?;
+    let regions = regions_with(alloc, kept, &into)?;
+    found_from(alloc, kept, regions, rows, &into)
 }

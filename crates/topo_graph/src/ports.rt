@@ -3,10 +3,11 @@
 ghost use Rattle.std.specs.Prelude.{◌≡◌, ◌++◌, map, IfOk, OnOk};
 ghost use Rattle.topo_graph.specs.Code.Ports as spec;
 ghost use Rattle.topo_forms.specs.Kept.{view_kept};
+ghost use Rattle.blz_value.specs.Arrows.{with_all};
 ghost use Rattle.blz_value.specs.NumberSets.{below};
 
 use crate::lookups::{component_count, port_count, stream_count};
-use blz_value::{Items, bit_of, set_at};
+use blz_value::{Items, bit_of, set_at, union_of};
 use std::alloc::{AllocError, Global};
 use topo_forms::Kept;
 
@@ -102,6 +103,15 @@ pub(crate) fn all_rows(alloc: Global, kept: &Kept) -> Result<Vec<Items<u64>>, Al
         rows.push(row_of(alloc, kept, component)?)?;
     }
     Ok(rows)
+}
+
+/// The streams into each component, told those into each of its ports.
+pub(crate) fn all_unions(alloc: Global, rows: &[Items<u64>]) -> Result<Vec<u64>, AllocError>
+    ensures { IfOk result (λ sets. sets.items ≡ map (with_all 0) rows.now) }
+{
+    rows.iter()
+        .map(|row| union_of(row.as_slice()))
+        .collect(alloc)
 }
 
 /// The streams into a port, none past the ends of the lists.

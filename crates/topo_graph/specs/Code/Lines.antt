@@ -4,6 +4,7 @@ use Rattle.std.specs.List.{enumerate_from}
 use Rattle.blz_value.specs.declared.attrs.Fd.{Fd}
 use Rattle.blz_value.specs.Closure.{within, closure}
 use Rattle.blz_value.specs.Arrows.{arrow_from, with_all, bit_if}
+use Rattle.topo_graph.specs.declared.dependencies.Holding.{Holding}
 use Rattle.topo_graph.specs.declared.lines.Line.{Line}
 use Rattle.topo_forms.specs.Data.{has_both}
 use Rattle.blz_value.specs.Graph.{is_in}
@@ -68,3 +69,7 @@ good_set lines fd upheld = with_all 0 (map (good_by fd upheld) (enumerate_from 0
 -- the components into which only such streams go
 abbrev pub usable_by : (into : List ℕ) → (good : ℕ) → ℕ
 usable_by into good = with_all 0 (map (λ place. bit_if (within place.1 good) place.0) (enumerate_from 0 into))
+
+-- what is found of a dependency
+abbrev pub holding_by : List Line → (into : List ℕ) → Fd → Holding
+holding_by lines into fd = record { upheld = upholders_by lines fd; usable = usable_by into (good_set lines fd (upholders_by lines fd)) }

@@ -1,10 +1,11 @@
 -- The streams into each port, as a walk over the ends of all streams finds them.
-use Rattle.std.specs.Prelude.{ℕ, ◌==◌, List, [], map, filter, slice_index_or}
+use Rattle.std.specs.Prelude.{ℕ, ◌==◌, ◌<◌, List, [], map, filter, length, slice_index_or}
 use Rattle.std.specs.List.{flat_map}
 use Rattle.blz_value.specs.Bits.{bit_of}
 use Rattle.blz_value.specs.Arrows.{with_all}
 use Rattle.topo_graph.specs.declared.ports.Feed.{Feed}
-use Rattle.topo_forms.specs.View.{View, End, ends_of, stream_numbers, component_numbers, port_numbers}
+use Rattle.blz_value.specs.Members.{Has}
+use Rattle.topo_forms.specs.View.{View, End, component_at, ends_of, stream_numbers, component_numbers, port_numbers}
 
 -- an end of a stream, with the set of that stream
 abbrev pub feed_of : (stream : ℕ) → End → Feed
@@ -40,3 +41,7 @@ all_rows v = map (row_of v) (component_numbers v)
 -- told these: the streams into a port
 abbrev pub at_port : (rows : List (List ℕ)) → (component port : ℕ) → ℕ
 at_port rows c p = slice_index_or (slice_index_or rows c []) p 0
+
+-- streams go to ports that are there
+abbrev pub HasPorts : View → Type 0
+HasPorts v = (s : ℕ) (end : End) → s < length v.streams → Has end (ends_of v s) → end.1 < length (component_at v end.0).ports

@@ -2,6 +2,7 @@
 use Rattle.std.proofs.Common.{◌≡◌, ℕ, ◌+◌, ◌<◌, ◌≤◌, Bool, true, false, cond, List, [], ◌∷◌, ◌++◌, length, get_or, take, drop, take-append-drop, Option, Some, unwrap_or, Result, Ok, Err, refl, ap, ◌∙◌, sym, subst, inl, inr, arith}
 use Rattle.std.specs.Ordering.{is_eq, eq_by_cmp}
 use Rattle.std.specs.BTreeMap.{BTreeMap, get, is_at}
+use Rattle.std.specs.Map.{lookup}
 use Rattle.std.proofs.lemmas.Bool.{cases_Bool}
 use Rattle.blz_value.specs.Groups.{with_key}
 use Rattle.blz_value.specs.Members.{Has}
@@ -18,7 +19,7 @@ use Rattle.blz_set.specs.declared.fault.SetFault.{SetFault}
 use Rattle.blz_set.specs.declared.fault.SetFault.TheVariants.{TooManyRows, NoMemory}
 use Rattle.blz_set.proofs.Joins.{too_many_grown}
 use Rattle.blz_set.proofs.Runs.{same_row}
-use Rattle.bloom_growth.specs.Code.ByKey.{rows_found, AreByKey, MakesByKey}
+use Rattle.bloom_growth.specs.Code.ByKey.{rows_found, AddsAt, AddsTo, AreByKey, MakesByKey, NoneIsEmpty}
 use Rattle.bloom_growth.specs.Sides.{SideGrows, SideGrown}
 use Rattle.bloom_growth.specs.declared.side.Side.{Side}
 use Rattle.bloom_growth.proofs.GrowSets.{set_more}
@@ -97,13 +98,63 @@ module _ (columns : List ℕ) (row : Row) (rows : List Row) (sorted : IsRowSet r
           ap (λ (o : Option (List Row)). unwrap_or o []) (updates q ∙ ap (λ (b : Bool). cond b (Some set) (get record_cmp left q)) e)
           ∙ others q different ∙ side q ∙ with_other_key q (λ p. different (p ∙ sym same))
 
--- a set of a key that is too large is one of too many rows
-pub side_refused : (columns : List ℕ) (row : Row) (rows : List Row) → IsRowSet rows → (old sets : BTreeMap Row (List Row)) (copy key : Row) (set new : List Row) (fault : SetFault) → copy ≡ row → key ≡ cells columns row
-    → AreByKey columns rows old → set ≡ rows_found old key → Becomes {X = Bool} set (set_of (copy ∷ set)) new (Err fault) → MakesByKey {X = Unit {0}} columns (set_of (row ∷ rows)) sets (Err fault)
-side_refused columns row rows sorted old sets copy key set new TooManyRows same at side taken h =
-    let is : set_of (copy ∷ set) ≡ set_of (row ∷ with_key columns (cells columns row) rows) = ap (λ (r : Row). set_of (r ∷ set)) same ∙ ap (λ (l : List Row). set_of (row ∷ l)) (taken ∙ side key ∙ ap (λ (k : Row). with_key columns k rows) at) in
-    omega (arith, h.1, ap (length {A = Row}) is, length_with_key columns row rows sorted)
-side_refused columns row rows sorted old sets copy key set new NoMemory same at side taken h = tt
+-- ---- a row more in place
+
+module _ (key row : Row) (old new : BTreeMap Row (List Row)) (set next : List Row) (found : Some set ≡ get record_cmp old key) (updates : (q : Row) → get record_cmp new q ≡ cond (is_at (record_cmp key) q) (Some next) (get record_cmp old q)) where
+  -- the rows at the key are those of before with the row
+  pub adds_at : next ≡ set_of (row ∷ set) → AddsAt true key row old new
+  adds_at is = (
+    ap (λ (o : Option (List Row)). unwrap_or o []) (updates key ∙ ap (λ (b : Bool). cond b (Some next) (get record_cmp old key)) (same-self key)) ∙ is ∙ ap (λ (o : Option (List Row)). set_of (row ∷ unwrap_or o [])) found,
+    λ other different. ap (λ (o : Option (List Row)). unwrap_or o []) (updates other ∙ ap (λ (b : Bool). cond b (Some next) (get record_cmp old other)) (apart key other different)),
+  )
+
+  -- no key loses all its rows where this one doesn't
+  pub none_lost : (next ≡ [] → ⊥) → NoneIsEmpty old → NoneIsEmpty new
+  none_lost some none q e = by_case (is_at (record_cmp key) q) refl
+    where
+      by_case : (b : Bool) → is_at (record_cmp key) q ≡ b → ⊥
+      by_case true t = some (ap (λ (o : Option (List Row)). unwrap_or o []) (sym (updates q ∙ ap (λ (b : Bool). cond b (Some next) (get record_cmp old q)) t) ∙ e))
+      by_case false t = none q (sym (updates q ∙ ap (λ (b : Bool). cond b (Some next) (get record_cmp old q)) t) ∙ e)
+
+  -- so where it gets one
+  pub none_lost_more : next ≡ set_of (row ∷ set) → NoneIsEmpty old → NoneIsEmpty new
+  none_lost_more is none = none_lost (λ empty. subst (λ (l : List Row). Has row l) (sym is ∙ empty) (Has-set_of row (row ∷ set) (inl refl))) none
+
+-- too many rows at a key
+pub adds_refused : (key row copy : Row) (set new : List Row) (old sets : BTreeMap Row (List Row)) (fault : SetFault) → copy ≡ row → Some set ≡ get record_cmp old key → Becomes {X = Bool} set (set_of (copy ∷ set)) new (Err fault) → AddsTo key row old sets (Err fault)
+adds_refused key row copy set new old sets TooManyRows same found h =
+    let is : set_of (copy ∷ set) ≡ set_of (row ∷ rows_found old key) = ap (λ (r : Row). set_of (r ∷ set)) same ∙ ap (λ (o : Option (List Row)). set_of (row ∷ unwrap_or o [])) found in
+    omega (arith, h.1, ap (length {A = Row}) is)
+adds_refused key row copy set new old sets NoMemory same found h = tt
+
+module _ (columns : List ℕ) (row : Row) (rows : List Row) (sorted : IsRowSet rows) (old : BTreeMap Row (List Row)) (key : Row) (same : key ≡ cells columns row) (side : AreByKey columns rows old) where
+  -- one row more at a key that has rows
+  pub side_added : (new : BTreeMap Row (List Row)) → AddsAt true key row old new → AreByKey columns (set_of (row ∷ rows)) new
+  side_added new added q = by_case (is_at (record_cmp key) q) refl
+    where
+      by_case : (b : Bool) → is_at (record_cmp key) q ≡ b → rows_found new q ≡ with_key columns q (set_of (row ∷ rows))
+      by_case true e = subst (λ (k : Row). rows_found new k ≡ with_key columns k (set_of (row ∷ rows))) (same_row key q e) (
+          added.0 ∙ ap (λ (l : List Row). set_of (row ∷ l)) (side key) ∙ ap (λ (k : Row). set_of (row ∷ with_key columns k rows)) same
+          ∙ with_own_key columns row rows sorted ∙ ap (λ (k : Row). with_key columns k (set_of (row ∷ rows))) (sym same)
+          )
+      by_case false e =
+          let different : ¬ (q ≡ key) = λ (p : q ≡ key). let tied : is_at (record_cmp key) q ≡ true = subst (λ (z : Row). is_at (record_cmp key) z ≡ true) (sym p) (same-self key) in cc in
+          added.1 q different ∙ side q ∙ with_other_key columns row rows sorted q (λ p. different (p ∙ sym same))
+
+  -- and at one that has none
+  pub side_first : (middle new : BTreeMap Row (List Row)) (copy : Row) (set : List Row) → AddsAt false key row old middle → copy ≡ row → set ≡ copy ∷ []
+      → ((q : Row) → get record_cmp new q ≡ cond (is_at (record_cmp key) q) (Some set) (get record_cmp middle q)) → AreByKey columns (set_of (row ∷ rows)) new
+  side_first middle new copy set none is one updates =
+      side_more columns row rows sorted old middle new key set same side
+      (λ other different. ap (λ (entries : List (Row × List Row)). unwrap_or (lookup (is_at (record_cmp other)) entries) []) none.0)
+      updates (one ∙ ap (λ (r : Row). r ∷ []) is ∙ sym (ap (λ (l : List Row). set_of (row ∷ l)) none.1))
+
+  -- a key with too many rows is one of too many
+  pub side_over : (sets new : BTreeMap Row (List Row)) (fault : SetFault) → AddsTo key row old sets (Err fault) → MakesByKey {X = Unit {0}} columns (set_of (row ∷ rows)) new (Err fault)
+  side_over sets new TooManyRows over =
+      let is : set_of (row ∷ rows_found old key) ≡ set_of (row ∷ with_key columns (cells columns row) rows) = ap (λ (l : List Row). set_of (row ∷ l)) (side key ∙ ap (λ (k : Row). with_key columns k rows) same) in
+      omega (arith, over, ap (length {A = Row}) is, length_with_key columns row rows sorted)
+  side_over sets new NoMemory over = tt
 
 -- one row more of a list
 pub side_at : (columns own : List ℕ) (rows more : List Row) (sets new : BTreeMap Row (List Row)) (i : ℕ) (row : Row) → own ≡ columns → i < length more → row ≡ get_or more i row

@@ -1,5 +1,5 @@
 -- The rows of a group and of an atleast where rows of the part come and go: only keys that are touched change.
-use Rattle.std.proofs.Common.{◌≡◌, ◌⊎◌, ℕ, zero, suc, ◌+◌, ◌<◌, ◌≤◌, Bool, true, false, List, [], ◌∷◌, ◌++◌, length, map, filter, take, drop, get_or, take-append-drop, length-drop, Result, Ok, Err, refl, ap, ◌∙◌, sym, subst, inl, inr, arith, append_assoc}
+use Rattle.std.proofs.Common.{◌≡◌, ◌⊎◌, ℕ, zero, suc, ◌+◌, ◌<◌, ◌≤◌, Bool, true, false, cond, Option, Some, List, [], ◌∷◌, ◌++◌, length, map, filter, take, drop, get_or, take-append-drop, length-drop, Result, Ok, Err, refl, ap, ◌∙◌, sym, subst, inl, inr, arith, append_assoc}
 use Rattle.std.proofs.lemmas.List.{length-map, drop_more}
 use Rattle.std.specs.Prelude.{nat_le, ◌&&◌}
 use Rattle.std.specs.BTreeMap.{BTreeMap}
@@ -26,15 +26,18 @@ use Rattle.blz_set.specs.declared.fault.SetFault.{SetFault}
 use Rattle.blz_set.specs.declared.fault.SetFault.TheVariants.{TooManyRows, NoMemory}
 use Rattle.blz_set.proofs.RecordSets.{Has-from_has_row, has_row-from_Has, has_row-from_lacks, length-filter-le}
 use Rattle.blz_set.proofs.Runs.{same_row}
+use Rattle.bloom_growth.specs.declared.tallies.Step.{Step}
 use Rattle.bloom_growth.specs.declared.tally.Tally.{Tally}
 use Rattle.bloom_growth.specs.declared.turn.Turn.{Turn}
 use Rattle.bloom_growth.specs.declared.turning_groups.TurningGroups.{TurningGroups}
 use Rattle.bloom_growth.specs.Turned.{Turned, TurnsInto}
-use Rattle.bloom_growth.specs.Code.Aggregates.{grouped}
+use Rattle.bloom_growth.specs.Code.Aggregates.{grouped, rows_of}
+use Rattle.bloom_growth.specs.Code.Tallies.{GoesOn, IsStep, value_of}
 use Rattle.bloom_growth.specs.TurningGroups.{AreTallied, TalliesStand, GroupsTurn}
 use Rattle.bloom_growth.proofs.GrowSets.{set_more, missing_sorted}
 use Rattle.bloom_growth.proofs.AggregateLemmas.{length_more}
-use Rattle.bloom_growth.proofs.TurnedLemmas.{is_missing, in_missing, from_missing, held_or_not, comes, goes, stays}
+use Rattle.bloom_growth.proofs.TurnedLemmas.{is_missing, in_missing, from_missing, held_or_not, came, comes, goes, stays, only_all, only_lacks}
+use Rattle.bloom_growth.proofs.TurningLemmas.{some_value, tallied_more}
 
 -- ---- rows one by one
 
@@ -389,3 +392,55 @@ touched_as keys own gone more touched same is = is ∙ ap (λ (cs : List ℕ). s
 -- the aggregates by a value's own keys
 pub own_tallied : (keys : List ℕ) (agg : Agg) (rows : List Row) (groups : TurningGroups) → TalliesStand keys agg rows groups → AreTallied groups.keys.items groups.agg rows groups.tallies
 own_tallied keys agg rows groups stand = tallied_as groups.keys.items keys groups.agg agg rows groups.tallies (sym stand.keys_are) (sym stand.agg_is) stand.tallied
+
+-- ---- a turn of one row
+
+-- the row that a key has, where it has one
+single : (keys : List ℕ) (agg : Agg) (rows : List Row) (key : Row) (value : Option Value) → value ≡ value_of agg (with_key keys key rows)
+    → rows_of key value ≡ set_of (map (grouped keys agg rows) (filter (has_row (project_rows keys rows)) (key ∷ [])))
+single keys agg rows key value is = ap (rows_of key) is ∙ by_run (with_key keys key rows) refl
+  where
+    by_run : (run : List Row) → with_key keys key rows ≡ run → rows_of key (value_of agg run) ≡ set_of (map (grouped keys agg rows) (filter (has_row (project_rows keys rows)) (key ∷ [])))
+    by_run [] e = sym (ap (λ (b : Bool). set_of (map (grouped keys agg rows) (cond b (key ∷ []) []))) (none_occurs keys rows key e))
+    by_run (q ∷ run) e =
+        ap (λ (l : List Row). (key ++ aggregate agg l ∷ []) ∷ []) (sym e)
+        ∙ sym (ap (λ (b : Bool). set_of (map (grouped keys agg rows) (cond b (key ∷ []) []))) (some_occurs keys rows key (subst (λ (l : List Row). 0 < length l) (sym e) (omega arith))))
+
+some_has_length : (row : Row) (run : List Row) → Has row run → 0 < length run
+some_has_length row [] h = absurd h
+some_has_length row (q ∷ run) h = omega arith
+
+-- a turn of rows that are equal
+pub turn_as : (keys : List ℕ) (agg : Agg) (old new more gone others less : List Row) (groups : TurningGroups) → more ≡ others → gone ≡ less → GroupsTurn keys agg old new more gone groups → GroupsTurn keys agg old new others less groups
+turn_as keys agg old new more gone others less groups m n g =
+    subst (λ (l : List Row). GroupsTurn keys agg old new l less groups) m (subst (λ (l : List Row). GroupsTurn keys agg old new more l groups) n g)
+
+module _ (keys : List ℕ) (agg : Agg) (old new : List Row) (row : Row) (before : TurningGroups) (g : GroupsTurn keys agg old new (row ∷ []) [] before) (key : Row) (same : key ≡ cells before.keys.items row)
+    (next : BTreeMap Row Tally) (on : GoesOn before.agg key row before.tallies next) where
+  few_before : length old < row_limit
+  few_before = omega (arith, g.few_new, ap (length {A = Row}) (only_all old new row g.turned), length_more row old g.turned.old_sorted (only_lacks old new row g.turned))
+
+  own_after : AreTallied before.keys.items before.agg new next
+  own_after = subst (λ (l : List Row). AreTallied before.keys.items before.agg l next) (sym (only_all old new row g.turned))
+      (tallied_more before.keys.items before.agg row old g.turned.old_sorted few_before (only_lacks old new row g.turned) key same before.tallies next on (own_tallied keys agg old before g.stand))
+
+  pub one_stands : (after : TurningGroups) → after.keys ≡ before.keys → after.agg ≡ before.agg → after.tallies ≡ next → TalliesStand keys agg new after
+  one_stands after keys_stay agg_stays is = record {
+    keys_are = ap (λ v. v.items) keys_stay ∙ g.stand.keys_are;
+    agg_is = agg_stays ∙ g.stand.agg_is;
+    tallied = tallied_as keys before.keys.items agg before.agg new after.tallies g.stand.keys_are g.stand.agg_is (subst (AreTallied before.keys.items before.agg new) (sym is) own_after);
+  }
+
+  pub one_turns : (step : Step) (r : Result Turn SetFault) → IsStep before.agg key before.tallies next step → TurnsInto (rows_of key step.before) ((key ++ step.after ∷ []) ∷ []) r
+      → TurnsInto (set_of (group_rows keys agg old)) (set_of (group_rows keys agg new)) r
+  one_turns step r is turns =
+      let own = before.keys.items in
+      let by = before.agg in
+      let at : Has row new = (came old new (row ∷ []) [] g.turned row (inl refl)).0 in
+      let some : 0 < length (with_key own key new) = some_has_length row (with_key own key new) (Has-filter (λ (r : Row). eq_by_cmp record_cmp (cells own r) key) row new at (subst (λ (k : Row). eq_by_cmp record_cmp k key ≡ true) same (own_key key))) in
+      let was = single own by old key step.before (is.was (with_key own key old) (own_tallied keys agg old before g.stand key)) in
+      let now = single own by new key (Some step.after) (some_value by (with_key own key new) step.after (is.is (with_key own key new) (own_after key)) some) in
+      let own_turns = group_turns own old new (row ∷ []) [] g.turned (key ∷ []) (ap (λ (k : Row). k ∷ []) same) by r g.few_new
+      (subst (λ (l : List Row). TurnsInto l (set_of (map (grouped own by new) (filter (has_row (project_rows own new)) (key ∷ [])))) r) was (subst (λ (l : List Row). TurnsInto (rows_of key step.before) l r) now turns)) in
+      subst (λ (cs : List ℕ). TurnsInto (set_of (group_rows cs agg old)) (set_of (group_rows cs agg new)) r) g.stand.keys_are
+      (subst (λ (a : Agg). TurnsInto (set_of (group_rows own a old)) (set_of (group_rows own a new)) r) g.stand.agg_is own_turns)

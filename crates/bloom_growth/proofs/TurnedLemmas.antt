@@ -1,12 +1,15 @@
 -- A turn is a growth read backwards, and then a growth.
-use Rattle.std.proofs.Common.{◌≡◌, ◌⊎◌, true, not, List, ◌++◌, Err, ap, sym, subst, inl, inr, arith}
+use Rattle.std.proofs.Common.{◌≡◌, ◌⊎◌, ◌∙◌, true, false, not, List, [], ◌∷◌, ◌++◌, Ok, Err, refl, ap, sym, subst, inl, inr, arith}
 use Rattle.std.proofs.lemmas.Bool.{cases_Bool}
+use Rattle.std.specs.Ordering.{eq_by_cmp}
+use Rattle.blz_value.proofs.Lists.{same-self as own_key}
+use Rattle.blz_set.proofs.Runs.{same_row}
 use Rattle.blz_value.specs.Members.{Has}
-use Rattle.blz_value.specs.Record.{Row}
-use Rattle.blz_value.specs.Sets.{IsRowSet}
+use Rattle.blz_value.specs.Record.{Row, record_cmp}
+use Rattle.blz_value.specs.Sets.{set_of, IsRowSet}
 use Rattle.blz_value.proofs.Membership.{Has-append_left, Has-append_right, Has-append_cases, Has-filter, Has-from_filter}
 use Rattle.blz_value.proofs.RowSets.{is_set_of}
-use Rattle.blz_value.proofs.SetLaws.{same_row_sets}
+use Rattle.blz_value.proofs.SetLaws.{same_row_sets, sorted_set_of}
 use Rattle.blz_set.specs.Answers.{Gives}
 use Rattle.blz_set.specs.Code.Missing.{has_row, missing_from}
 use Rattle.blz_set.specs.RecordSet.{IsRecordSet}
@@ -129,3 +132,67 @@ turned_by old new more gone mid before after apart = record {
 pub turn_fault : (old new rows others : List Row) (fault : SetFault) → IsRecordSet others → Gives (missing_from rows others) (Err fault) → TurnsInto old new (Err fault)
 turn_fault old new rows others TooManyRows set over = absurd (omega (arith, over, length-filter-le (λ (r : Row). not (has_row rows r)) others, set.small))
 turn_fault old new rows others NoMemory set h = tt
+
+-- ---- one row becomes another
+
+none_sorted : IsRowSet []
+none_sorted = sorted_set_of []
+
+one_sorted : (row : Row) → IsRowSet (row ∷ [])
+one_sorted row = sorted_set_of (row ∷ [])
+
+-- a row lacks any other
+one_lacks : (row other : Row) → eq_by_cmp record_cmp row other ≡ false → ¬ (row ≡ other)
+one_lacks row other e same = let tied : eq_by_cmp record_cmp row other ≡ true = subst (λ (r : Row). eq_by_cmp record_cmp row r ≡ true) same (own_key row) in cc
+
+-- the row of a set that lacks another is missing from that one
+one_missing : (row other : Row) → ¬ (row ≡ other) → row ∷ [] ≡ missing_from (other ∷ []) (row ∷ [])
+one_missing row other different = is_missing (other ∷ []) (row ∷ []) (row ∷ []) (one_sorted row) (one_sorted row)
+    (λ q h. (h, λ m. elim m [ inl e ↦ (elim h [ inl s ↦ different (s ∙ sym e) | inr none ↦ none ]) | inr none ↦ none ]))
+    (λ q h lacks. h)
+
+pub exchanged : (old new : Row) (more gone : List Row) → eq_by_cmp record_cmp old new ≡ false → more ≡ new ∷ [] → gone ≡ old ∷ [] → TurnsInto (old ∷ []) (new ∷ []) (Ok (record { more = more; gone = gone }))
+exchanged old new more gone e m g = (
+  record {
+    old_sorted = one_sorted old;
+    new_sorted = one_sorted new;
+    more_is = m ∙ one_missing new old (λ s. one_lacks old new e (sym s));
+    gone_is = g ∙ one_missing old new (one_lacks old new e);
+  },
+  omega arith,
+)
+
+-- a row that stays
+pub unexchanged : (old new : Row) (more gone : List Row) → eq_by_cmp record_cmp old new ≡ true → more ≡ [] → gone ≡ [] → TurnsInto (old ∷ []) (new ∷ []) (Ok (record { more = more; gone = gone }))
+unexchanged old new more gone e m g = (
+  record {
+    old_sorted = one_sorted old;
+    new_sorted = one_sorted new;
+    more_is = m ∙ none_missing old new (same_row old new e);
+    gone_is = g ∙ none_missing new old (sym (same_row old new e));
+  },
+  omega arith,
+)
+  where
+    none_missing : (row other : Row) → row ≡ other → [] ≡ missing_from (row ∷ []) (other ∷ [])
+    none_missing row other same = is_missing (row ∷ []) (other ∷ []) [] (one_sorted other) none_sorted
+        (λ q h. absurd h)
+        (λ q h lacks. elim h [ inl e ↦ absurd (lacks (inl (same ∙ e))) | inr none ↦ absurd none ])
+
+-- ---- a turn of one row
+
+module _ (old new : List Row) (row : Row) (t : Turned old new (row ∷ []) []) where
+  pub only_lacks : ¬ Has row old
+  only_lacks = (came old new (row ∷ []) [] t row (inl refl)).1
+
+  pub only_all : new ≡ set_of (row ∷ old)
+  only_all = is_set_of new (row ∷ old) t.new_sorted (
+    λ q h. elim (held_or_not old q) [
+      | inl held ↦ inr held
+      | inr lacks ↦ elim (comes old new (row ∷ []) [] t q h lacks) [ inl e ↦ inl e | inr none ↦ absurd none ]
+    ],
+    λ q h. elim h [
+      | inl e ↦ subst (λ (r : Row). Has r new) e (came old new (row ∷ []) [] t row (inl refl)).0
+      | inr held ↦ elim (held_or_not new q) [ inl m ↦ m | inr lacks ↦ absurd (goes old new (row ∷ []) [] t q held lacks) ]
+    ],
+  )

@@ -7,7 +7,7 @@ use Rattle.std.specs.Ordering.{eq_by_cmp}
 use Rattle.blz_value.specs.declared.aggregate.Agg.{Agg}
 use Rattle.blz_value.specs.declared.aggregate.Agg.TheVariants as by
 use Rattle.blz_value.specs.declared.value.Value.{Value}
-use Rattle.blz_value.specs.Groups.{column_values, exact_sum, with_key}
+use Rattle.blz_value.specs.Groups.{aggregate, column_values, exact_sum, with_key}
 use Rattle.blz_value.specs.Members.{Has}
 use Rattle.blz_value.specs.Operators.{cells}
 use Rattle.blz_value.specs.Record.{Row, record_cmp}
@@ -28,7 +28,7 @@ use Rattle.bloom_growth.specs.declared.tally.Tally.{Tally}
 use Rattle.bloom_growth.specs.Tallies.{IsKept, IsTally}
 use Rattle.bloom_growth.specs.TurningGroups.{IsTalliedAt, AreTallied}
 use Rattle.bloom_growth.specs.Code.Counts.{times, given}
-use Rattle.bloom_growth.specs.Code.Tallies.{KeepsOthers, GoesOn, GoesBack, IsLeft, LeavesAt}
+use Rattle.bloom_growth.specs.Code.Tallies.{KeepsOthers, GoesOn, GoesBack, IsLeft, IsStep, LeavesAt, value_of}
 use Rattle.bloom_growth.proofs.CountsLemmas.{count_insert}
 use Rattle.bloom_growth.proofs.AggregateLemmas.{length_more, sum_insert}
 use Rattle.bloom_growth.proofs.SidesLemmas.{apart, with_own_key, with_other_key}
@@ -145,6 +145,10 @@ emptied : (run : List Row) → length run ≡ 0 → run ≡ []
 emptied [] e = refl
 emptied (r ∷ run) e = absurd (omega (arith, e))
 
+pub some_value : (agg : Agg) (run : List Row) (value : Value) → value ≡ aggregate agg run → 0 < length run → Some value ≡ value_of agg run
+some_value agg [] value is some = absurd (omega arith)
+some_value agg (row ∷ run) value is some = ap (λ (v : Value). Some v) is
+
 module _ (agg : Agg) (key row : Row) (old new : BTreeMap Row Tally) where
   -- what an update leaves at the key and at others
   at_own : (w : Option Tally) → ((q : Row) → get record_cmp new q ≡ cond (is_at (record_cmp key) q) w (get record_cmp old q)) → get record_cmp new key ≡ w
@@ -170,6 +174,18 @@ module _ (agg : Agg) (key row : Row) (old new : BTreeMap Row Tally) where
         let empty : run ≡ [] = subst (λ (o : Option Tally). IsTalliedAt agg run o) none at in
         subst (λ (o : Option Tally). IsTalliedAt agg (row ∷ run) o) (sym (at_own (Some one) updates)) (subst (λ (l : List Row). IsTally agg (row ∷ l) one) (sym empty) is, omega arith);
     others = at_others (Some one) updates;
+  }
+
+  -- what a tally that goes on was and is
+  pub steps_at : (tally next : Tally) (before after : Value) → Some tally ≡ get record_cmp old key → ((q : Row) → get record_cmp new q ≡ cond (is_at (record_cmp key) q) (Some next) (get record_cmp old q))
+      → ((rows : List Row) → IsTally agg rows tally → before ≡ aggregate agg rows) → ((rows : List Row) → IsTally agg rows next → after ≡ aggregate agg rows) → IsStep agg key old new (record { before = Some before; after = after })
+  steps_at tally next before after found updates was is = record {
+    was = λ run at.
+        let held : IsTally agg run tally × (0 < length run) = subst (λ (o : Option Tally). IsTalliedAt agg run o) (sym found) at in
+        some_value agg run before (was run held.0) held.1;
+    is = λ run at.
+        let held : IsTally agg run next × (0 < length run) = subst (λ (o : Option Tally). IsTalliedAt agg run o) (at_own (Some next) updates) at in
+        is run held.0;
   }
 
   -- a tally that goes back

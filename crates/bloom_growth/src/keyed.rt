@@ -1,10 +1,10 @@
 //! The rows of a part that rows enter and leave, by their values in the columns that a join or a notin
 //! equates.
-ghost use Rattle.std.specs.Prelude.{◌≡◌, ◌∷◌, ◌++◌, [], IsTrue, ℕ, List, OnOk};
+ghost use Rattle.std.specs.Prelude.{◌≡◌, ◌∷◌, ◌++◌, [], IsTrue, ℕ, List, IfOk, OnOk};
 ghost use Rattle.blz_value.specs.Record.{Row};
 ghost use Rattle.blz_value.specs.Sets.{set_of, IsRowSet};
 ghost use Rattle.blz_set.specs.Code.Missing.{missing_from};
-ghost use Rattle.bloom_growth.specs.Code.ByKey.{rows_found, AreByKey, NoneIsEmpty};
+ghost use Rattle.bloom_growth.specs.Code.ByKey.{rows_found, AddsAt, AreByKey, NoneIsEmpty};
 
 use crate::columns::copy_cells;
 use crate::row_tree::{RowTree, push_copies};
@@ -23,6 +23,24 @@ pub struct KeyedRows {
     pub columns: Vec<u32>,
     pub(crate) sets: BTreeMap<Record, RowTree>,
     ghost none_is_empty: { NoneIsEmpty sets },
+}
+
+// Adds a row to those with a key, where there are some, and answers whether there are.
+fn add_at(
+    sets: &mut BTreeMap<Record, RowTree>,
+    key: &Record,
+    row: &Record,
+) -> Result<bool, AllocError>
+    ensures none { NoneIsEmpty sets.old → NoneIsEmpty sets.new }
+    ensures added { IfOk result (λ there. AddsAt there key.now row.now sets.old sets.new) }
+{
+    match sets.get_mut(key) {
+        Some(set) => {
+            set.insert(row.copy()?)?;
+            Ok(true)
+        }
+        None => Ok(false),
+    }
 }
 
 impl KeyedRows {
@@ -64,13 +82,16 @@ impl KeyedRows {
         Ok(())
     }
 
-    // Adds a row. After want of memory the rows with its key are lost.
+    // Adds a row. After want of memory it isn't there.
     fn add(&mut self, row: &Record) -> Result<(), AllocError>
         ensures columns { self.new.columns ≡ self.old.columns }
         ensures rows { OnOk result ((rows : List Row) → IsRowSet rows → AreByKey self.old.columns.items rows self.old.sets → AreByKey self.old.columns.items (set_of (row.now ∷ rows)) self.new.sets) }
     {
         let key = copy_cells(self.alloc, row, &self.columns)?;
-        let mut set = self.taken(&key);
+        if add_at(&mut self.sets, &key, row)? {
+            return Ok(());
+        }
+        let mut set = RowTree::new(self.alloc);
         set.insert(row.copy()?)?;
         self.put(key, set)
     }

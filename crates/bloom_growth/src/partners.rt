@@ -134,6 +134,10 @@ fn add_rows(set: &mut RecordSet, rows: Vec<Record>) -> Result<(), SetFault>
     ensures { Grows set.old rows.items set.new result }
 {
     let more = RecordSet::from_rows(rows)?;
+    if set.len() == 0 {
+        *set = more;
+        return Ok(());
+    }
     set.union_in(&more)
 }
 

@@ -1,5 +1,5 @@
 //! A set of records that rows enter and leave, kept in a tree, so that such a row moves no other.
-ghost use Rattle.std.specs.Prelude.{◌≡◌, ◌↔◌, ◌∷◌, ◌++◌, [], IsTrue, OnOk, length};
+ghost use Rattle.std.specs.Prelude.{◌≡◌, ◌↔◌, ◌∷◌, ◌++◌, [], IsTrue, OnErr, OnOk, length};
 ghost use Rattle.blz_value.specs.Sets.{set_of};
 ghost use Rattle.blz_set.specs.Code.Missing.{missing_from};
 
@@ -50,9 +50,10 @@ impl RowTree {
         &self.rows
     }
 
-    /// Adds a row.
+    /// Adds a row. After want of memory it isn't there.
     pub(crate) fn insert(&mut self, row: Record) -> Result<(), AllocError>
-        ensures { OnOk result (self.new ≡ set_of (row ∷ self.old)) }
+        ensures rows { OnOk result (self.new ≡ set_of (row ∷ self.old)) }
+        ensures same { OnErr result (self.new ≡ self.old) }
     {
         let _ = self.rows.insert(row)?;
         Ok(())

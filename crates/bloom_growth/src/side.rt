@@ -3,9 +3,10 @@ ghost use Rattle.std.specs.Prelude.{◌≡◌, ◌∷◌, ◌++◌, [], ℕ, Lis
 ghost use Rattle.blz_value.specs.Operators.{cells};
 ghost use Rattle.blz_value.specs.Record.{Row};
 ghost use Rattle.blz_value.specs.Sets.{set_of, IsRowSet};
-ghost use Rattle.bloom_growth.specs.Code.ByKey.{rows_found, AreByKey, MakesByKey};
+ghost use Rattle.bloom_growth.specs.Code.ByKey.{rows_found, AreByKey, AddsTo, MakesByKey};
 
 use crate::columns::copy_cells;
+use crate::turn::one_row;
 use blz_set::{RecordSet, SetFault};
 use blz_value::Record;
 use std::alloc::{AllocError, Global};
@@ -20,6 +21,23 @@ pub struct Side {
     sets: BTreeMap<Record, RecordSet>,
     none: RecordSet,
     ghost empty: { none ≡ [] },
+}
+
+// Adds a row to those with a key, where there are some, and answers whether there are.
+fn add_at(
+    sets: &mut BTreeMap<Record, RecordSet>,
+    key: &Record,
+    row: &Record,
+) -> Result<bool, SetFault>
+    ensures { AddsTo key.now row.now sets.old sets.new result }
+{
+    match sets.get_mut(key) {
+        Some(set) => {
+            let _ = set.insert(row.copy()?)?;
+            Ok(true)
+        }
+        None => Ok(false),
+    }
 }
 
 impl Side {
@@ -55,26 +73,16 @@ impl Side {
         Ok(self.at(&key))
     }
 
-    // The rows with a key, which are taken out.
-    fn taken(&mut self, key: &Record) -> RecordSet
-        ensures columns { self.new.columns ≡ self.old.columns }
-        ensures rows { result ≡ rows_found self.old.sets key.now }
-        ensures left { (other : Row) → ¬ (other ≡ key.now) → rows_found self.new.sets other ≡ rows_found self.old.sets other }
-    {
-        match self.sets.remove(key) {
-            Some(set) => set,
-            None => RecordSet::new(self.alloc),
-        }
-    }
-
-    // Adds a row. After a fault the rows with its key are lost.
+    // Adds a row. After a fault it isn't there.
     fn add(&mut self, row: &Record) -> Result<(), SetFault>
         ensures columns { self.new.columns ≡ self.old.columns }
         ensures side { (rows : List Row) → IsRowSet rows → AreByKey self.old.columns.items rows self.old.sets → MakesByKey self.old.columns.items (set_of (row.now ∷ rows)) self.new.sets result }
     {
         let key = copy_cells(self.alloc, row, &self.columns)?;
-        let mut set = self.taken(&key);
-        let _ = set.insert(row.copy()?)?;
+        if add_at(&mut self.sets, &key, row)? {
+            return Ok(());
+        }
+        let set = one_row(self.alloc, row.copy()?)?;
         let _ = self.sets.insert(key, set)?;
         Ok(())
     }

@@ -1,27 +1,39 @@
 //! Aggregates by keys, where one row comes or goes.
 ghost use Rattle.std.specs.Prelude.{IfOk, OnOk};
-ghost use Rattle.bloom_growth.specs.Code.Tallies.{GoesOn, GoesOnIf, GoesBack, LeavesAt};
+ghost use Rattle.bloom_growth.specs.Code.Tallies.{GoesOn, GoesBack, IsStep, LeavesAt, StepsAt};
 
 use crate::tally::Tally;
-use blz_value::{Agg, Record};
+use blz_value::{Agg, Record, Value};
 use std::alloc::{AllocError, Global};
 use std::collections::BTreeMap;
 
-// Goes on with a row more at a key, where it is there, and answers whether it is.
-fn put_at(
+/// What the aggregate at a key was, where it was there, and what it is.
+#[derive(Drop)]
+pub(crate) struct Step {
+    pub(crate) before: Option<Value>,
+    pub(crate) after: Value,
+}
+
+// Goes on with a row more at a key, where it is there.
+fn step_at(
     tallies: &mut BTreeMap<Record, Tally>,
     agg: Agg,
     key: &Record,
     row: &Record,
-) -> Result<bool, AllocError>
-    ensures { IfOk result (λ there. GoesOnIf there agg key.now row.now tallies.old tallies.new) }
+) -> Result<Option<Step>, AllocError>
+    ensures { IfOk result (λ step. StepsAt step agg key.now row.now tallies.old tallies.new) }
 {
     match tallies.get_mut(key) {
         Some(tally) => {
+            let before = tally.value(agg)?;
             tally.put(agg, row)?;
-            Ok(true)
+            let after = tally.value(agg)?;
+            Ok(Some(Step {
+                before: Some(before),
+                after,
+            }))
         }
-        None => Ok(false),
+        None => Ok(None),
     }
 }
 
@@ -30,17 +42,25 @@ pub(crate) fn put_row(
     tallies: &mut BTreeMap<Record, Tally>,
     alloc: Global,
     agg: Agg,
-    key: Record,
+    key: &Record,
     row: &Record,
-) -> Result<(), AllocError>
-    ensures { OnOk result (GoesOn agg key row.now tallies.old tallies.new) }
+) -> Result<Step, AllocError>
+    ensures goes { OnOk result (GoesOn agg key.now row.now tallies.old tallies.new) }
+    ensures step { IfOk result (IsStep agg key.now tallies.old tallies.new) }
 {
-    if !put_at(tallies, agg, &key, row)? {
-        let mut one = Tally::none(alloc, agg);
-        one.put(agg, row)?;
-        let _ = tallies.insert(key, one)?;
+    match step_at(tallies, agg, key, row)? {
+        Some(step) => Ok(step),
+        None => {
+            let mut one = Tally::none(alloc, agg);
+            one.put(agg, row)?;
+            let after = one.value(agg)?;
+            let _ = tallies.insert(key.copy()?, one)?;
+            Ok(Step {
+                before: None,
+                after,
+            })
+        }
     }
-    Ok(())
 }
 
 // Goes on with a row less at a key, and answers whether it was the last.

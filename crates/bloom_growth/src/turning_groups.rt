@@ -1,5 +1,5 @@
 //! Running aggregates of a part that rows enter and leave, one for each key that occurs.
-ghost use Rattle.std.specs.Prelude.{◌≡◌, ◌<◌, ◌≤◌, ◌&&◌, ◌∷◌, ◌++◌, ℕ, List, length, map, filter, nat_le, IfOk, OnOk};
+ghost use Rattle.std.specs.Prelude.{◌≡◌, ◌<◌, ◌≤◌, ◌&&◌, ◌∷◌, ◌++◌, [], ℕ, List, length, map, filter, nat_le, IfOk, OnOk};
 ghost use Rattle.blz_value.specs.declared.aggregate.Agg.{Agg as TheAgg};
 ghost use Rattle.blz_value.specs.declared.aggregate.Agg.TheVariants.{Count};
 ghost use Rattle.blz_value.specs.Groups.{with_key, group_rows, at_least_rows};
@@ -10,14 +10,14 @@ ghost use Rattle.blz_value.specs.Sets.{set_of, IsRowSet};
 ghost use Rattle.blz_set.specs.Answers.{Gives};
 ghost use Rattle.blz_set.specs.Code.Missing.{has_row};
 ghost use Rattle.blz_set.specs.RecordSet.{row_limit};
-ghost use Rattle.bloom_growth.specs.Code.Aggregates.{grouped};
+ghost use Rattle.bloom_growth.specs.Code.Aggregates.{grouped, rows_of};
 ghost use Rattle.bloom_growth.specs.Tallies.{IsTally};
 ghost use Rattle.bloom_growth.specs.Turned.{TurnsInto};
 
 use crate::columns::{copy_cells, with_value};
-use crate::tallies::{put_row, take_row};
+use crate::tallies::{Step, put_row, take_row};
 use crate::tally::Tally;
-use crate::turn::{Turn, Turning, differ};
+use crate::turn::{Turn, Turning, differ, exchange, one_row, only_row};
 use blz_set::{RecordSet, SetFault};
 use blz_value::{Agg, Record};
 use std::alloc::{AllocError, Global};
@@ -54,7 +54,8 @@ impl TurningGroups {
         ensures tallied { OnOk result ((rows : List Row) → IsRowSet rows → length rows < row_limit → ¬ Has row.now rows → AreTallied self.old.keys.items self.old.agg rows self.old.tallies → AreTallied self.old.keys.items self.old.agg (set_of (row.now ∷ rows)) self.new.tallies) }
     {
         let key = copy_cells(self.alloc, row, &self.keys)?;
-        put_row(&mut self.tallies, self.alloc, self.agg, key, row)
+        let _ = put_row(&mut self.tallies, self.alloc, self.agg, &key, row)?;
+        Ok(())
     }
 
     // Takes a row away.
@@ -164,9 +165,33 @@ impl TurningGroups {
         RecordSet::from_rows(rows)
     }
 
-    /// What the rows of a group become where its part changes: the rows of keys that are touched go,
-    /// and others come, where they differ. After a fault some rows may be missing.
-    pub fn turn(&mut self, part: Turning<'_>) -> Result<Turn, SetFault>
+    // What changes of the rows of a group where the aggregate at a key does.
+    fn step_turn(&self, key: &Record, step: Step) -> Result<Turn, SetFault>
+        ensures { TurnsInto (rows_of key.now step.before) ((key.now ++ step.after ∷ []) ∷ []) result }
+    {
+        let row = with_value(self.alloc, key, step.after)?;
+        match step.before {
+            Some(before) => exchange(self.alloc, with_value(self.alloc, key, before)?, row),
+            None => {
+                let more = one_row(self.alloc, row)?;
+                let gone = RecordSet::new(self.alloc);
+                Ok(Turn { more, gone })
+            }
+        }
+    }
+
+    // What the rows of a group become where its part gets one row: one search finds the key.
+    fn turn_one(&mut self, row: &Record) -> Result<Turn, SetFault>
+        ensures stand { OnOk result ((keys : List ℕ) (agg : TheAgg) (old new : List Row) → GroupsTurn keys agg old new (row.now ∷ []) [] self.old → TalliesStand keys agg new self.new) }
+        ensures rows { (keys : List ℕ) (agg : TheAgg) (old new : List Row) → GroupsTurn keys agg old new (row.now ∷ []) [] self.old → TurnsInto (set_of (group_rows keys agg old)) (set_of (group_rows keys agg new)) result }
+    {
+        let key = copy_cells(self.alloc, row, &self.keys)?;
+        let step = put_row(&mut self.tallies, self.alloc, self.agg, &key, row)?;
+        self.step_turn(&key, step)
+    }
+
+    // The same for any turn, by the keys that it touches.
+    fn turn_all(&mut self, part: Turning<'_>) -> Result<Turn, SetFault>
         ensures stand { OnOk result ((keys : List ℕ) (agg : TheAgg) (old new : List Row) → GroupsTurn keys agg old new part.entry.more.now part.entry.gone.now self.old → TalliesStand keys agg new self.new) }
         ensures rows { (keys : List ℕ) (agg : TheAgg) (old new : List Row) → GroupsTurn keys agg old new part.entry.more.now part.entry.gone.now self.old → TurnsInto (set_of (group_rows keys agg old)) (set_of (group_rows keys agg new)) result }
     {
@@ -175,6 +200,18 @@ impl TurningGroups {
         self.go_on(part)?;
         let after = self.rows_at(&touched)?;
         differ(self.alloc, &before, &after)
+    }
+
+    /// What the rows of a group become where its part changes: the rows of keys that are touched go,
+    /// and others come, where they differ. After a fault some rows may be missing.
+    pub fn turn(&mut self, part: Turning<'_>) -> Result<Turn, SetFault>
+        ensures stand { OnOk result ((keys : List ℕ) (agg : TheAgg) (old new : List Row) → GroupsTurn keys agg old new part.entry.more.now part.entry.gone.now self.old → TalliesStand keys agg new self.new) }
+        ensures rows { (keys : List ℕ) (agg : TheAgg) (old new : List Row) → GroupsTurn keys agg old new part.entry.more.now part.entry.gone.now self.old → TurnsInto (set_of (group_rows keys agg old)) (set_of (group_rows keys agg new)) result }
+    {
+        match only_row(part) {
+            Some(row) => self.turn_one(row),
+            None => self.turn_all(part),
+        }
     }
 
     /// What the keys that occur in so many rows become where the part changes. After a fault some rows

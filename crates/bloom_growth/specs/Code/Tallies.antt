@@ -1,9 +1,12 @@
 -- What becomes of aggregates by keys where one row comes or goes.
-use Rattle.std.specs.Prelude.{◌≡◌, ◌<◌, ◌↔◌, Bool, true, false, IsTrue, Option, None, Some, List, ◌∷◌, length}
+use Rattle.std.specs.Prelude.{◌≡◌, ◌<◌, ◌↔◌, Bool, true, false, IsTrue, Option, None, Some, List, [], ◌∷◌, length}
 use Rattle.std.specs.BTreeMap.{BTreeMap, IsUnchanged, get}
 use Rattle.blz_value.specs.declared.aggregate.Agg.{Agg}
+use Rattle.blz_value.specs.declared.value.Value.{Value}
+use Rattle.blz_value.specs.Groups.{aggregate}
 use Rattle.blz_value.specs.Record.{Row, record_cmp}
 use Rattle.blz_set.specs.RecordSet.{row_limit}
+use Rattle.bloom_growth.specs.declared.tallies.Step.{Step}
 use Rattle.bloom_growth.specs.declared.tally.Tally.{Tally}
 use Rattle.bloom_growth.specs.Tallies.{IsTally}
 use Rattle.bloom_growth.specs.TurningGroups.{IsTalliedAt}
@@ -17,10 +20,20 @@ pub record GoesOn (agg : Agg) (key row : Row) (old new : BTreeMap Row Tally) : T
   pub at_key : (run : List Row) → length run < row_limit → IsTalliedAt agg run (get record_cmp old key) → IsTalliedAt agg (row ∷ run) (get record_cmp new key)
   pub others : KeepsOthers key old new
 
--- the same where the key is there, which is the answer, and else nothing changes
-abbrev pub GoesOnIf : Bool → Agg → (key row : Row) → (old new : BTreeMap Row Tally) → Type 0
-GoesOnIf true agg key row old new = GoesOn agg key row old new
-GoesOnIf false agg key row old new = IsUnchanged old new × (get record_cmp old key ≡ None)
+-- what an aggregate comes to over some rows, and nothing where there are none
+abbrev pub value_of : Agg → List Row → Option Value
+value_of agg [] = None
+value_of agg (row ∷ rows) = Some (aggregate agg (row ∷ rows))
+
+-- what the aggregate at a key was and is
+pub record IsStep (agg : Agg) (key : Row) (old new : BTreeMap Row Tally) (step : Step) : Type 0 where
+  pub was : (run : List Row) → IsTalliedAt agg run (get record_cmp old key) → step.before ≡ value_of agg run
+  pub is : (run : List Row) → IsTalliedAt agg run (get record_cmp new key) → step.after ≡ aggregate agg run
+
+-- the aggregate at a key goes on where the key is there, and else nothing changes
+abbrev pub StepsAt : Option Step → Agg → (key row : Row) → (old new : BTreeMap Row Tally) → Type 0
+StepsAt (Some step) agg key row old new = GoesOn agg key row old new × IsStep agg key old new step
+StepsAt None agg key row old new = IsUnchanged old new × (get record_cmp old key ≡ None)
 
 -- the aggregate at a key goes on with one row less
 pub record GoesBack (agg : Agg) (key row : Row) (old new : BTreeMap Row Tally) : Type 0 where

@@ -1,0 +1,12 @@
+use Rattle.std.proofs.Common.{◌∙◌, ◌∷◌, ap, rules}
+use Rattle.blz_value.specs.Record.{Row}
+use Rattle.blz_value.specs.Sets.{set_of}
+use Rattle.bloom_growth.proofs.SidesLemmas.{adds_at}
+use Rattle.bloom_growth.proofs.side.add_at.Goals as goal
+
+pub returns-in_ok-insert-in-Some : goal.returns-in_ok-insert-in-Some
+returns-in_ok-insert-in-Some c =
+    let set = c.in-Some.set.now in
+    let next = c.insert.new.self in
+    adds_at c.args.key.now c.args.row.now c.args.sets.now (c.get_mut.follows.lender next) set next c.in-Some.ensures.value ((c.get_mut.follows.holds next).3 (search rules)).0
+    (c.in_ok-insert-in-Some.ensures.rows.0 ∙ ap (λ (r : Row). set_of (r ∷ set)) c.in_ok-copy-in-Some.ensures)

@@ -19,7 +19,8 @@ use blazes_words::SoakWords;
 use bloom_eval::Component;
 use command_checks::{Reply, Stop, done, stop_at};
 use report_print::soak_text;
-use sched_run::{Made, MakeFault, Net, make_numbered};
+use sched_make::{Made, MakeFault, make_numbered};
+use sched_run::Net;
 use std::alloc::{AllocError, Global};
 use topo_forms::{Data, Valid};
 

@@ -8,3 +8,6 @@ pub mod Runnable
 pub mod Emptied
 pub mod Ending
 pub mod CountedSame
+pub mod EntriesRead
+pub mod PutOut
+pub mod EmptyTables

@@ -4,3 +4,5 @@ pub mod Code
 pub mod Kind
 pub mod Step
 pub mod Changes
+pub mod Arrivals
+pub mod Puts

@@ -1,5 +1,6 @@
 //! The interface of a shell.
 ghost use Rattle.std.specs.Prelude.{◌≡◌, ◌<◌, ◌↔◌, length, Option, None, Some, Err, IsTrue, IsSome, OnOk, OnErr};
+ghost use Rattle.std.specs.List.{All};
 ghost use Rattle.bloom_forms.specs.declared.program.Program.{Program as TheProgram};
 ghost use Rattle.bloom_forms.specs.Program.{IsStock};
 ghost use Rattle.bloom_forms.specs.Step.{Sets, set_at};
@@ -9,12 +10,18 @@ ghost use Rattle.bloom_eval.specs.declared.kind.ProgramKind.{ProgramKind as TheK
 ghost use Rattle.bloom_eval.specs.Kind.{kind_of};
 ghost use Rattle.bloom_eval.specs.Step.{Arrive, AreTables, nothing_kept, tables_next, outs_next, outs_still, counted_next};
 ghost use Rattle.bloom_eval.specs.Changes.{AreChanges};
+ghost use Rattle.bloom_eval.specs.Arrivals.{timestep_of};
+ghost use Rattle.bloom_eval.specs.Puts.{ArePutFrom, puts_in};
+ghost use Rattle.blz_pool.specs.Entries.{entries_with_ids};
 
+use crate::arriving::timestep;
 use crate::fault::StepFault;
+use crate::puts::Puts;
 use crate::sets::{Arrivals, Outs};
 use bloom_forms::Program;
+use blz_pool::{Id, Pool};
 use blz_set::RecordSet;
-use std::alloc::AllocError;
+use std::alloc::{AllocError, Global};
 
 /// A shell: it holds a program of its kind, or none, and steps it.
 pub trait Component: Drop {
@@ -55,20 +62,38 @@ pub trait Component: Drop {
         ensures too_many { result ≡ Err TooManyRows → SomeIsOver (counted_next (program self.old) (kept self.old) now.now) }
         ensures tables { AreTables (program self.new) (kept self.new) };
 
-    /// Makes one step as `step` does, but `outs` may lack rows that the tables of before already give,
-    /// with nothing arriving.
-    fn step_changes(&mut self, now: &Arrivals, outs: &mut Outs) -> Result<(), StepFault>
+    /// Makes one step, as `step` does, over the records with the ids of some entries, each at the port with
+    /// its number, of so many. `puts` becomes what it puts out, but may lack rows that the tables of before already
+    /// give, with nothing arriving.
+    fn step_by_ids(
+        &mut self,
+        alloc: Global,
+        pool: &Pool,
+        ports: usize,
+        entries: &[(u32, Id)],
+        puts: &mut Puts,
+    ) -> Result<(), StepFault>
         requires program { IsSome (program self.old) }
-        requires arrivals { Arrive (program self.old) now.now }
+        requires given { All (λ entry. entry.1 < length pool.now) entries.now }
+        requires arrivals { Arrive (program self.old) (timestep_of ports (entries_with_ids pool.now entries.now)) }
         ensures kind { kind self.new ≡ kind self.old }
         ensures loaded { program self.new ≡ program self.old }
-        ensures kept { OnOk result (kept self.new ≡ tables_next (program self.old) (kept self.old) now.now) }
-        ensures outs { OnOk result (AreChanges (outs_next (program self.old) (kept self.old) now.now) (outs_still (program self.old) (kept self.old)) outs.new) }
-        ensures few { OnOk result (AllFit (counted_next (program self.old) (kept self.old) now.now)) }
-        ensures too_many { result ≡ Err TooManyRows → SomeIsOver (counted_next (program self.old) (kept self.old) now.now) }
+        ensures kept { OnOk result (kept self.new ≡ tables_next (program self.old) (kept self.old) (timestep_of ports (entries_with_ids pool.now entries.now))) }
+        ensures outs { OnOk result (AreChanges (outs_next (program self.old) (kept self.old) (timestep_of ports (entries_with_ids pool.now entries.now))) (outs_still (program self.old) (kept self.old)) (puts_in pool.now puts.new)) }
+        ensures ids { OnOk result (ArePutFrom pool.now puts.new) }
+        ensures few { OnOk result (AllFit (counted_next (program self.old) (kept self.old) (timestep_of ports (entries_with_ids pool.now entries.now)))) }
+        ensures too_many { result ≡ Err TooManyRows → SomeIsOver (counted_next (program self.old) (kept self.old) (timestep_of ports (entries_with_ids pool.now entries.now))) }
         ensures tables { AreTables (program self.new) (kept self.new) }
     {
-        self.step(now, outs)
+        let Ok(now) = timestep(alloc, pool, ports, entries) else {
+            // What is kept has then the widths of its tables.
+            self.clear();
+            return Err(StepFault::NoMemory);
+        };
+        let mut outs = Outs::from_sets(Vec::new(alloc));
+        self.step(&now, &mut outs)?;
+        puts.put_sets(outs)?;
+        Ok(())
     }
 
     /// Makes `into` the rows of a table, counted from 0. After want of memory it is as it was.

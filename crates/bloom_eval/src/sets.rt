@@ -113,4 +113,11 @@ impl Outs {
     {
         &self.sets
     }
+
+    /// The sets themselves.
+    pub(crate) fn into_sets(self) -> Vec<RecordSet>
+        ensures { result.items ≡ self }
+    {
+        self.sets
+    }
 }

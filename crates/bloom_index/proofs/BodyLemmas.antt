@@ -2,7 +2,7 @@
 use Rattle.std.proofs.Common.{◌≡◌, ◌<◌, ℕ, Bool, List, [], length, Option, None, Some, Result, Ok, Err, ap, ◌∙◌, sym, subst, arith}
 use Rattle.std.proofs.lemmas.List.{length-map}
 use Rattle.std.specs.Result.{IsErrAnd}
-use Rattle.blz_boxes.proofs.Tables.{empties_wide}
+use Rattle.bloom_eval.proofs.EmptyTables.{empties_wide}
 use Rattle.bloom_forms.specs.declared.module.Kind.TheVariants.{Table}
 use Rattle.bloom_forms.specs.declared.module.Collection.{Collection}
 use Rattle.bloom_forms.specs.declared.numbered.NumberedRule.{NumberedRule}

@@ -7,7 +7,7 @@ use Rattle.std.proofs.lemmas.Slice.Zip.{all_zipped_more}
 use Rattle.blz_value.specs.Record.{Row}
 use Rattle.blz_value.proofs.Membership.{Has-append_cases}
 use Rattle.blz_value.proofs.Options.{Has-slice_get}
-use Rattle.blz_boxes.proofs.Tables.{empties_wide}
+use Rattle.bloom_eval.proofs.EmptyTables.{empties_wide}
 use Rattle.bloom_forms.specs.declared.module.Kind.{Kind}
 use Rattle.bloom_forms.specs.declared.module.Kind.TheVariants.{Table}
 use Rattle.bloom_forms.specs.declared.module.Collection.{Collection}

@@ -134,11 +134,11 @@ module _ (rules : List NumberedRule) (head : ℕ) (memos : List Memo) (held : Li
   -- so many rules were evaluated: those that are kept changed, and the others gave the set
   pub record ArePartsAt (i : ℕ) (parts : HeadParts) (now : List Memo) : Type 0 where
     pub each : AllZip BodyTurns (bodies_of ready.old ready.new (kept_rules ready.lasting (take i rules) head)) parts.changes.items
-    pub rows : parts.rows ≡ set_of (rows_given ready.new (passing_rules ready.lasting (take i rules) head))
+    pub rows : rows_in parts.rows ≡ set_of (rows_given ready.new (passing_rules ready.lasting (take i rules) head))
     pub fit : (rule : NumberedRule) → Has rule (take i rules) → rule.head ≡ head → AllFit (numbered_sets ready.new rule.body)
     pub turned : AreTurned ready.growing ready.lasting ready.new rules head i memos now
 
-  pub parts_begin : (parts : HeadParts) → parts.changes.items ≡ [] → parts.rows ≡ [] → ArePartsAt 0 parts memos
+  pub parts_begin : (parts : HeadParts) → parts.changes.items ≡ [] → rows_in parts.rows ≡ [] → ArePartsAt 0 parts memos
   parts_begin parts none empty = record {
     each = subst (λ (l : List Change). AllZip BodyTurns [] l) (sym none) tt;
     rows = empty;
@@ -191,7 +191,7 @@ module _ (rules : List NumberedRule) (head : ℕ) (memos : List Memo) (held : Li
       -- a rule of the head that is kept changed
       kept_own : (parts made : HeadParts) (change : Change) (now : List Memo) → IsTrue change.kept → change.kept ≡ lasts ready.lasting rule.body → Turns (numbered_rows ready.old rule.body) (numbered_rows ready.new rule.body) change
           → AddsRule {X = Unit {0}} change parts made (Ok (tt {0})) → ArePartsAt i parts now
-          → AllZip BodyTurns (bodies_of ready.old ready.new (kept_rules ready.lasting (take (i + 1) rules) head)) made.changes.items × (made.rows ≡ set_of (rows_given ready.new (passing_rules ready.lasting (take (i + 1) rules) head)))
+          → AllZip BodyTurns (bodies_of ready.old ready.new (kept_rules ready.lasting (take (i + 1) rules) head)) made.changes.items × (rows_in made.rows ≡ set_of (rows_given ready.new (passing_rules ready.lasting (take (i + 1) rules) head)))
       kept_own parts made change now is_kept flag turns adds g =
           let last : lasts ready.lasting rule.body ≡ true = sym flag ∙ is_kept in
           let body = body_of ready.old ready.new rule in
@@ -203,7 +203,7 @@ module _ (rules : List NumberedRule) (head : ℕ) (memos : List Memo) (held : Li
             subst (λ (l : List BodyRows). AllZip BodyTurns l made.changes.items) (sym next) (subst (λ (l : List Change). AllZip BodyTurns (bodies_of ready.old ready.new so_far ++ body ∷ []) l) (sym put)
                 (all_zipped_more BodyTurns (bodies_of ready.old ready.new so_far) parts.changes.items body change g.each (record { kept = is_kept; turned = turns }))),
             adds.1
-                ∙ ap (λ (b : Bool). cond b parts.rows (set_of (parts.rows ++ rows_in change.rows))) is_kept
+                ∙ ap (λ (b : Bool). cond b (rows_in parts.rows) (set_of (rows_in parts.rows ++ rows_in change.rows))) is_kept
                 ∙ g.rows
                 ∙ ap (λ (l : List NumberedRule). set_of (rows_given ready.new l)) (sym (passing_same none)),
           )
@@ -211,7 +211,7 @@ module _ (rules : List NumberedRule) (head : ℕ) (memos : List Memo) (held : Li
       -- another of the head gave its rows
       passing_own : (parts made : HeadParts) (change : Change) (now : List Memo) → change.kept ≡ false → change.kept ≡ lasts ready.lasting rule.body → Turns (numbered_rows ready.old rule.body) (numbered_rows ready.new rule.body) change
           → AddsRule {X = Unit {0}} change parts made (Ok (tt {0})) → ArePartsAt i parts now
-          → AllZip BodyTurns (bodies_of ready.old ready.new (kept_rules ready.lasting (take (i + 1) rules) head)) made.changes.items × (made.rows ≡ set_of (rows_given ready.new (passing_rules ready.lasting (take (i + 1) rules) head)))
+          → AllZip BodyTurns (bodies_of ready.old ready.new (kept_rules ready.lasting (take (i + 1) rules) head)) made.changes.items × (rows_in made.rows ≡ set_of (rows_given ready.new (passing_rules ready.lasting (take (i + 1) rules) head)))
       passing_own parts made change now not_kept flag turns adds g =
           let passes : lasts ready.lasting rule.body ≡ false = sym flag ∙ not_kept in
           let so_far = passing_rules ready.lasting (take i rules) head in
@@ -223,7 +223,7 @@ module _ (rules : List NumberedRule) (head : ℕ) (memos : List Memo) (held : Li
           ∙ ap (λ (l : List Row). rows_given ready.new so_far ++ l) (append-nil (numbered_rows ready.new rule.body)) in (
             subst (λ (l : List NumberedRule). AllZip BodyTurns (bodies_of ready.old ready.new l) made.changes.items) (sym (kept_same none)) (subst (λ (l : List Change). AllZip BodyTurns (bodies_of ready.old ready.new (kept_rules ready.lasting (take i rules) head)) l) (sym put) g.each),
             adds.1
-                ∙ ap (λ (b : Bool). cond b parts.rows (set_of (parts.rows ++ rows_in change.rows))) not_kept
+                ∙ ap (λ (b : Bool). cond b (rows_in parts.rows) (set_of (rows_in parts.rows ++ rows_in change.rows))) not_kept
                 ∙ ap (λ (l : List Row). set_of (l ++ rows_in change.rows)) g.rows
                 ∙ ap (λ (l : List Row). set_of (set_of (rows_given ready.new so_far) ++ l)) (rows_of_all (numbered_rows ready.old rule.body) (numbered_rows ready.new rule.body) change turns not_kept)
                 ∙ set_of-append_set (rows_given ready.new so_far) (numbered_rows ready.new rule.body)
@@ -233,7 +233,7 @@ module _ (rules : List NumberedRule) (head : ℕ) (memos : List Memo) (held : Li
       pub parts_own : (parts parts2 made : HeadParts) (change : Change) (now after : List Memo) (memo2 : Memo) → i < length now → parts2 ≡ made → after ≡ slice_set now i memo2
           → Evaluates rule.body memo memo2 held (ready_at rules head memos held ready i rule memo lt is kept same) (Ok change) → AddsRule {X = Unit {0}} change parts made (Ok (tt {0})) → ArePartsAt i parts now → ArePartsAt (i + 1) parts2 after
       parts_own parts parts2 made change now after memo2 within is_made put by adds g =
-          let both : AllZip BodyTurns (bodies_of ready.old ready.new (kept_rules ready.lasting (take (i + 1) rules) head)) made.changes.items × (made.rows ≡ set_of (rows_given ready.new (passing_rules ready.lasting (take (i + 1) rules) head))) = elim (cases_Bool change.kept) [
+          let both : AllZip BodyTurns (bodies_of ready.old ready.new (kept_rules ready.lasting (take (i + 1) rules) head)) made.changes.items × (rows_in made.rows ≡ set_of (rows_given ready.new (passing_rules ready.lasting (take (i + 1) rules) head))) = elim (cases_Bool change.kept) [
             | inl is_kept ↦ kept_own parts made change now is_kept by.0.0 by.0.1 adds g
             | inr not_kept ↦ passing_own parts made change now not_kept by.0.0 by.0.1 adds g
           ] in
@@ -263,8 +263,8 @@ module _ (rules : List NumberedRule) (head : ℕ) (memos : List Memo) (held : Li
           → Evaluates rule.body memo memo2 held (ready_at rules head memos held ready i rule memo lt is kept same) (Ok change) → AddsRule {X = Unit {0}} change parts made (Err fault) → ArePartsAt i parts now → MakesParts rules head memos held ready after r
       parts_over parts made change now after memo2 r fault was by adds g = subst (MakesParts rules head memos held ready after) (sym (handed_on HeadParts r fault was)) (go fault adds)
         where
-          within : change.kept ≡ false → IsWithin (set_of (parts.rows ++ rows_in change.rows)) (set_of (ruled_at ready.a.form ready.new head))
-          within not_kept q h = Has-set_of q (ruled_at ready.a.form ready.new head) (elim (Has-append_cases q parts.rows (rows_in change.rows) (Has-from_set_of q (parts.rows ++ rows_in change.rows) h)) [
+          within : change.kept ≡ false → IsWithin (set_of (rows_in parts.rows ++ rows_in change.rows)) (set_of (ruled_at ready.a.form ready.new head))
+          within not_kept q h = Has-set_of q (ruled_at ready.a.form ready.new head) (elim (Has-append_cases q (rows_in parts.rows) (rows_in change.rows) (Has-from_set_of q (rows_in parts.rows ++ rows_in change.rows) h)) [
             | inl b ↦ passing_in ready.new i q (Has-from_set_of q (rows_given ready.new (passing_rules ready.lasting (take i rules) head)) (subst (λ (l : List Row). Has q l) g.rows b))
             | inr o ↦ in_ruled ready.new rule among same q (subst (λ (l : List Row). Has q l) (rows_of_all (numbered_rows ready.old rule.body) (numbered_rows ready.new rule.body) change by.0.1 not_kept) o)
           ])
@@ -273,7 +273,7 @@ module _ (rules : List NumberedRule) (head : ℕ) (memos : List Memo) (held : Li
           go TooManyRows over = record {
             rows = set_of (ruled_at ready.a.form ready.new head);
             stands = inl refl;
-            over = omega (arith, over.1, length-within (set_of (parts.rows ++ rows_in change.rows)) (set_of (ruled_at ready.a.form ready.new head)) (sorted_set_of (parts.rows ++ rows_in change.rows)) (within over.0));
+            over = omega (arith, over.1, length-within (set_of (rows_in parts.rows ++ rows_in change.rows)) (set_of (ruled_at ready.a.form ready.new head)) (sorted_set_of (rows_in parts.rows ++ rows_in change.rows)) (within over.0));
           }
           go NoMemory h = tt
 

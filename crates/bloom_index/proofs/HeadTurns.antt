@@ -1,17 +1,17 @@
 -- What a head becomes by what its rules give.
-use Rattle.std.proofs.Common.{◌≡◌, ◌∙◌, ℕ, ◌<◌, ◌≤◌, ◌==◌, ◌&&◌, not, Bool, true, false, IsTrue, List, ◌++◌, length, take_all, Result, Ok, Err, refl, ap, sym, subst, inl, inr, arith}
+use Rattle.std.proofs.Common.{◌≡◌, ◌∙◌, ℕ, ◌<◌, ◌≤◌, ◌==◌, ◌&&◌, not, Bool, true, false, IsTrue, List, [], ◌++◌, length, take_all, Result, Ok, Err, refl, ap, sym, subst, inl, inr, arith}
 use Rattle.std.specs.Result.{IsErrAnd}
 use Rattle.std.proofs.lemmas.Bool.{cases_Bool, eq-eqb, eqb-true, ne_eqb, true≢false}
-use Rattle.std.proofs.lemmas.List.{length-map}
+use Rattle.std.proofs.lemmas.List.{append-nil, length-map, nil_from_length}
 use Rattle.std.proofs.lemmas.List.Folds.{flat_map-map}
 use Rattle.blz_value.specs.Members.{Has, IsWithin}
 use Rattle.blz_value.specs.Record.{Row}
-use Rattle.blz_value.specs.Sets.{set_of}
+use Rattle.blz_value.specs.Sets.{set_of, IsRowSet}
 use Rattle.blz_value.proofs.Booleans.{and_true}
 use Rattle.blz_value.proofs.Lists.{filter_same}
 use Rattle.blz_value.proofs.Membership.{Has-append_cases, Has-append_left, Has-append_right}
 use Rattle.blz_value.proofs.OperatorsLemmas.{length-within}
-use Rattle.blz_value.proofs.RowSets.{same_set_of, set_of-append_set}
+use Rattle.blz_value.proofs.RowSets.{same_set_of, set_of-sorted, set_of-append_set}
 use Rattle.blz_value.proofs.SetLaws.{sorted_set_of, Has-set_of, Has-from_set_of}
 use Rattle.blz_set.specs.RecordSet.{row_limit}
 use Rattle.blz_set.specs.declared.fault.SetFault.{SetFault}
@@ -32,9 +32,23 @@ use Rattle.bloom_index.specs.Code.HeadRules.{AreReady, HasGiven, AllLast, MakesP
 use Rattle.bloom_index.specs.Code.Heads.{AddsGiven, BodyRows, body_of, bodies_of, kept_rules, passing_rules, olds_of, news_of, rows_given}
 use Rattle.bloom_index.specs.Code.Lasting.{lasts_at, lasts}
 use Rattle.bloom_index.specs.Code.Turns.{rows_in}
-use Rattle.bloom_index.proofs.HeadBags.{few_olds}
+use Rattle.bloom_index.proofs.HeadBags.{few_olds, many_bodies}
 use Rattle.bloom_index.proofs.HeadParts.{own_rules, ruled, passing_in, kept_in, ruled_cases}
 use Rattle.bloom_index.proofs.Turning.{turned_into}
+
+-- nothing comes and nothing goes
+abbrev no_turn : Turn
+no_turn = record { more = []; gone = [] }
+
+none_turned : TurnsInto (set_of []) (set_of []) (Ok no_turn)
+none_turned = (record { old_sorted = sorted_set_of []; new_sorted = sorted_set_of []; more_is = refl; gone_is = refl }, omega arith)
+
+-- a set beside nothing
+none_given : (whole : Bool) (rows : List Row) → IsRowSet rows → length rows ≤ row_limit → AddsGiven whole rows [] [] (Ok rows)
+none_given whole rows sorted few = elim whole as (λ (b : Bool). AddsGiven b rows [] [] (Ok rows)) [ true ↦ (own, few) | false ↦ (own, subst (λ (l : List Row). length l ≤ row_limit) own few) ]
+  where
+    own : rows ≡ set_of (rows ++ [])
+    own = sym (ap set_of (append-nil rows) ∙ set_of-sorted rows sorted)
 
 module _ (rules : List NumberedRule) (head : ℕ) (memos : List Memo) (held : List Change) (ready : AreReady rules head memos held) where
   -- the bodies of the rules that are kept
@@ -176,13 +190,25 @@ module _ (rules : List NumberedRule) (head : ℕ) (memos : List Memo) (held : Li
       was_there q h = kept_in rules head memos held ready ready.old q (subst (λ (l : List Row). Has q l) olds_are h)
 
   pub head_made : (whole : Bool) (parts : HeadParts) (bag : Bag) (turn : Turn) (set : List Row) (change : Change) (after : List Memo) → change.kept ≡ false → rows_in change.rows ≡ set → MakesParts rules head memos held ready after (Ok parts) → TurnsInto (set_of (olds_of Bodies)) (set_of (news_of Bodies)) (Ok turn)
-      → IsBag (news_of Bodies) bag → AddsGiven whole parts.rows (news_of Bodies) turn.more (Ok set) → MakesHead rules head memos held ready whole bag after (Ok change)
+      → IsBag (news_of Bodies) bag → AddsGiven whole (rows_in parts.rows) (news_of Bodies) turn.more (Ok set) → MakesHead rules head memos held ready whole bag after (Ok change)
   head_made whole parts bag turn set change after kept is made turns stands adds = (
     kept,
-    subst (IsHeadMade ready.a ready.old ready.new head whole) (sym is) (head_is_made whole parts.rows set turn made.1 made.2 turns adds),
+    subst (IsHeadMade ready.a ready.old ready.new head whole) (sym is) (head_is_made whole (rows_in parts.rows) set turn made.1 made.2 turns adds),
     λ need. subst (λ (l : List Row). IsBag l bag) news_are stands,
     made.3,
   )
+
+  -- where no rule is kept the others give all its rows, and its bag has none
+  pub head_passing : (whole : Bool) (parts : HeadParts) (bag : Bag) (change : Change) (after : List Memo) → length parts.changes.items ≡ 0 → change.kept ≡ false → rows_in change.rows ≡ rows_in parts.rows → length (rows_in parts.rows) ≤ row_limit
+      → MakesParts rules head memos held ready after (Ok parts) → IsBag (olds_of Bodies) bag → MakesHead rules head memos held ready whole bag after (Ok change)
+  head_passing whole parts bag change after none kept is few made stands =
+      let empty : Bodies ≡ [] = nil_from_length Bodies (many_bodies Bodies parts.changes.items made.0 ∙ none) in
+      let others = rows_given ready.new (passing_rules ready.lasting rules head) in
+      let sorted = subst IsRowSet (sym made.1) (sorted_set_of others) in
+      head_made whole parts bag no_turn (rows_in parts.rows) change after kept is made
+      (subst (λ (l : List BodyRows). TurnsInto (set_of (olds_of l)) (set_of (news_of l)) (Ok no_turn)) (sym empty) none_turned)
+      (subst (λ (l : List BodyRows). IsBag (news_of l) bag) (sym empty) (subst (λ (l : List BodyRows). IsBag (olds_of l) bag) empty stands))
+      (subst (λ (l : List BodyRows). AddsGiven whole (rows_in parts.rows) (news_of l) [] (Ok (rows_in parts.rows))) (sym empty) (none_given whole (rows_in parts.rows) sorted few))
 
   -- too many rows of the rules that are kept, or of all
   ruled_over : (rows : List Row) → IsWithin rows (ruled_at ready.a.form ready.new head) → row_limit < length (set_of rows) → row_limit < length (set_of (ruled_at ready.a.form ready.new head))

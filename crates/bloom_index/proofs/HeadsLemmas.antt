@@ -1,5 +1,5 @@
 -- What a rule gives to its head.
-use Rattle.std.proofs.Common.{◌≡◌, ◌∙◌, ◌<◌, ◌≤◌, Bool, true, false, IsTrue, List, ◌++◌, length, Result, Err, refl, ap, sym, subst, inl, inr, arith}
+use Rattle.std.proofs.Common.{◌≡◌, ◌∙◌, ◌<◌, ◌≤◌, Bool, true, false, IsTrue, List, ◌++◌, length, Result, Ok, Err, OnOk, refl, ap, sym, subst, inl, inr, arith}
 use Rattle.std.specs.Result.{IsErrAnd}
 use Rattle.blz_value.specs.Members.{Has, IsWithin}
 use Rattle.blz_value.specs.Record.{Row}
@@ -8,19 +8,19 @@ use Rattle.blz_value.proofs.Membership.{Has-append_left, Has-append_right, Has-a
 use Rattle.blz_value.proofs.OperatorsLemmas.{length-within}
 use Rattle.blz_value.proofs.RowSets.{same_set_of, is_set_of}
 use Rattle.blz_value.proofs.SetLaws.{sorted_set_of, Has-set_of, Has-from_set_of}
-use Rattle.blz_set.specs.Answers.{Becomes}
 use Rattle.blz_set.specs.RecordSet.{row_limit}
 use Rattle.blz_set.specs.declared.fault.SetFault.{SetFault}
 use Rattle.blz_set.specs.declared.fault.SetFault.TheVariants.{TooManyRows, NoMemory}
 use Rattle.blz_set.proofs.Unions.{handed_on}
 use Rattle.bloom_forms.specs.declared.numbered.NumberedExpr.{NumberedExpr}
-use Rattle.bloom_eval.specs.Code.NumberedRows.{numbered_rows}
+use Rattle.bloom_eval.specs.Code.NumberedRows.{numbered_rows, numbered_sets}
+use Rattle.bloom_eval.specs.StepAnswers.{AllFit}
 use Rattle.bloom_index.specs.declared.change.Change.{Change}
 use Rattle.bloom_index.specs.declared.memo.Memo.{Memo}
 use Rattle.bloom_growth.specs.Growth.{Extends, Takes}
 use Rattle.bloom_growth.proofs.Extending.{sorted_new, old_is_in, fresh_is_in, old_or_fresh}
 use Rattle.bloom_growth.proofs.TurnedLemmas.{held_or_not, came}
-use Rattle.bloom_index.specs.Code.Evaluation.{IsReady, Evaluates}
+use Rattle.bloom_index.specs.Code.Evaluation.{Stands, IsReady, Evaluates}
 use Rattle.bloom_index.specs.Code.Heads.{GrowsBy}
 use Rattle.bloom_index.specs.Code.Turns.{HasTurned}
 use Rattle.bloom_index.proofs.Turning.{gets}
@@ -92,10 +92,11 @@ module _ (body : NumberedExpr) (m after : Memo) (held : List Change) (ready : Is
       go TooManyRows over = record { rows = set_of (rows ++ numbered_rows ready.new body); stands = inl refl; over = subst (λ (l : List Row). row_limit < length l) whole over }
       go NoMemory h = tt
 
-  -- the new rows of a head are never too many
-  pub head_fresh : (took first more all : List Row) → Extends start rows first → Extends rows took more → length took ≤ row_limit → Becomes {X = Unit {0}} first (set_of (first ++ more)) all (Err fault) → GrowsBy body m after held ready start rows new made r
-  head_fresh took first more all e f few h = subst (GrowsBy body m after held ready start rows new made) (sym (handed_on (Unit {0}) r fault is)) (go fault h)
-    where
-      go : (d : SetFault) → Becomes {X = Unit {0}} first (set_of (first ++ more)) all (Err d) → GrowsBy body m after held ready start rows new made (Err d)
-      go TooManyRows over = absurd (omega (arith, over.1, few, few_on start rows took first more e f))
-      go NoMemory h = tt
+-- the new rows of a head, which are never too many, are put to others
+pub head_put : (body : NumberedExpr) (m after : Memo) (held : List Change) (ready : IsReady body m held) (start rows took first more all : List Row) (r : Result (Unit {0}) SetFault)
+    → took ≡ set_of (rows ++ numbered_rows ready.new body) → length took ≤ row_limit → Stands ready.growing ready.lasting ready.new body after → AllFit (numbered_sets ready.new body) → Extends start rows first → Extends rows took more
+    → OnOk r (all ≡ set_of (first ++ more)) → (r ≡ Err TooManyRows → row_limit < length (set_of (first ++ more))) → GrowsBy body m after held ready start rows took all r
+head_put body m after held ready start rows took first more all (Ok x) is few stands fits e f put over =
+    (is, stands, λ set h. elim h [ inl own ↦ subst (λ (l : List Row). length l ≤ row_limit) own few | inr n ↦ fits set n ], extends_on start rows took first more all e f put)
+head_put body m after held ready start rows took first more all (Err TooManyRows) is few stands fits e f put over = absurd (omega (arith, over refl, few, few_on start rows took first more e f))
+head_put body m after held ready start rows took first more all (Err NoMemory) is few stands fits e f put over = tt

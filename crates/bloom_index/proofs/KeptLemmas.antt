@@ -11,7 +11,7 @@ use Rattle.blz_value.specs.Record.{Row}
 use Rattle.blz_value.specs.Sets.{set_of, IsRowSet}
 use Rattle.blz_value.proofs.Membership.{All-of_member, all_member, Has-append_cases, Has-filter, Has-from_filter, Has-from_flat_map, Has-get_or}
 use Rattle.blz_value.proofs.SetLaws.{sorted_set_of, Has-from_set_of}
-use Rattle.blz_boxes.proofs.Tables.{empties_wide}
+use Rattle.bloom_eval.proofs.EmptyTables.{empties_wide}
 use Rattle.bloom_forms.specs.declared.module.Kind.{Kind}
 use Rattle.bloom_forms.specs.declared.module.Kind.TheVariants.{Input, Output, Table, Scratch}
 use Rattle.bloom_forms.specs.declared.module.Collection.{Collection}

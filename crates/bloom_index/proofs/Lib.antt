@@ -2,6 +2,8 @@ pub mod Putting
 pub mod Turning
 pub mod PartTurns
 pub mod Evaluating
+pub mod Settling
+pub mod Selecting
 pub mod OperatorAnswers
 pub mod HeadBags
 pub mod HeadsLemmas
@@ -27,3 +29,4 @@ pub mod StepHeads
 pub mod StepNext
 pub mod StepEnds
 pub mod StepLoops
+pub mod Arriving

@@ -12,3 +12,5 @@ pub mod Kept
 pub mod HeadRules
 pub mod KeptProps
 pub mod StepSets
+pub mod Arriving
+pub mod Steps

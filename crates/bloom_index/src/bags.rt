@@ -9,58 +9,63 @@ ghost use Rattle.bloom_growth.specs.Growth.{Extends};
 ghost use Rattle.bloom_growth.specs.Turned.{TurnsInto};
 ghost use Rattle.bloom_index.specs.Code.Heads.{BodyRows, BodiesTurn, olds_of, news_of, gone_of, more_of, AddsGiven};
 
-use crate::change::{Change, Rows};
+use crate::change::{Change, put_into};
 use bloom_growth::{Bag, Passing, Turn};
 use blz_set::{RecordSet, SetFault};
+use blz_value::Record;
 use std::alloc::{AllocError, Global};
 
 // The most rows of a set.
 const ROW_LIMIT: usize = 262_144;
 
 // Rows are given once less each.
-fn take_rows(bag: &mut Bag, gone: &RecordSet, passing: &mut Passing) -> Result<(), AllocError>
+fn take_rows(bag: &mut Bag, gone: &[Record], passing: &mut Passing) -> Result<(), AllocError>
     ensures bag { OnOk result ((rows : List Row) → IsBag (gone.now ++ rows) bag.old → IsBag rows bag.new) }
     ensures left { OnOk result ((old rows : List Row) → IsBag (gone.now ++ rows) bag.old → Extends (set_of (gone.now ++ rows)) old (left_rows passing.old) → Extends (set_of rows) old (left_rows passing.new)) }
     ensures entered { entered_rows passing.new ≡ entered_rows passing.old }
 {
-    for row in gone.rows() {
+    for row in gone {
         bag.take_out(row, passing)?;
     }
     Ok(())
 }
 
 // Rows are given once more each.
-fn put_rows(bag: &mut Bag, more: &RecordSet, passing: &mut Passing) -> Result<(), SetFault>
+fn put_rows(bag: &mut Bag, more: &[Record], passing: &mut Passing) -> Result<(), SetFault>
     ensures bag { (rows : List Row) → length (more.now ++ rows) < most_given → IsBag rows bag.old → BecomesBag (more.now ++ rows) bag.new result }
     ensures entered { OnOk result ((mid rows : List Row) → length (more.now ++ rows) < most_given → IsBag rows bag.old → Extends mid (set_of rows) (entered_rows passing.old) → Extends mid (set_of (more.now ++ rows)) (entered_rows passing.new)) }
     ensures left { left_rows passing.new ≡ left_rows passing.old }
 {
-    for row in more.rows() {
+    for row in more {
         bag.put_in(row.copy()?, passing)?;
     }
     Ok(())
 }
 
 // What goes of the bodies of rules is taken out.
-fn take_all(bag: &mut Bag, changes: &[Change<'_>], passing: &mut Passing) -> Result<(), AllocError>
+fn take_all(
+    bag: &mut Bag,
+    changes: &[Change<'_, '_>],
+    passing: &mut Passing,
+) -> Result<(), AllocError>
     ensures bag { OnOk result ((rows : List Row) → IsBag (gone_of changes.now ++ rows) bag.old → IsBag rows bag.new) }
     ensures left { OnOk result ((old rows : List Row) → IsBag (gone_of changes.now ++ rows) bag.old → Extends (set_of (gone_of changes.now ++ rows)) old (left_rows passing.old) → Extends (set_of rows) old (left_rows passing.new)) }
     ensures entered { entered_rows passing.new ≡ entered_rows passing.old }
 {
     for change in changes {
-        take_rows(bag, change.gone.as_set(), passing)?;
+        take_rows(bag, change.gone.as_rows(), passing)?;
     }
     Ok(())
 }
 
 // What comes of the bodies of rules is put in.
-fn put_all(bag: &mut Bag, changes: &[Change<'_>], passing: &mut Passing) -> Result<(), SetFault>
+fn put_all(bag: &mut Bag, changes: &[Change<'_, '_>], passing: &mut Passing) -> Result<(), SetFault>
     ensures bag { (rows : List Row) → length (more_of changes.now ++ rows) < most_given → IsBag rows bag.old → BecomesBag (more_of changes.now ++ rows) bag.new result }
     ensures entered { OnOk result ((mid rows : List Row) → length (more_of changes.now ++ rows) < most_given → IsBag rows bag.old → Extends mid (set_of rows) (entered_rows passing.old) → Extends mid (set_of (more_of changes.now ++ rows)) (entered_rows passing.new)) }
     ensures left { left_rows passing.new ≡ left_rows passing.old }
 {
     for change in changes {
-        put_rows(bag, change.rows.as_set(), passing)?;
+        put_rows(bag, change.rows.as_rows(), passing)?;
     }
     Ok(())
 }
@@ -69,7 +74,7 @@ fn put_all(bag: &mut Bag, changes: &[Change<'_>], passing: &mut Passing) -> Resu
 /// fault it may have others.
 pub(crate) fn turn_bag(
     alloc: Global,
-    changes: &[Change<'_>],
+    changes: &[Change<'_, '_>],
     bag: &mut Bag,
 ) -> Result<Turn, SetFault>
     ensures bag { OnOk result ((bodies : List BodyRows) → BodiesTurn bodies changes.now → IsBag (olds_of bodies) bag.old → IsBag (news_of bodies) bag.new) }
@@ -85,7 +90,7 @@ pub(crate) fn turn_bag(
 /// else as `turn_bag` says.
 pub(crate) fn turn_bodies(
     alloc: Global,
-    mut changes: Vec<Change<'_>>,
+    mut changes: Vec<Change<'_, '_>>,
     bag: &mut Bag,
 ) -> Result<Turn, SetFault>
     ensures bag { OnOk result ((bodies : List BodyRows) → BodiesTurn bodies changes.entry.items → ¬ (length bodies ≡ 1) → IsBag (olds_of bodies) bag.old → IsBag (news_of bodies) bag.new) }
@@ -93,7 +98,7 @@ pub(crate) fn turn_bodies(
 {
     if changes.len() == 1 {
         let change = changes.swap_remove(0);
-        return Ok(change.into_turn()?);
+        return Ok(change.into_turn(alloc)?);
     }
     turn_bag(alloc, &changes, bag)
 }
@@ -114,9 +119,9 @@ pub(crate) fn with_bag(
         return Err(SetFault::TooManyRows);
     }
     if whole {
-        Rows::Own(bag.to_set(alloc)?).put_into(&mut set)?;
+        put_into(bag.to_set(alloc)?, &mut set)?;
     } else {
-        Rows::Own(more).put_into(&mut set)?;
+        put_into(more, &mut set)?;
     }
     Ok(set)
 }

@@ -1,5 +1,6 @@
 //! A loaded module with what is kept.
-ghost use Rattle.std.specs.Prelude.{◌≡◌, ◌<◌, ◌++◌, [], None, Some, Err, length, IfOk, OnOk};
+ghost use Rattle.std.specs.Prelude.{◌≡◌, ◌<◌, ◌++◌, [], None, Some, Err, length, All, IfOk, OnOk};
+ghost use Rattle.blz_pool.specs.Entries.{entries_with_ids};
 ghost use Rattle.bloom_forms.specs.declared.module.Kind.TheVariants.{Input, Table};
 ghost use Rattle.bloom_forms.specs.declared.program.Program.TheVariants.{Module as ModuleProgram};
 ghost use Rattle.bloom_forms.specs.Kinds.{kind_at, place_in_kind, of_kind};
@@ -7,20 +8,25 @@ ghost use Rattle.bloom_forms.specs.Program.{columns_of_kind};
 ghost use Rattle.bloom_forms.specs.ProgramStep.{empty_tables};
 ghost use Rattle.bloom_forms.specs.Step.{set_at, sets_of_kind, tables_after, outputs_of};
 ghost use Rattle.bloom_forms.specs.Widths.{AreSetsOf};
+ghost use Rattle.bloom_eval.specs.Arrivals.{timestep_of};
 ghost use Rattle.bloom_eval.specs.Code.Finish.{placed};
+ghost use Rattle.bloom_eval.specs.Puts.{puts_in, ArePutFrom};
 ghost use Rattle.bloom_eval.specs.declared.fault.StepFault.TheVariants.{TooManyRows};
 ghost use Rattle.bloom_eval.specs.StepAnswers.{AllFit, SomeIsOver, counted_sets};
 ghost use Rattle.bloom_index.specs.Code.Kept.{tables_in, kept_tables, PartsStand, KeptStands, PutsOut};
 ghost use Rattle.bloom_index.specs.Code.KeptProps.{KeptStands-prop};
 ghost use Rattle.bloom_index.specs.Sides.{module_sides, side_rows};
 
+use crate::arrived::Arrived;
 use crate::empty::empty_parts;
 use crate::grows::growing_heads;
 use crate::sides::{side_at, side_count};
 use crate::step::{Parts, step};
-use bloom_eval::{Arrivals, Kept, Outs, StepFault, step_plain};
+use crate::step_ids::step_by_ids;
+use bloom_eval::{Arrivals, Kept, Outs, Puts, StepFault, step_plain};
 use bloom_forms::{Checked, Collection, Kind};
 use bloom_growth::GrowSet;
+use blz_pool::{Id, Pool};
 use blz_set::RecordSet;
 use blz_value::Record;
 use std::alloc::{AllocError, Global};
@@ -146,24 +152,45 @@ impl IndexBody {
     {
         let mut parts = self.taken()?;
         *outs = self.all_outs(&parts, now)?;
-        step(self.alloc, &self.program, &mut parts, now.sets())?;
+        let _held = step(
+            self.alloc,
+            &self.program,
+            &mut parts,
+            &Arrived::Sets(now.sets()),
+        )?;
         self.parts = Some(parts);
         Ok(())
     }
 
-    /// One step, which may leave out what the tables of before already give. After a fault nothing is
-    /// kept.
-    pub(crate) fn step_changes(&mut self, now: &Arrivals, outs: &mut Outs) -> Result<(), StepFault>
-        requires ports { AreSetsOf (columns_of_kind Input self.old.program.form.collections) now.now }
+    /// One step over the records with the ids of some entries, each at the port with its number, which may
+    /// leave out what the tables of before already give. After a fault nothing is kept.
+    pub(crate) fn step_by_ids(
+        &mut self,
+        pool: &Pool,
+        ports: usize,
+        entries: &[(u32, Id)],
+        puts: &mut Puts,
+    ) -> Result<(), StepFault>
+        requires given { All (λ entry. entry.1 < length pool.now) entries.now }
+        requires ports { AreSetsOf (columns_of_kind Input self.old.program.form.collections) (timestep_of ports (entries_with_ids pool.now entries.now)) }
         ensures program { self.new.program ≡ self.old.program }
-        ensures kept { OnOk result (kept_tables self.new.program self.new.parts ≡ tables_after self.old.program (kept_tables self.old.program self.old.parts) now.now) }
-        ensures outs { OnOk result (PutsOut self.old.program (kept_tables self.old.program self.old.parts) now.now outs.new) }
-        ensures few { OnOk result (AllFit (counted_sets self.old.program (kept_tables self.old.program self.old.parts) now.now)) }
-        ensures too_many { result ≡ Err TooManyRows → SomeIsOver (counted_sets self.old.program (kept_tables self.old.program self.old.parts) now.now) }
+        ensures kept { OnOk result (kept_tables self.new.program self.new.parts ≡ tables_after self.old.program (kept_tables self.old.program self.old.parts) (timestep_of ports (entries_with_ids pool.now entries.now))) }
+        ensures outs { OnOk result (PutsOut self.old.program (kept_tables self.old.program self.old.parts) (timestep_of ports (entries_with_ids pool.now entries.now)) (puts_in pool.now puts.new)) }
+        ensures ids { OnOk result (ArePutFrom pool.now puts.new) }
+        ensures few { OnOk result (AllFit (counted_sets self.old.program (kept_tables self.old.program self.old.parts) (timestep_of ports (entries_with_ids pool.now entries.now)))) }
+        ensures too_many { result ≡ Err TooManyRows → SomeIsOver (counted_sets self.old.program (kept_tables self.old.program self.old.parts) (timestep_of ports (entries_with_ids pool.now entries.now))) }
         ensures wide { AreSetsOf (columns_of_kind Table self.new.program.form.collections) (kept_tables self.new.program self.new.parts) }
     {
         let mut parts = self.taken()?;
-        *outs = step(self.alloc, &self.program, &mut parts, now.sets())?;
+        step_by_ids(
+            self.alloc,
+            &self.program,
+            &mut parts,
+            pool,
+            ports,
+            entries,
+            puts,
+        )?;
         self.parts = Some(parts);
         Ok(())
     }

@@ -1,102 +1,120 @@
 //! The heads of a module, each with what its rules give in a step.
 ghost use Rattle.std.specs.Prelude.{◌≡◌, false, List, IsTrue};
 ghost use Rattle.blz_value.specs.Record.{Row};
-ghost use Rattle.bloom_growth.specs.Growth.{Extends};
+ghost use Rattle.bloom_growth.specs.Growth.{Extends, Takes};
 ghost use Rattle.bloom_index.specs.Code.Evaluation.{IsReady};
 ghost use Rattle.bloom_index.specs.Code.Growth.{grows_at};
 ghost use Rattle.bloom_index.specs.Code.HeadRules.{AreReady, HasOldHead, HasGiven, AllLast, AddsRule, GrowsHead, MakesParts, TurnsHead, MakesHead};
 ghost use Rattle.bloom_index.specs.Code.Heads.{HasOldRows, GrowsBy};
 ghost use Rattle.bloom_index.specs.Code.Lasting.{lasts_at};
+ghost use Rattle.bloom_index.specs.Code.Turns.{rows_in};
 
 use crate::bags::{turn_bag, turn_bodies, with_bag};
-use crate::change::{Change, Rows};
+use crate::change::{Change, Rows, one_row};
 use crate::evaluate::evaluate;
 use crate::memo::Memo;
 use bloom_forms::NumberedRule;
-use bloom_growth::{Bag, GrowSet, Turn};
+use bloom_growth::{Bag, GrowSet};
 use blz_set::{RecordSet, SetFault};
 use std::alloc::Global;
 
 /// What the rules of a head give: the changes of those that are kept, and the rows of the others.
 #[derive(Drop)]
-pub(crate) struct HeadParts<'a> {
-    pub(crate) changes: Vec<Change<'a>>,
-    pub(crate) rows: RecordSet,
+pub(crate) struct HeadParts<'a, 'r> {
+    pub(crate) changes: Vec<Change<'a, 'r>>,
+    pub(crate) rows: Rows<'a, 'r>,
+}
+
+// Adds rows to a growing head, and answers with those that were new.
+fn taken(alloc: Global, rows: &mut GrowSet, more: &Rows<'_, '_>) -> Result<RecordSet, SetFault>
+    ensures { Takes rows.old (rows_in more.now) rows.new result }
+{
+    match more {
+        Rows::Lent(set) => rows.take(alloc, *set),
+        Rows::Own(set) => rows.take(alloc, set),
+        Rows::One(row) => {
+            let set = one_row(alloc, *row)?;
+            rows.take(alloc, &set)
+        }
+    }
 }
 
 // Adds to a growing head what a rule gives, and to the new rows those that are new.
-fn grow_by(
+fn grow_by<'r>(
     alloc: Global,
     rule: &NumberedRule,
     memo: &mut Memo,
-    held: &[Change<'_>],
+    held: &[Change<'_, 'r>],
     rows: &mut GrowSet,
-    fresh: &mut RecordSet,
+    fresh: &mut Rows<'r, 'r>,
 ) -> Result<(), SetFault>
     requires { IsReady rule.now.body memo.old held.now }
-    ensures { (ready : IsReady rule.now.body memo.old held.now) (start : List Row) → HasOldRows rule.now.body memo.old held.now ready rows.old → Extends start rows.old fresh.old → GrowsBy rule.now.body memo.old memo.new held.now ready start rows.old rows.new fresh.new result }
+    ensures { (ready : IsReady rule.now.body memo.old held.now) (start : List Row) → HasOldRows rule.now.body memo.old held.now ready rows.old → Extends start rows.old (rows_in fresh.old) → GrowsBy rule.now.body memo.old memo.new held.now ready start rows.old rows.new (rows_in fresh.new) result }
 {
     let change = evaluate(alloc, &rule.body, memo, held)?;
-    let new = rows.take(alloc, change.rows.as_set())?;
-    Rows::Own(new).put_into(fresh)?;
-    Ok(())
+    let new = taken(alloc, rows, &change.rows)?;
+    Rows::Own(new).put_onto(alloc, fresh)
 }
 
 /// What a growing head gets.
-pub(crate) fn grow_head<'a>(
+pub(crate) fn grow_head<'r>(
     alloc: Global,
     rules: &[NumberedRule],
     head: u32,
     memos: &mut Vec<Memo>,
-    held: &[Change<'_>],
+    held: &[Change<'_, 'r>],
     rows: &mut GrowSet,
-) -> Result<Change<'a>, SetFault>
+) -> Result<Change<'r, 'r>, SetFault>
     requires { AreReady rules.now head memos.old.items held.now }
     ensures { (ready : AreReady rules.now head memos.old.items held.now) → HasOldHead rules.now head memos.old.items held.now ready rows.old → IsTrue (grows_at ready.growing head) → GrowsHead rules.now head memos.old.items held.now ready rows.old rows.new memos.new.items result }
 {
     // for the proof alone: what holds of each set
     rows.known();
-    let mut more = RecordSet::new(alloc);
+    let mut more = Rows::Own(RecordSet::new(alloc));
     for (i, rule) in rules.iter().enumerate() {
         if rule.head == head {
             grow_by(alloc, rule, &mut memos[i], held, rows, &mut more)?;
         }
     }
-    let gone = RecordSet::new(alloc);
-    Ok(Change::turned(Turn { more, gone }))
+    let gone = Rows::Own(RecordSet::new(alloc));
+    Ok(Change::kept(more, gone))
 }
 
 // Adds what a rule gives: the change of one that is kept, or all rows.
-fn add_rule<'a>(change: Change<'a>, parts: &mut HeadParts<'a>) -> Result<(), SetFault>
+fn add_rule<'a, 'r>(
+    alloc: Global,
+    change: Change<'a, 'r>,
+    parts: &mut HeadParts<'a, 'r>,
+) -> Result<(), SetFault>
     ensures { AddsRule change.entry parts.old parts.new result }
 {
     if change.kept {
         parts.changes.push(change)?;
     } else {
-        change.rows.put_into(&mut parts.rows)?;
+        change.rows.put_onto(alloc, &mut parts.rows)?;
     }
     Ok(())
 }
 
 // What the rules of a head give.
-fn head_parts<'a>(
+fn head_parts<'a, 'r>(
     alloc: Global,
     rules: &[NumberedRule],
     head: u32,
     memos: &mut Vec<Memo>,
-    held: &'a [Change<'_>],
-) -> Result<HeadParts<'a>, SetFault>
+    held: &'a [Change<'_, 'r>],
+) -> Result<HeadParts<'a, 'r>, SetFault>
     requires { AreReady rules.now head memos.old.items held.now }
     ensures { (ready : AreReady rules.now head memos.old.items held.now) → MakesParts rules.now head memos.old.items held.now ready memos.new.items result }
 {
     let mut parts = HeadParts {
         changes: Vec::new(alloc),
-        rows: RecordSet::new(alloc),
+        rows: Rows::Own(RecordSet::new(alloc)),
     };
     for (i, rule) in rules.iter().enumerate() {
         if rule.head == head {
             let change = evaluate(alloc, &rule.body, &mut memos[i], held)?;
-            add_rule(change, &mut parts)?;
+            add_rule(alloc, change, &mut parts)?;
         }
     }
     Ok(parts)
@@ -104,14 +122,14 @@ fn head_parts<'a>(
 
 /// What a head gets and loses that doesn't grow, but is kept. Where it has one rule it is what the rule's
 /// body gets and loses, and its bag isn't touched.
-pub(crate) fn turn_head<'a>(
+pub(crate) fn turn_head<'a, 'r>(
     alloc: Global,
     rules: &[NumberedRule],
     head: u32,
     memos: &mut Vec<Memo>,
-    held: &[Change<'_>],
+    held: &[Change<'_, '_>],
     bag: &mut Bag,
-) -> Result<Change<'a>, SetFault>
+) -> Result<Change<'a, 'r>, SetFault>
     requires { AreReady rules.now head memos.old.items held.now }
     ensures { (ready : AreReady rules.now head memos.old.items held.now) → HasGiven ready.lasting ready.old rules.now head bag.old → AllLast ready.lasting rules.now head → IsTrue (lasts_at ready.lasting head) → TurnsHead rules.now head memos.old.items held.now ready bag.new memos.new.items result }
 {
@@ -122,20 +140,25 @@ pub(crate) fn turn_head<'a>(
 
 /// The rows of a head that isn't kept, or where the whole isn't asked for all but what its kept rules
 /// gave before.
-pub(crate) fn make_head<'a>(
+pub(crate) fn make_head<'r>(
     alloc: Global,
     rules: &[NumberedRule],
     head: u32,
     memos: &mut Vec<Memo>,
-    held: &[Change<'_>],
+    held: &[Change<'_, 'r>],
     bag: &mut Bag,
     whole: bool,
-) -> Result<Change<'a>, SetFault>
+) -> Result<Change<'r, 'r>, SetFault>
     requires { AreReady rules.now head memos.old.items held.now }
     ensures { (ready : AreReady rules.now head memos.old.items held.now) → HasGiven ready.lasting ready.old rules.now head bag.old → lasts_at ready.lasting head ≡ false → MakesHead rules.now head memos.old.items held.now ready whole bag.new memos.new.items result }
 {
     let parts = head_parts(alloc, rules, head, memos, held)?;
+    if parts.changes.is_empty() {
+        // for the proof alone: what holds of the set
+        parts.rows.known();
+        return Ok(Change::all(alloc, parts.rows.lasting()?));
+    }
     let turn = turn_bag(alloc, &parts.changes, bag)?;
-    let set = with_bag(alloc, parts.rows, bag, turn.more, whole)?;
-    Ok(Change::all(alloc, set))
+    let set = with_bag(alloc, parts.rows.into_set(alloc)?, bag, turn.more, whole)?;
+    Ok(Change::of_set(alloc, set))
 }

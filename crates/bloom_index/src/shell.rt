@@ -7,8 +7,9 @@ ghost use Rattle.bloom_index.specs.Sides.{sides_of, side_rows};
 ghost use Rattle.bloom_eval.specs.declared.kind.ProgramKind.TheVariants.{Module as ModuleKind};
 
 use crate::body::IndexBody;
-use bloom_eval::{Arrivals, Component, Outs, StepFault};
+use bloom_eval::{Arrivals, Component, Outs, Puts, StepFault};
 use bloom_forms::Program;
+use blz_pool::{Id, Pool};
 use blz_set::RecordSet;
 use blz_value::Record;
 use std::alloc::{AllocError, Global};
@@ -83,11 +84,18 @@ impl Component for IndexShell {
         body.step(now, outs)
     }
 
-    fn step_changes(&mut self, now: &Arrivals, outs: &mut Outs) -> Result<(), StepFault> {
+    fn step_by_ids(
+        &mut self,
+        _alloc: Global,
+        pool: &Pool,
+        ports: usize,
+        entries: &[(u32, Id)],
+        puts: &mut Puts,
+    ) -> Result<(), StepFault> {
         let Some(body) = &mut self.body else {
             unreachable!()
         };
-        body.step_changes(now, outs)
+        body.step_by_ids(pool, ports, entries, puts)
     }
 
     fn kept_rows(&self, table: u32, into: &mut RecordSet) -> Result<(), AllocError> {

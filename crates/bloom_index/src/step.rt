@@ -1,13 +1,12 @@
 //! One step over what is kept.
 ghost use Rattle.std.specs.Prelude.{◌≡◌, ◌<◌, ◌^◌, ◌+◌, ◌∷◌, ◌++◌, [], false, Some, Err, ℕ, length, slice_get, slice_set, IfOk, IsTrue, OnOk};
 ghost use Rattle.blz_set.specs.RecordSet.{IsRecordSet};
-ghost use Rattle.bloom_forms.specs.declared.module.Kind.TheVariants.{Input, Output};
+ghost use Rattle.bloom_forms.specs.declared.module.Kind.TheVariants.{Input};
 ghost use Rattle.bloom_forms.specs.Kinds.{of_kind};
 ghost use Rattle.bloom_forms.specs.Program.{columns_of_kind};
-ghost use Rattle.bloom_forms.specs.Step.{set_at, begun, sets_of_kind, tables_after};
+ghost use Rattle.bloom_forms.specs.Step.{set_at, begun, tables_after};
 ghost use Rattle.bloom_forms.specs.Widths.{AreSetsOf};
 ghost use Rattle.bloom_eval.specs.Code.Begin.{place_after};
-ghost use Rattle.bloom_eval.specs.Code.Finish.{placed};
 ghost use Rattle.bloom_eval.specs.declared.fault.StepFault.TheVariants.{TooManyRows};
 ghost use Rattle.bloom_eval.specs.StepAnswers.{AllFit, SomeIsOver, counted_sets};
 ghost use Rattle.bloom_index.specs.Code.Growth.{grows_at};
@@ -15,18 +14,19 @@ ghost use Rattle.bloom_growth.specs.declared.bag.Bag.{Bag as TheBag};
 ghost use Rattle.bloom_index.specs.Code.HeadRules.{AreReady, HasOldHead, HasGiven, AllLast, GrowsHead, TurnsHead, MakesHead};
 ghost use Rattle.bloom_index.specs.Code.Lasting.{lasts_at};
 ghost use Rattle.bloom_index.specs.Code.Kept.{tables_in, PartsStand, PutsOut};
-ghost use Rattle.bloom_index.specs.Code.StepSets.{AreBegunAt, held_sets};
+ghost use Rattle.bloom_index.specs.Code.Arriving.{arrived_in};
+ghost use Rattle.bloom_index.specs.Code.StepSets.{AreBegunAt, outs_in};
 ghost use Rattle.bloom_index.specs.Code.Turns.{rows_in};
 
+use crate::arrived::Arrived;
 use crate::change::{Change, Rows};
 use crate::heads::{grow_head, make_head, turn_head};
 use crate::memo::Memo;
-use bloom_eval::{Outs, StepFault};
+use bloom_eval::StepFault;
 use bloom_forms::{Checked, Collection, Kind, NumberedRule};
 use bloom_growth::{Bag, GrowSet};
 use blz_set::{RecordSet, SetFault};
 use std::alloc::{AllocError, Global};
-use std::mem;
 
 /// What is kept: of each collection that grows its rows, of each other what its rules that are kept give
 /// it, and what is kept of each rule.
@@ -51,47 +51,47 @@ fn next_port(kind: Kind, port: usize) -> usize
 }
 
 // What a collection has at the beginning of a step: a port what arrives, any other nothing.
-fn begin_rows<'a>(alloc: Global, kind: Kind, now: &'a [RecordSet], port: usize) -> Rows<'a>
-    requires { kind ≡ Input → port < length now.now }
-    ensures { rows_in result ≡ begun (Some kind) [] (set_at now.now port) }
+fn begin_rows<'r>(alloc: Global, kind: Kind, now: &Arrived<'r>, port: usize) -> Rows<'r, 'r>
+    requires { kind ≡ Input → port < length (arrived_in now.now) }
+    ensures { rows_in result ≡ begun (Some kind) [] (set_at (arrived_in now.now) port) }
 {
     match kind {
-        Kind::Input => Rows::Lent(&now[port]),
+        Kind::Input => now.at(alloc, port),
         Kind::Output | Kind::Table | Kind::Scratch => Rows::Own(RecordSet::new(alloc)),
     }
 }
 
 // Adds what a collection has.
-fn push_change<'a>(
-    held: &mut Vec<Change<'a>>,
+fn push_change<'r>(
+    held: &mut Vec<Change<'r, 'r>>,
     kept: bool,
-    rows: Rows<'a>,
-    gone: Rows<'a>,
+    rows: Rows<'r, 'r>,
+    gone: Rows<'r, 'r>,
 ) -> Result<(), AllocError>
     ensures many { OnOk result (length held.new.items ≡ length held.old.items + 1) }
     ensures held { OnOk result (held.new.items ≡ held.old.items ++ (record { kept = kept; rows = rows.entry; gone = gone.entry }) ∷ []) }
     ensures set { IsRecordSet (rows_in rows.entry) }
 {
     // for the proof alone: what holds of each set
-    let _set = rows.as_set();
+    rows.known();
     held.push(Change { kept, rows, gone })?;
     Ok(())
 }
 
 // What the collections have at the beginning of a step.
-fn begin<'a>(
+fn begin<'r>(
     alloc: Global,
     collections: &[Collection],
     parts: &Parts,
-    now: &'a [RecordSet],
-) -> Result<Vec<Change<'a>>, AllocError>
+    now: &Arrived<'r>,
+) -> Result<Vec<Change<'r, 'r>>, AllocError>
     requires lasting { length parts.now.lasting.items ≡ length collections.now }
     requires rows { length parts.now.rows.items ≡ length collections.now }
-    requires ports { length now.now ≡ length (of_kind Input collections.now) }
-    ensures begun { IfOk result (λ held. AreBegunAt collections.now parts.now.lasting.items now.now (length collections.now) held.items) }
+    requires ports { length (arrived_in now.now) ≡ length (of_kind Input collections.now) }
+    ensures begun { IfOk result (λ held. AreBegunAt collections.now parts.now.lasting.items (arrived_in now.now) (length collections.now) held.items) }
     ensures sets { OnOk result ((number : ℕ) → IsRecordSet (set_at parts.now.rows.items number)) }
 {
-    let mut held = Vec::new(alloc);
+    let mut held = Vec::with_capacity(alloc, collections.len())?;
     let mut port = 0;
     for (i, collection) in collections.iter().enumerate() {
         // for the proof alone: what holds of each set
@@ -106,14 +106,14 @@ fn begin<'a>(
 
 // What a head has: where it is kept what changes of it, else all, or where not the whole is asked for
 // all but what the tables of before gave.
-fn head_change<'a>(
+fn head_change<'r>(
     alloc: Global,
     rules: &[NumberedRule],
     head: u32,
     parts: &mut Parts,
-    held: &[Change<'_>],
+    held: &[Change<'_, 'r>],
     whole: bool,
-) -> Result<Change<'a>, SetFault>
+) -> Result<Change<'r, 'r>, SetFault>
     requires growing { head < length parts.old.growing.items }
     requires lasting { head < length parts.old.lasting.items }
     requires rows { head < length parts.old.rows.items }
@@ -142,68 +142,33 @@ fn head_change<'a>(
 }
 
 // Makes a change that of a collection.
-fn put_change<'a>(held: &mut Vec<Change<'a>>, number: usize, change: Change<'a>)
+fn put_change<'r>(held: &mut Vec<Change<'r, 'r>>, number: usize, change: Change<'r, 'r>)
     requires { number < length held.old.items }
     ensures held { held.new.items ≡ slice_set held.old.items number change.entry }
     ensures set { IsRecordSet (rows_in change.entry.rows) }
 {
     // for the proof alone: what holds of each set
-    let _set = change.rows.as_set();
+    change.rows.known();
     held[number] = change;
 }
 
-// Takes what a collection has, and leaves nothing in its place.
-fn take_rows<'a>(alloc: Global, held: &mut Vec<Change<'a>>, number: usize) -> Rows<'a>
-    requires { number < length held.old.items }
-    ensures taken { rows_in result ≡ set_at (held_sets held.old.items) number }
-    ensures left { held_sets held.new.items ≡ slice_set (held_sets held.old.items) number [] }
-{
-    let change = mem::replace(&mut held[number], Change::all(alloc, RecordSet::new(alloc)));
-    change.rows
-}
-
-// Adds what a collection has, where it is an output.
-fn push_out(kind: Kind, rows: Rows<'_>, outs: &mut Vec<RecordSet>) -> Result<(), AllocError>
-    ensures { OnOk result (outs.new.items ≡ outs.old.items ++ placed Output kind (rows_in rows.entry)) }
-{
-    if kind == Kind::Output {
-        outs.push(rows.into_set()?)?;
-    }
-    Ok(())
-}
-
-// What the outputs have.
-fn finish(
-    alloc: Global,
-    collections: &[Collection],
-    mut held: Vec<Change<'_>>,
-) -> Result<Outs, AllocError>
-    requires { length held.items ≡ length collections.now }
-    ensures { IfOk result (λ outs. outs ≡ sets_of_kind Output collections.now (held_sets held.entry.items)) }
-{
-    let mut outs = Vec::new(alloc);
-    for (i, collection) in collections.iter().enumerate() {
-        let rows = take_rows(alloc, &mut held, i);
-        push_out(collection.kind, rows, &mut outs)?;
-    }
-    Ok(Outs::from_sets(outs))
-}
-
-/// One step: what is kept becomes what is kept after it, and the answer is what it puts out, less rows
-/// which the tables of before already give. After a fault nothing is said of what is kept.
-pub(crate) fn step(
+/// One step: what is kept becomes what is kept after it, and the answer is what the collections have, of which
+/// the outputs put out theirs, less rows which the tables of before already give. After a fault nothing is said
+/// of what is kept.
+pub(crate) fn step<'r>(
     alloc: Global,
     program: &Checked,
     parts: &mut Parts,
-    now: &[RecordSet],
-) -> Result<Outs, StepFault>
+    now: &Arrived<'r>,
+) -> Result<Vec<Change<'r, 'r>>, StepFault>
     requires parts { PartsStand program.now parts.old }
-    requires ports { AreSetsOf (columns_of_kind Input program.now.form.collections) now.now }
+    requires ports { AreSetsOf (columns_of_kind Input program.now.form.collections) (arrived_in now.now) }
     ensures parts { OnOk result (PartsStand program.now parts.new) }
-    ensures tables { OnOk result (tables_in program.now parts.new.rows.items ≡ tables_after program.now (tables_in program.now parts.old.rows.items) now.now) }
-    ensures outs { IfOk result (λ outs. PutsOut program.now (tables_in program.now parts.old.rows.items) now.now outs) }
-    ensures few { OnOk result (AllFit (counted_sets program.now (tables_in program.now parts.old.rows.items) now.now)) }
-    ensures too_many { result ≡ Err TooManyRows → SomeIsOver (counted_sets program.now (tables_in program.now parts.old.rows.items) now.now) }
+    ensures tables { OnOk result (tables_in program.now parts.new.rows.items ≡ tables_after program.now (tables_in program.now parts.old.rows.items) (arrived_in now.now)) }
+    ensures many { IfOk result (λ held. length held.items ≡ length program.now.form.collections) }
+    ensures outs { IfOk result (λ held. PutsOut program.now (tables_in program.now parts.old.rows.items) (arrived_in now.now) (outs_in program.now held.items)) }
+    ensures few { OnOk result (AllFit (counted_sets program.now (tables_in program.now parts.old.rows.items) (arrived_in now.now))) }
+    ensures too_many { result ≡ Err TooManyRows → SomeIsOver (counted_sets program.now (tables_in program.now parts.old.rows.items) (arrived_in now.now)) }
 {
     let written = program.module();
     let collections = written.collections.as_slice();
@@ -216,5 +181,5 @@ pub(crate) fn step(
         let change = head_change(alloc, rules, *head, parts, &held, whole)?;
         put_change(&mut held, number, change);
     }
-    Ok(finish(alloc, collections, held)?)
+    Ok(held)
 }

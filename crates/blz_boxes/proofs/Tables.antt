@@ -25,11 +25,6 @@ empties cs = map (λ columns. []) (columns_of_kind Table cs)
 abbrev pub empty_if : Kind → Sets
 empty_if kind = if same_kind Table kind then [] ∷ [] else []
 
--- empty sets have every width
-pub empties_wide : (columns : List (List Name)) → AreSetsOf columns (map (λ names. []) columns)
-empties_wide [] = tt
-empties_wide (names ∷ columns) = (λ i row lt. absurd (omega (arith, lt)), empties_wide columns)
-
 -- emptied sets are as many as there were
 -- no rows for each name
 abbrev pub none_each : {X : Type 0} → List X → Sets

@@ -4,6 +4,7 @@ pub mod Loops
 pub mod Feeds
 pub mod Whole
 pub mod Records
+pub mod Touching
 pub mod Released
 pub mod Batches
 pub mod Hears

@@ -16,6 +16,10 @@ pub mod OutputSets
 pub mod Emitting
 pub mod OutletsLemmas
 pub mod RunningLemmas
+pub mod EntryTimesteps
+pub mod SteppedByIds
+pub mod EntriesOn
+pub mod PutsRead
 pub mod OutletLoops
 pub mod SettingOff
 pub mod PlacesFound

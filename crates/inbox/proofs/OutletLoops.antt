@@ -1,29 +1,23 @@
 -- Emission one by one: an outlet more.
-use Rattle.std.proofs.Common.{◌≡◌, ◌<◌, ◌≤◌, ◌+◌, ◌⊎◌, ℕ, None, Some, List, [], ◌∷◌, length, take, drop, set, get_or, refl, ap, ◌∙◌, sym, subst, inl, inr, arith, slice_get}
+use Rattle.std.proofs.Common.{◌≡◌, ◌<◌, ◌+◌, ℕ, List, length, take, drop, set, get_or, refl, ap, ◌∙◌, sym, subst, arith}
 use Rattle.std.specs.List.{All}
-use Rattle.std.proofs.lemmas.List.{length-set, take-append-drop, get_or_past}
-use Rattle.std.proofs.lemmas.Option.{slice_get_cases}
+use Rattle.std.proofs.lemmas.List.{length-set, take-append-drop}
 use Rattle.blz_value.specs.Members.{Has}
 use Rattle.blz_value.specs.Record.{Row}
 use Rattle.blz_value.proofs.Membership.{Has-append_right, All-of_member}
 use Rattle.blz_value.proofs.Lists.{rest_is}
+use Rattle.bloom_eval.specs.Puts.{puts_in, ArePutFrom}
+use Rattle.bloom_eval.specs.declared.puts.Put.{Put}
 use Rattle.bloom_forms.specs.Step.{Sets, set_at}
 use Rattle.topo_forms.specs.Messages.{Message}
 use Rattle.inbox.specs.Emission.{with_rows, with_seals}
-use Rattle.messages.specs.Lists.{message_limit, Listed, read_lists, list_at, total, OneListBecomes}
+use Rattle.inbox.specs.Growth.{Continues}
+use Rattle.messages.specs.Lists.{message_limit, Listed, read_lists, list_at, total}
 use Rattle.inbox.specs.Outlets.{emit_outlets, seal_outlets}
 use Rattle.inbox.specs.declared.outlets.Outlet.{Outlet}
-use Rattle.messages.proofs.ListLoops.{becomes_itself}
 use Rattle.messages.proofs.ListsLemmas.{length-read_lists}
+use Rattle.inbox.proofs.EntriesOn.{puts_on}
 use Rattle.inbox.proofs.OutletsLemmas.{total-emitted, total-sealed}
-
--- nothing is put out
-pub becomes_none : (l : Listed) (place : ℕ) (outs : Sets) (output : ℕ) → None ≡ slice_get outs output → OneListBecomes l l place (with_rows (list_at (read_lists l) place) (set_at outs output))
-becomes_none l place outs output none = subst (λ rows. OneListBecomes l l place (with_rows (list_at (read_lists l) place) rows)) (sym (get_or_past outs output [] (past (slice_get_cases outs output).1))) (becomes_itself l place)
-  where
-    past : ((x : List Row) × (output < length outs) × (slice_get outs output ≡ Some x) × (get_or outs output x ≡ x)) ⊎ ((length outs ≤ output) × (slice_get outs output ≡ None)) → length outs ≤ output
-    past (inl t) = let no : None ≡ Some t.0 = none ∙ t.2 in cc
-    past (inr t) = t.0
 
 -- ---- outlet by outlet
 
@@ -36,6 +30,16 @@ emitted_more outlets index o outs lists next last within at before is =
     ∙ sym (ap (λ l. emit_outlets l outs lists) (rest_is outlets index o within at))
     ∙ before
 
+-- an outlet more of what is put out, read in a pool that went on
+pub put_more : (outlets : List Outlet) (index : ℕ) (o : Outlet) (puts : List Put) (records : List Row) (now : Listed) (next last : List (List Message)) → index < length outlets → o ≡ get_or outlets index o
+    → Continues records now.records → ArePutFrom records puts
+    → emit_outlets (drop index outlets) (puts_in records puts) (read_lists now) ≡ last
+    → next ≡ set (read_lists now) o.place (with_rows (list_at (read_lists now) o.place) (set_at (puts_in now.records puts) o.output))
+    → emit_outlets (drop (index + 1) outlets) (puts_in records puts) next ≡ last
+put_more outlets index o puts records now next last within at on given before is =
+    emitted_more outlets index o (puts_in records puts) (read_lists now) next last within at before
+    (is ∙ ap (λ outs. set (read_lists now) o.place (with_rows (list_at (read_lists now) o.place) (set_at outs o.output))) (puts_on records now.records puts on given))
+
 pub emitted_over : (outlets : List Outlet) (index : ℕ) (o : Outlet) (outs : Sets) (lists last : List (List Message)) → index < length outlets → o ≡ get_or outlets index o
     → ((p : Outlet) → Has p outlets → p.place < length lists)
     → emit_outlets (drop index outlets) outs lists ≡ last → message_limit < total (set lists o.place (with_rows (list_at lists o.place) (set_at outs o.output)))
@@ -47,6 +51,15 @@ emitted_over outlets index o outs lists last within at places before over =
   where
     Has-drop : (p : Outlet) (xs : List Outlet) (n : ℕ) → Has p (drop n xs) → Has p xs
     Has-drop p xs n h = subst (λ l. Has p l) (take-append-drop n xs) (Has-append_right p (take n xs) (drop n xs) h)
+
+pub put_over : (outlets : List Outlet) (index : ℕ) (o : Outlet) (puts : List Put) (records : List Row) (now : Listed) (last : List (List Message)) → index < length outlets → o ≡ get_or outlets index o
+    → ((p : Outlet) → Has p outlets → p.place < length (read_lists now)) → Continues records now.records → ArePutFrom records puts
+    → emit_outlets (drop index outlets) (puts_in records puts) (read_lists now) ≡ last
+    → message_limit < total (set (read_lists now) o.place (with_rows (list_at (read_lists now) o.place) (set_at (puts_in now.records puts) o.output)))
+    → message_limit < total last
+put_over outlets index o puts records now last within at places on given before over =
+    emitted_over outlets index o (puts_in records puts) (read_lists now) last within at places before
+    (subst (λ outs. message_limit < total (set (read_lists now) o.place (with_rows (list_at (read_lists now) o.place) (set_at outs o.output)))) (puts_on records now.records puts on given) over)
 
 pub sealed_more : (outlets : List Outlet) (index : ℕ) (o : Outlet) (keys : List Row) (lists next last : List (List Message)) → index < length outlets → o ≡ get_or outlets index o
     → seal_outlets (drop index outlets) keys lists ≡ last → next ≡ set lists o.place (with_seals o.key (list_at lists o.place) keys)

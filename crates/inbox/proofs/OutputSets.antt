@@ -1,9 +1,9 @@
 -- What a step puts out is sets: each output is in record order, without repeats.
-use Rattle.std.proofs.Common.{◌≡◌, ◌<◌, ◌≤◌, ℕ, zero, suc, Bool, true, false, cond, Some, List, [], ◌∷◌, length, map, filter, set, get_or, refl, ap, ◌∙◌, sym, subst, inl, inr, arith}
+use Rattle.std.proofs.Common.{◌≡◌, ◌<◌, ℕ, zero, suc, Bool, true, false, cond, Some, List, [], ◌∷◌, length, map, filter, set, get_or, refl, ap, ◌∙◌, sym, subst, inl, inr, arith}
 use Rattle.std.specs.List.{fold, zip, flat_map, list_any}
 use Rattle.std.specs.Ordering.{eq_by_cmp}
 use Rattle.std.proofs.lemmas.Bool.{cases_eq, cases_lt}
-use Rattle.std.proofs.lemmas.List.{get_or-set_same, get_or-set_other, get_or_past, set_past}
+use Rattle.std.proofs.lemmas.List.{get_or-set_same, get_or-set_other, set_past}
 use Rattle.std.proofs.lemmas.List.FromFn.{get_or-map-range_with_len}
 use Rattle.blz_value.specs.Operators.{cells}
 use Rattle.blz_value.specs.Record.{Row, record_cmp}
@@ -88,11 +88,3 @@ output_is_set (Latest columns keys) kept now output =
     let in_order = keys_in_order (length columns) keys in
     only_set (latest_out in_order (latest_kept in_order (set_at kept 0) (set_at now 0)) (set_at now 1)) output (sorted_set_of (filter (λ row. list_any (eq_by_cmp record_cmp (cells in_order row)) (set_at now 1)) (latest_kept in_order (set_at kept 0) (set_at now 0))))
 output_is_set (Number columns) kept now output = only_set (number_out (set_at kept 0) (set_at now 0)) output (sorted_set_of (numbered (set_at kept 0) (set_at now 0)))
-
--- ---- sets of outputs
-
-pub sets_all : (outs : Sets) (items : List (List Row)) (i : ℕ) → items ≡ outs → length items ≤ i → ((k : ℕ) → k < i → IsRowSet (set_at outs k)) → (n : ℕ) → IsRowSet (set_at outs n)
-sets_all outs items i same past all n = elim (cases_lt n i) [
-  | inl within ↦ all n within
-  | inr more ↦ subst IsRowSet (sym (get_or_past outs n [] (omega (arith, past, more, ap length same)))) (sorted_set_of [])
-]

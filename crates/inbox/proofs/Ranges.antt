@@ -1,5 +1,5 @@
 -- Lists over the numbers below a count, by one more number.
-use Rattle.std.proofs.Common.{◌≡◌, ◌+◌, ◌<◌, sym, inl, inr, true, false, ℕ, Bool, [], ◌∷◌, ◌++◌, ◌∙◌}
+use Rattle.std.proofs.Common.{◌≡◌, ◌<◌, sym, inl, inr, true, false, ℕ, Bool, ◌∙◌}
 use Rattle.std.specs.List.{range_with_len, list_any, list_all}
 use Rattle.std.proofs.lemmas.Bool.{cases_Bool}
 use Rattle.blz_value.proofs.Membership.{Has-from_any, all_from, all_member}

@@ -1,7 +1,8 @@
 -- What is set off is emitted whole: its timesteps one after the other, and then its seals.
-use Rattle.std.proofs.Common.{◌≡◌, ◌<◌, ◌≤◌, ◌+◌, ℕ, Bool, true, false, Option, None, Some, List, [], ap, ◌∙◌, sym, subst, arith, append-nil, nat_lt}
+use Rattle.std.proofs.Common.{◌≡◌, ◌<◌, ◌≤◌, ◌+◌, ℕ, Bool, true, false, Option, None, Some, List, [], ◌∷◌, set, refl, Result, Ok, Err, IsErrAnd, ap, ◌∙◌, sym, subst, arith, append-nil, nat_lt}
 use Rattle.std.specs.Prelude.{if◌then◌else◌}
 use Rattle.std.specs.List.{fold}
+use Rattle.std.proofs.lemmas.List.{set-get_or}
 use Rattle.std.proofs.lemmas.Bool.Decides.{nat_tests}
 use Rattle.blz_value.specs.Record.{Row}
 use Rattle.bloom_forms.specs.declared.program.Program.{Program}
@@ -9,11 +10,15 @@ use Rattle.bloom_forms.specs.Step.{Sets}
 use Rattle.topo_forms.specs.Messages.{Message}
 use Rattle.inbox.specs.Instances.{Instance}
 use Rattle.inbox.specs.Timesteps.{SetOff}
-use Rattle.inbox.specs.Emission.{Kept, seal_all, emit_step, emit_of}
-use Rattle.inbox.specs.Limits.{Limit, too_many_messages, message_limit, limit_in, limit_of, limit_at_seals, messages_in}
-use Rattle.messages.specs.Lists.{total}
+use Rattle.inbox.specs.Emission.{Kept, with_seals, seal_all, emit_step, emit_of}
+use Rattle.inbox.specs.Limits.{Limit, too_many_rows, too_many_messages, message_limit, limit_in, limit_of, limit_at_seals, messages_in}
+use Rattle.messages.specs.Faults.{IsLegal}
+use Rattle.messages.specs.Lists.{list_at, total}
+use Rattle.messages.specs.declared.fault.EventFault.{EventFault}
+use Rattle.messages.specs.declared.fault.EventFault.TheVariants.{NoInstance, NoMessage, NothingToTake, TooManyRows, TooManyMessages, NoMemory}
+use Rattle.messages.proofs.FaultLemmas.{handed_on}
 use Rattle.inbox.specs.Outlets.{seal_outlets, ShowsOutlets, own_messages}
-use Rattle.inbox.specs.Code.Running.{IsCourse, GoesOnTo, GoesOn, MeetsLimit, outputs_of_outlets, HaveOwnKeys, IsCourseOf, HasEmitted, Emits, MeetsFirst}
+use Rattle.inbox.specs.Code.Running.{IsCourse, GoesOnTo, GoesOn, MeetsLimit, HasMet, outputs_of_outlets, HaveOwnKeys, IsCourseOf, HasEmitted, Emits, MeetsFirst}
 use Rattle.inbox.specs.declared.outlets.Outlet.{Outlet}
 use Rattle.inbox.proofs.Emitting.{standing-sealed}
 use Rattle.inbox.proofs.OutletsLemmas.{seals-show, others-sealed, others-count, own-shown}
@@ -99,4 +104,47 @@ seals_meet first outlets tables next before between s goes over i others kept of
 
 -- a limit in the timesteps is that of all
 pub steps_meet : (limit : Limit) (first : Option Program) (outlets : List Outlet) (tables : Sets) (before : List (List Message)) (s : SetOff) → MeetsLimit limit first outlets tables before s.steps → MeetsFirst limit first outlets tables before s
-steps_meet limit first outlets tables before s meets i others kept of = ap (λ o. limit_of o i s (outputs_of_outlets outlets) others kept) of.runs ∙ meets of.program others kept of.course i s
+steps_meet limit first outlets tables before s meets i others kept of = ap (λ o. limit_of o i s (outputs_of_outlets outlets) others kept) of.runs ∙ ap (limit_in of.program i s (outputs_of_outlets outlets) others kept) (sym (append-nil s.steps)) ∙ meets of.program others kept of.course i s []
+
+-- ---- a fault that is met in the timesteps
+
+-- the fault of an answer that hands it on
+handed_is : (answer : Result (Unit {0}) EventFault) (fault other : EventFault) → IsErrAnd answer (λ d. d ≡ fault) → answer ≡ Err other → fault ≡ other
+handed_is (Ok x) fault other handed e = absurd handed
+handed_is (Err d) fault other handed e = let same : d ≡ other = cc in sym handed ∙ same
+
+-- what the answer says
+module _ (answer : Result (Unit {0}) EventFault) (fault : EventFault) (first : Option Program) (outlets : List Outlet) (tables : Sets) (before : List (List Message)) (s : SetOff) (handed : IsErrAnd answer (λ d. d ≡ fault)) (met : HasMet fault first outlets tables before s.steps) where
+  pub first_rows : answer ≡ Err TooManyRows → MeetsFirst too_many_rows first outlets tables before s
+  first_rows e =
+      let same : fault ≡ TooManyRows = handed_is answer fault TooManyRows handed e in
+      steps_meet too_many_rows first outlets tables before s (subst (λ f. HasMet f first outlets tables before s.steps) same met)
+
+  pub first_messages : answer ≡ Err TooManyMessages → MeetsFirst too_many_messages first outlets tables before s
+  first_messages e =
+      let same : fault ≡ TooManyMessages = handed_is answer fault TooManyMessages handed e in
+      steps_meet too_many_messages first outlets tables before s (subst (λ f. HasMet f first outlets tables before s.steps) same met)
+
+  pub first_legal : IsLegal answer
+  first_legal = handed_on IsLegal answer fault handed (legal fault met)
+    where
+      legal : (f : EventFault) → HasMet f first outlets tables before s.steps → IsLegal {X = Unit {0}} (Err f)
+      legal NoInstance m = m
+      legal NoMessage m = m
+      legal NothingToTake m = m
+      legal TooManyRows m = tt
+      legal TooManyMessages m = tt
+      legal NoMemory m = tt
+
+-- ---- no seals
+
+-- where no partition became whole, the lists stay
+pub sealed_none : (outlets : List Outlet) (lists : List (List Message)) → lists ≡ seal_outlets outlets [] lists
+sealed_none [] lists = refl
+sealed_none (o ∷ outlets) lists =
+    sealed_none outlets lists
+    ∙ ap (seal_outlets outlets []) (sym (set-get_or lists o.place []) ∙ ap (set lists o.place) (none_with o.key (list_at lists o.place)))
+  where
+    none_with : (key : Option (List ℕ)) (list : List Message) → list ≡ with_seals key list []
+    none_with None list = refl
+    none_with (Some places) list = refl

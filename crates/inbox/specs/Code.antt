@@ -3,6 +3,7 @@ pub mod Senders
 pub mod Places
 pub mod Waiting
 pub mod Heard
+pub mod Touching
 pub mod Batches
 pub mod Running
 pub mod Sources

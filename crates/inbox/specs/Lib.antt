@@ -20,3 +20,4 @@ pub mod StreamLaws
 pub mod Limits
 pub mod Places
 pub mod Outlets
+pub mod SetOffs

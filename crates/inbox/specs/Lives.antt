@@ -6,7 +6,8 @@ use Rattle.topo_forms.specs.Messages.{Message}
 use Rattle.messages.specs.Messages.{Batch, Entry}
 use Rattle.topo_forms.specs.View.{is_order_mode}
 use Rattle.inbox.specs.Instances.{Instance}
-use Rattle.inbox.specs.Timesteps.{SetOff, timestep_of, each_set_off}
+use Rattle.bloom_eval.specs.Arrivals.{timestep_of}
+use Rattle.inbox.specs.Timesteps.{SetOff, each_set_off}
 use Rattle.inbox.specs.Emission.{Kept, list_of, emit, begin_life, nothing_emitted}
 
 -- a life: the batches that were heard in it, or of an Order replica how many entries it took in it

@@ -4,7 +4,8 @@ use Rattle.blz_pool.specs.Pool.{IsPool, with_record}
 use Rattle.blz_value.specs.Record.{Row}
 use Rattle.messages.specs.Messages.{Batch}
 use Rattle.inbox.specs.Instances.{Instance}
-use Rattle.messages.specs.Log.{EntryId, AreGiven, row_with_id, entries_with_ids}
+use Rattle.blz_pool.specs.Entries.{EntryId, row_with_id, entries_with_ids}
+use Rattle.messages.specs.Log.{AreGiven}
 use Rattle.inbox.specs.Inbox.{HasHeard, IsFrom}
 use Rattle.inbox.specs.declared.inbox.Inbox.{Inbox}
 

@@ -1,6 +1,6 @@
 -- A batch of messages sets off timesteps: at once, or under Seal where a partition is whole.
 use Rattle.std.specs.Prelude.{◌≡◌, ℕ, ◌==◌, ◌&&◌, ◌++◌, Bool, true, false, not, nat_le, List, [], ◌∷◌, map, filter, length}
-use Rattle.std.specs.List.{list_any, list_all, flat_map, range_with_len}
+use Rattle.std.specs.List.{list_any, list_all, flat_map}
 use Rattle.std.specs.Option.{option_map_or}
 use Rattle.blz_value.specs.Members.{Has}
 use Rattle.blz_value.specs.Record.{Row}
@@ -10,13 +10,10 @@ use Rattle.bloom_forms.specs.declared.mode.Mode.{Mode}
 use Rattle.bloom_forms.specs.declared.mode.Mode.TheVariants.{Free, Pass, Seal, Order}
 use Rattle.topo_forms.specs.Messages.{Message, row, seal, is_same_row}
 use Rattle.messages.specs.Messages.{Pair, Batch, Entry, is_same_entry, sealed_in, all_pairs, firsts}
+use Rattle.bloom_eval.specs.Arrivals.{timestep_of}
 use Rattle.inbox.specs.Instances.{Instance, is_carrying, carrying_feeds, entries_of, key_of_entry, is_of_key}
 
 -- ---- what arrives in a timestep
-
--- the timestep with these entries: one set for each port, with the records of the entries at it
-abbrev pub timestep_of : (ports : ℕ) → List Entry → Sets
-timestep_of ports entries = map (λ port. set_of (map (λ entry. entry.1) (filter (λ entry. entry.0 == port) entries))) (range_with_len 0 ports)
 
 -- one timestep with all of these entries, where there is one
 abbrev pub one_timestep : (ports : ℕ) → List Entry → List Sets

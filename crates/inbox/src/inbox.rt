@@ -1,5 +1,5 @@
 //! What an instance heard, and what waits in it.
-ghost use Rattle.std.specs.Prelude.{◌≡◌, ◌<◌, ◌++◌, ◌∷◌, [], ℕ, Bool, true, false, not, List, length, map, filter, All, IfOk, OnOk, if◌then◌else◌};
+ghost use Rattle.std.specs.Prelude.{◌≡◌, ◌<◌, ◌++◌, ◌∷◌, [], ℕ, Bool, true, false, List, Option, Some, length, filter, All, IfOk, OnOk, if◌then◌else◌};
 ghost use Rattle.std.specs.List.{filter_map, cons_option};
 ghost use Rattle.std.specs.Option.{option_map};
 ghost use Rattle.blz_value.specs.Record.{Row};
@@ -9,31 +9,48 @@ ghost use Rattle.topo_forms.specs.Messages.{row, seal};
 ghost use Rattle.topo_forms.specs.View.{replicas_of, is_order};
 ghost use Rattle.inbox.specs.Wiring.{instance_for};
 ghost use Rattle.inbox.specs.Code.Heard.{is_sealing};
+ghost use Rattle.inbox.specs.Code.Touching.{touches_in};
 ghost use Rattle.messages.specs.Ids.{IsGiven, pair_with_id, batch_with_ids};
 ghost use Rattle.messages.specs.Messages.{Pair, Batch, Entry, all_pairs};
 ghost use Rattle.inbox.specs.Instances.{Instance};
-ghost use Rattle.inbox.specs.Timesteps.{set_off, held_count, one_timestep};
-ghost use Rattle.messages.specs.Log.{row_with_id, entries_with_ids};
-ghost use Rattle.messages.specs.Feeds.{port_count, port_in, key_in, carries_in, is_whole_in};
+ghost use Rattle.inbox.specs.Timesteps.{set_off, held_count};
+ghost use Rattle.inbox.specs.SetOffs.{going_entries, set_off_read, AreGivenTo};
+ghost use Rattle.blz_pool.specs.Entries.{row_with_id};
 
 use crate::instance::{feeds_of, key_of, ports_of, ports_of_feeds};
-use crate::step::{push_one_by_one, push_some, timestep, together};
+use crate::set_off::{Going, Released, SetOff};
 use crate::waiting::Waiting;
-use bloom_eval::Arrivals;
 use bloom_forms::Mode;
 use blz_pool::{Id, Pool};
 use blz_value::{Items, Record};
 use messages::{Feeds, Message};
 use std::alloc::{AllocError, Global};
-use std::collections::BTreeSet;
 use topo_forms::Valid;
 
-/// What a batch sets off: its timesteps, and the keys of the partitions that it completes, in the
-/// order of key values.
+// What a message touches: the number of its partition, where it has one, and whether a record of it
+// waits.
+#[derive(Clone, Copy, Drop)]
+struct Touched {
+    number: Option<usize>,
+    waits: bool,
+}
+
+// What the messages of a batch touch. One alone takes no list.
 #[derive(Drop)]
-pub struct Timesteps {
-    pub steps: Items<Arrivals>,
-    pub whole: Items<Record>,
+enum Touches {
+    One(Option<Touched>),
+    Many(Vec<Touched>),
+}
+
+impl Touches {
+    fn as_slice(&self) -> &[Touched]
+        ensures { result.now ≡ touches_in self.now }
+    {
+        match self {
+            Touches::One(touched) => touched.as_slice(),
+            Touches::Many(touched) => touched.as_slice(),
+        }
+    }
 }
 
 /// What an instance heard. It counts, for each feed and partition, the distinct records, and keeps
@@ -44,6 +61,28 @@ pub struct Inbox {
     sealing: bool,
     feeds: Feeds,
     waiting: Waiting,
+}
+
+// Puts an item behind others, where there is one.
+fn push_some<T: Drop>(item: Option<T>, items: &mut Vec<T>) -> Result<(), AllocError>
+    ensures { OnOk result (items.new.items ≡ items.old.items ++ cons_option item []) }
+{
+    if let Some(item) = item {
+        items.push(item)?;
+    }
+    Ok(())
+}
+
+// Some key values, each once, in order.
+fn in_order(mut keys: Vec<Record>) -> Vec<Record>
+    ensures { result.items ≡ set_of keys.items }
+{
+    if keys.len() <= 1 {
+        return keys;
+    }
+    keys.sort_unstable();
+    keys.dedup();
+    keys
 }
 
 fn is_sealing(mode: Mode) -> bool
@@ -57,9 +96,9 @@ fn is_sealing(mode: Mode) -> bool
 
 impl Inbox {
     ghost use Rattle.inbox.specs.Inbox.{HasHeard, IsFrom, Keeps, feeds_in};
-    ghost use Rattle.inbox.specs.Code.Batches.{WaitsWith, AllWaitWith, key_by, if_open, open_key, with_key, entry_id_of, entry_ids_of, goes_in, is_open, HearsIf, HearsRecord, Releases, steps_released};
+    ghost use Rattle.inbox.specs.Code.Batches.{IsNumbered, IsNumberIn, IsTouched, AreTouched, IsSeenAs, IsHeardAs, AreHeardAs, key_by, became_key, entry_id_of, entry_ids_of, goes_if, goes_in, HearsIf, HearsRecord, AreParted, Releases};
     ghost use Rattle.inbox.specs.Code.Waiting.{KeepsEntry};
-    ghost use Rattle.messages.specs.Whole.{feeds_view};
+    ghost use Rattle.messages.specs.Whole.{feeds_view, partitions, key_at};
 
     /// The inbox of an instance that heard nothing. An instance of an Order component hears through
     /// the component's log and has none. The error is want of memory.
@@ -102,192 +141,179 @@ impl Inbox {
         self.waiting.clear();
     }
 
-    // The key value of a message's partition.
-    fn key_of(
-        &self,
-        pool: &Pool,
-        feed: u32,
-        message: &Message,
-    ) -> Result<Option<Record>, AllocError>
-        requires feed { feed < feeds_in self.now }
-        requires given { IsGiven pool.now message.now }
-        ensures { IfOk result (λ key. let pair = pair_with_id pool.now (feed, message.now) in key ≡ key_by (feeds_view self.now.feeds) pair.0 pair.1) }
-    {
-        match message {
-            Message::Row(id) => self.feeds.key_of(self.feeds.port_of(feed), pool.get(*id)),
-            Message::Seal { key, .. } => Ok(Some(key.copy()?)),
-        }
-    }
-
-    // A partition, where it isn't whole.
-    fn if_open(&self, key: Option<Record>) -> Option<Record>
-        ensures { result ≡ if_open (feeds_view self.now.feeds) key }
+    // The number of a partition, where there is one.
+    fn number_if(&mut self, key: Option<&Record>) -> Result<Option<usize>, AllocError>
+        ensures seen { IsSeenAs self.old self.new }
+        ensures number { IfOk result (λ number. IsNumbered (partitions self.new.feeds) (option_map (λ k. k.now) key.entry) number) }
     {
         match key {
-            Some(key) if !self.feeds.is_whole(&key) => Some(key),
-            _ => None,
+            None => Ok(None),
+            Some(key) => Ok(Some(self.feeds.number_of(key)?)),
         }
     }
 
-    // Adds the partition of a message to others, where it isn't whole.
-    fn add_open(
-        &self,
+    // The number of a message's partition, where it has one.
+    fn number_of(
+        &mut self,
         pool: &Pool,
         feed: u32,
         message: &Message,
-        partial: &mut BTreeSet<Record>,
-    ) -> Result<(), AllocError>
-        requires feed { feed < feeds_in self.now }
+    ) -> Result<Option<usize>, AllocError>
+        requires feed { feed < feeds_in self.old }
         requires given { IsGiven pool.now message.now }
-        ensures { OnOk result (partial.new.keys ≡ with_key partial.old.keys (open_key (feeds_view self.now.feeds) (pair_with_id pool.now (feed, message.now)))) }
+        ensures seen { IsSeenAs self.old self.new }
+        ensures number { IfOk result (λ number. let pair = pair_with_id pool.now (feed, message.now) in IsNumbered (partitions self.new.feeds) (key_by (feeds_view self.new.feeds) pair.0 pair.1) number) }
     {
-        let key = self.key_of(pool, feed, message)?;
-        if let Some(key) = self.if_open(key) {
-            let _ = partial.insert(key)?;
+        match message {
+            Message::Row(id) => {
+                let port = self.feeds.port_of(feed);
+                let key = self.feeds.key_of(port, pool.get(*id))?;
+                self.number_if(key.as_ref())
+            }
+            Message::Seal { key, .. } => self.number_if(Some(key)),
         }
-        Ok(())
     }
 
-    // The partitions of a batch that aren't whole before it.
-    #[tactic(auto, using(std::proofs::lemmas::Grind::common_steps, std::proofs::lemmas::List::take_more, crate::proofs::Keeping::Loops::open_keys_more))]
-    fn open_keys(
-        &self,
+    // What a message touches, before its batch is heard.
+    fn touch(&mut self, pool: &Pool, feed: u32, message: &Message) -> Result<Touched, AllocError>
+        requires feed { feed < feeds_in self.old }
+        requires given { IsGiven pool.now message.now }
+        ensures seen { IsSeenAs self.old self.new }
+        ensures touched { IfOk result (λ touched. let pair = pair_with_id pool.now (feed, message.now) in IsTouched (feeds_view self.new.feeds) (partitions self.new.feeds) (key_by (feeds_view self.new.feeds) pair.0 pair.1) touched) }
+    {
+        let number = self.number_of(pool, feed, message)?;
+        let waits = !self.feeds.is_due(number);
+        Ok(Touched { number, waits })
+    }
+
+    // The same of each message of a batch, in a list.
+    fn touch_all(
+        &mut self,
         pool: &Pool,
         batch: &[(u32, Message)],
-    ) -> Result<BTreeSet<Record>, AllocError>
-        requires feeds { All (λ pair. pair.0 < feeds_in self.now) batch.now }
+    ) -> Result<Vec<Touched>, AllocError>
+        requires feeds { All (λ pair. pair.0 < feeds_in self.old) batch.now }
         requires given { All (λ pair. IsGiven pool.now pair.1) batch.now }
-        ensures { IfOk result (λ partial. partial.keys ≡ set_of (filter_map (open_key (feeds_view self.now.feeds)) (batch_with_ids pool.now batch.now))) }
+        ensures seen { OnOk result (IsSeenAs self.old self.new) }
+        ensures touched { IfOk result (λ touched. AreTouched pool.now (feeds_view self.new.feeds) (partitions self.new.feeds) batch.now touched.items) }
     {
-        let mut partial = BTreeSet::new(self.alloc);
+        let mut touched = Vec::new(self.alloc);
         for (feed, message) in batch {
-            self.add_open(pool, *feed, message, &mut partial)?;
+            touched.push(self.touch(pool, *feed, message)?)?;
         }
-        Ok(partial)
+        Ok(touched)
+    }
+
+    // The same. A message alone makes no list.
+    fn touches(&mut self, pool: &Pool, batch: &[(u32, Message)]) -> Result<Touches, AllocError>
+        requires feeds { All (λ pair. pair.0 < feeds_in self.old) batch.now }
+        requires given { All (λ pair. IsGiven pool.now pair.1) batch.now }
+        ensures seen { OnOk result (IsSeenAs self.old self.new) }
+        ensures touched { IfOk result (λ touches. AreTouched pool.now (feeds_view self.new.feeds) (partitions self.new.feeds) batch.now (touches_in touches)) }
+    {
+        if let [(feed, message)] = batch {
+            return Ok(Touches::One(Some(self.touch(pool, *feed, message)?)));
+        }
+        Ok(Touches::Many(self.touch_all(pool, batch)?))
     }
 
     // Whether a record that comes goes with its batch.
-    fn goes(&self, pool: &Pool, port: u32, id: Id) -> Result<bool, AllocError>
-        requires { id < length pool.now }
-        ensures { IfOk result (λ goes. goes ≡ goes_in pool.now self.now (port, id)) }
+    fn goes(&self, port: u32, id: Id, waits: bool) -> bool
+        ensures { result ≡ goes_if self.now waits (port, id) }
     {
-        if !self.sealing {
-            return Ok(true);
-        }
-        if self.waiting.knows(port, id) {
-            return Ok(false);
-        }
-        let key = self.feeds.key_of(port, pool.get(id))?;
-        Ok(self.feeds.is_due(key.as_ref()))
+        !self.sealing || !(waits || self.waiting.knows(port, id))
     }
 
     // The record of a message with its port, where it goes with its batch.
-    fn entry_going(
-        &self,
-        pool: &Pool,
-        feed: u32,
-        message: &Message,
-    ) -> Result<Option<(u32, Id)>, AllocError>
-        requires feed { feed < feeds_in self.now }
-        requires given { IsGiven pool.now message.now }
-        ensures { IfOk result (λ entry. cons_option entry [] ≡ filter (goes_in pool.now self.now) (cons_option (entry_id_of (feeds_view self.now.feeds) (feed, message.now)) [])) }
+    fn entry_going(&self, feed: u32, message: &Message, touched: Touched) -> Option<(u32, Id)>
+        requires { feed < feeds_in self.now }
+        ensures { cons_option result [] ≡ filter (goes_if self.now touched.waits) (cons_option (entry_id_of (feeds_view self.now.feeds) (feed, message.now)) []) }
     {
         if let Message::Row(id) = message {
             let port = self.feeds.port_of(feed);
-            if self.goes(pool, port, *id)? {
-                return Ok(Some((port, *id)));
+            if self.goes(port, *id, touched.waits) {
+                return Some((port, *id));
             }
         }
-        Ok(None)
+        None
     }
 
-    // The records of a batch that go with it.
-    #[tactic(auto, using(std::proofs::lemmas::Grind::common_steps, std::proofs::lemmas::List::take_more, crate::proofs::Keeping::Loops::entry_ids_more))]
-    fn going(&self, pool: &Pool, batch: &[(u32, Message)]) -> Result<Vec<(u32, Id)>, AllocError>
+    // The records of a batch that go with it, in a list.
+    fn all_going(
+        &self,
+        batch: &[(u32, Message)],
+        touched: &[Touched],
+    ) -> Result<Vec<(u32, Id)>, AllocError>
         requires feeds { All (λ pair. pair.0 < feeds_in self.now) batch.now }
-        requires given { All (λ pair. IsGiven pool.now pair.1) batch.now }
-        ensures { IfOk result (λ going. going.items ≡ filter (goes_in pool.now self.now) (entry_ids_of (feeds_view self.now.feeds) batch.now)) }
+        requires as_many { length touched.now ≡ length batch.now }
+        ensures { IfOk result (λ going. (records : List Row) → AreTouched records (feeds_view self.now.feeds) (partitions self.now.feeds) batch.now touched.now → going.items ≡ filter (goes_in records self.now) (entry_ids_of (feeds_view self.now.feeds) batch.now)) }
     {
         let mut going = Vec::new(self.alloc);
-        for (feed, message) in batch {
-            let entry = self.entry_going(pool, *feed, message)?;
+        for at in 0..batch.len() {
+            let pair = &batch[at];
+            let entry = self.entry_going(pair.0, &pair.1, touched[at]);
             push_some(entry, &mut going)?;
         }
         Ok(going)
     }
 
-    // The timestep of what goes with a batch, where there is one. A message alone makes no list.
-    fn step_going(
-        &self,
-        pool: &Pool,
-        batch: &[(u32, Message)],
-    ) -> Result<Option<Arrivals>, AllocError>
+    // The records of a batch that go with it. A message alone makes no list.
+    fn going(&self, batch: &[(u32, Message)], touched: &[Touched]) -> Result<Going, AllocError>
         requires feeds { All (λ pair. pair.0 < feeds_in self.now) batch.now }
-        requires given { All (λ pair. IsGiven pool.now pair.1) batch.now }
-        ensures { IfOk result (λ step. cons_option step [] ≡ one_timestep (port_count (feeds_view self.now.feeds)) (entries_with_ids pool.now (filter (goes_in pool.now self.now) (entry_ids_of (feeds_view self.now.feeds) batch.now)))) }
+        requires as_many { length touched.now ≡ length batch.now }
+        ensures { IfOk result (λ going. (records : List Row) → AreTouched records (feeds_view self.now.feeds) (partitions self.now.feeds) batch.now touched.now → going_entries going ≡ filter (goes_in records self.now) (entry_ids_of (feeds_view self.now.feeds) batch.now)) }
     {
-        let ports = self.feeds.port_count();
         if let [(feed, message)] = batch {
-            let entry = self.entry_going(pool, *feed, message)?;
-            return together(self.alloc, pool, ports, entry.as_slice());
+            return Ok(Going::One(self.entry_going(*feed, message, touched[0])));
         }
-        let entries = self.going(pool, batch)?;
-        together(self.alloc, pool, ports, &entries)
+        Ok(Going::Many(self.all_going(batch, touched)?))
     }
 
-    // Keeps a record, where the mode is Seal; it waits where its partition is one of these.
-    fn keep(
-        &mut self,
-        partial: &BTreeSet<Record>,
-        port: u32,
-        id: Id,
-        key: Option<&Record>,
-    ) -> Result<(), AllocError>
+    // Keeps a record, where the mode is Seal.
+    fn keep(&mut self, port: u32, id: Id, touched: Touched) -> Result<(), AllocError>
+        requires { IsNumberIn (partitions self.old.feeds) touched.number }
         ensures mode { self.new.sealing ≡ self.old.sealing }
-        ensures feeds { feeds_view self.new.feeds ≡ feeds_view self.old.feeds }
-        ensures kept { OnOk result (self.old.sealing ≡ true → KeepsEntry self.old.waiting self.new.waiting (port, id) (option_map (λ k. k.now) key.entry) (is_open partial.now (option_map (λ k. k.now) key.entry))) }
+        ensures feeds { self.new.feeds ≡ self.old.feeds }
+        ensures kept { OnOk result (self.old.sealing ≡ true → KeepsEntry self.old.waiting self.new.waiting (port, id) (key_at (partitions self.old.feeds) touched.number) touched.waits) }
         ensures idle { OnOk result (self.old.sealing ≡ false → self.new.waiting ≡ self.old.waiting) }
     {
         if !self.sealing {
             return Ok(());
         }
-        match key {
-            None => self.waiting.keep(port, id, None, false),
-            Some(key) => self
-                .waiting
-                .keep(port, id, Some(key.copy()?), partial.contains(key)),
+        match touched.number {
+            None => self.waiting.keep(port, id, None, touched.waits),
+            Some(number) => {
+                let key = self.feeds.key_with(number);
+                self.waiting.keep(port, id, Some(key), touched.waits)
+            }
         }
     }
 
-    // Counts a record, where it has a key value.
-    fn count(&mut self, feed: u32, key: Option<Record>, id: Id) -> Result<(), AllocError>
-        requires { feed < feeds_in self.old }
+    // Counts a record, where it is one of a partition.
+    fn count(&mut self, feed: u32, number: Option<usize>, id: Id) -> Result<(), AllocError>
+        requires feed { feed < feeds_in self.old }
+        requires number { IsNumberIn (partitions self.old.feeds) number }
         ensures mode { self.new.sealing ≡ self.old.sealing }
-        ensures feeds { OnOk result (HearsIf (feeds_view self.old.feeds) (feeds_view self.new.feeds) feed key id) }
+        ensures partitions { partitions self.new.feeds ≡ partitions self.old.feeds }
+        ensures feeds { OnOk result (HearsIf (feeds_view self.old.feeds) (feeds_view self.new.feeds) feed (key_at (partitions self.old.feeds) number) id) }
         ensures waiting { self.new.waiting ≡ self.old.waiting }
     {
-        match key {
+        match number {
             None => Ok(()),
-            Some(key) => self.feeds.hear_row(feed, key, id),
+            Some(number) => self.feeds.hear_row(feed, number, id),
         }
     }
 
     // Hears a record.
-    fn hear_row(
-        &mut self,
-        pool: &Pool,
-        partial: &BTreeSet<Record>,
-        feed: u32,
-        id: Id,
-    ) -> Result<(), AllocError>
+    fn hear_row(&mut self, feed: u32, id: Id, touched: Touched) -> Result<(), AllocError>
         requires feed { feed < feeds_in self.old }
-        requires given { id < length pool.now }
-        ensures { OnOk result (HearsRecord partial.now self.old self.new feed (key_in (feeds_view self.old.feeds) (port_in (feeds_view self.old.feeds) feed, row_with_id pool.now id)) id) }
+        requires number { IsNumberIn (partitions self.old.feeds) touched.number }
+        ensures partitions { OnOk result (partitions self.new.feeds ≡ partitions self.old.feeds) }
+        ensures hears { OnOk result (HearsRecord self.old self.new feed (key_at (partitions self.old.feeds) touched.number) id touched.waits) }
     {
         let port = self.feeds.port_of(feed);
-        let key = self.feeds.key_of(port, pool.get(id))?;
-        self.keep(partial, port, id, key.as_ref())?;
-        self.count(feed, key, id)?;
+        self.keep(port, id, touched)?;
+        self.count(feed, touched.number, id)?;
         Ok(())
     }
 
@@ -295,19 +321,21 @@ impl Inbox {
     fn hear_record(
         &mut self,
         pool: &Pool,
-        partial: &BTreeSet<Record>,
         feed: u32,
         id: Id,
+        touched: Touched,
     ) -> Result<(), AllocError>
         requires feed { feed < feeds_in self.old }
         requires given { id < length pool.now }
+        requires number { IsNumberIn (partitions self.old.feeds) touched.number }
         ensures count { OnOk result (feeds_in self.new ≡ feeds_in self.old) }
-        ensures keeps { OnOk result ((i : Instance) (waits : Entry → Bool) (heard : List Pair) → WaitsWith partial.now i waits (feed, row (row_with_id pool.now id))
+        ensures partitions { OnOk result (partitions self.new.feeds ≡ partitions self.old.feeds) }
+        ensures keeps { OnOk result ((i : Instance) (waits : Entry → Bool) (heard : List Pair) → IsHeardAs i (partitions self.old.feeds) waits (feed, row (row_with_id pool.now id)) touched
             → Keeps i pool.now waits heard self.old → Keeps i pool.now waits (heard ++ (feed, row (row_with_id pool.now id)) ∷ []) self.new) }
         ensures from { OnOk result (IsFrom pool.now self.old → IsFrom pool.now self.new) }
     {
         pool.known();
-        self.hear_row(pool, partial, feed, id)?;
+        self.hear_row(feed, id, touched)?;
         Ok(())
     }
 
@@ -316,42 +344,51 @@ impl Inbox {
         &mut self,
         pool: &Pool,
         feed: u32,
-        key: Record,
         count: u32,
+        number: Option<usize>,
     ) -> Result<(), AllocError>
-        requires { feed < feeds_in self.old }
+        requires feed { feed < feeds_in self.old }
+        requires number { IsNumberIn (partitions self.old.feeds) number }
         ensures count { OnOk result (feeds_in self.new ≡ feeds_in self.old) }
-        ensures keeps { OnOk result ((i : Instance) (waits : Entry → Bool) (heard : List Pair)
+        ensures partitions { OnOk result (partitions self.new.feeds ≡ partitions self.old.feeds) }
+        ensures keeps { OnOk result ((i : Instance) (waits : Entry → Bool) (heard : List Pair) (key : Row) → key_at (partitions self.old.feeds) number ≡ Some key
             → Keeps i pool.now waits heard self.old → Keeps i pool.now waits (heard ++ (feed, seal key count) ∷ []) self.new) }
         ensures from { OnOk result (IsFrom pool.now self.old → IsFrom pool.now self.new) }
     {
         pool.known();
-        self.feeds.hear_seal(feed, key, count)?;
-        Ok(())
+        match number {
+            None => Ok(()),
+            Some(number) => {
+                self.feeds.hear_seal(feed, number, count)?;
+                Ok(())
+            }
+        }
     }
 
     // Hears a message.
     fn hear_one(
         &mut self,
         pool: &Pool,
-        partial: &BTreeSet<Record>,
         feed: u32,
         message: &Message,
+        touched: Touched,
     ) -> Result<(), AllocError>
         requires feed { feed < feeds_in self.old }
         requires given { IsGiven pool.now message.now }
+        requires number { IsNumberIn (partitions self.old.feeds) touched.number }
         ensures count { OnOk result (feeds_in self.new ≡ feeds_in self.old) }
-        ensures keeps { OnOk result ((i : Instance) (waits : Entry → Bool) (heard : List Pair) → WaitsWith partial.now i waits (pair_with_id pool.now (feed, message.now))
+        ensures partitions { OnOk result (partitions self.new.feeds ≡ partitions self.old.feeds) }
+        ensures keeps { OnOk result ((i : Instance) (waits : Entry → Bool) (heard : List Pair) → IsHeardAs i (partitions self.old.feeds) waits (pair_with_id pool.now (feed, message.now)) touched
             → Keeps i pool.now waits heard self.old → Keeps i pool.now waits (heard ++ pair_with_id pool.now (feed, message.now) ∷ []) self.new) }
         ensures from { OnOk result (IsFrom pool.now self.old → IsFrom pool.now self.new) }
     {
         match message {
             Message::Row(id) => {
-                self.hear_record(pool, partial, feed, *id)?;
+                self.hear_record(pool, feed, *id, touched)?;
                 Ok(())
             }
-            Message::Seal { key, count } => {
-                self.hear_seal(pool, feed, key.copy()?, *count)?;
+            Message::Seal { count, .. } => {
+                self.hear_seal(pool, feed, *count, touched.number)?;
                 Ok(())
             }
         }
@@ -361,109 +398,103 @@ impl Inbox {
     fn hear_all(
         &mut self,
         pool: &Pool,
-        partial: &BTreeSet<Record>,
         batch: &[(u32, Message)],
+        touched: &[Touched],
     ) -> Result<(), AllocError>
         requires feeds { All (λ pair. pair.0 < feeds_in self.old) batch.now }
         requires given { All (λ pair. IsGiven pool.now pair.1) batch.now }
+        requires as_many { length touched.now ≡ length batch.now }
+        requires numbers { All (λ t. IsNumberIn (partitions self.old.feeds) t.number) touched.now }
         ensures count { OnOk result (feeds_in self.new ≡ feeds_in self.old) }
-        ensures keeps { OnOk result ((i : Instance) (waits : Entry → Bool) (heard : List Pair) → AllWaitWith partial.now i waits (batch_with_ids pool.now batch.now)
+        ensures partitions { OnOk result (partitions self.new.feeds ≡ partitions self.old.feeds) }
+        ensures keeps { OnOk result ((i : Instance) (waits : Entry → Bool) (heard : List Pair) → AreHeardAs i pool.now (partitions self.old.feeds) waits batch.now touched.now
             → Keeps i pool.now waits heard self.old → Keeps i pool.now waits (heard ++ batch_with_ids pool.now batch.now) self.new) }
         ensures from { OnOk result (IsFrom pool.now self.old → IsFrom pool.now self.new) }
     {
-        for (feed, message) in batch {
-            self.hear_one(pool, partial, *feed, message)?;
+        for at in 0..batch.len() {
+            let pair = &batch[at];
+            self.hear_one(pool, pair.0, &pair.1, touched[at])?;
         }
         Ok(())
     }
 
-    // Those of some partitions that are whole. Mostly there are none, and then nothing is walked.
-    fn whole_among(&self, partial: &BTreeSet<Record>) -> Result<Vec<Record>, AllocError>
-        ensures { IfOk result (λ whole. whole.items ≡ filter (is_whole_in (feeds_view self.now.feeds)) partial.now.keys) }
+    // The key value of a partition that is touched, where it wasn't whole and now is.
+    fn became(&self, touched: Touched) -> Result<Option<Record>, AllocError>
+        requires { IsNumberIn (partitions self.now.feeds) touched.number }
+        ensures { IfOk result (λ key. key ≡ became_key (feeds_view self.now.feeds) (partitions self.now.feeds) touched) }
     {
-        let mut whole = Vec::new(self.alloc);
-        if partial.is_empty() {
-            return Ok(whole);
-        }
-        for key in partial {
-            if self.feeds.is_whole(key) {
-                whole.push(key.copy()?)?;
+        match touched.number {
+            Some(number) if touched.waits && self.feeds.is_whole(number) => {
+                Ok(Some(self.feeds.key_with(number).copy()?))
             }
+            _ => Ok(None),
         }
-        Ok(whole)
+    }
+
+    // Those of the partitions that a batch touches.
+    #[tactic(auto, using(std::proofs::lemmas::Grind::common_steps, std::proofs::lemmas::List::take_more, crate::proofs::Keeping::Loops::filter_map_last))]
+    fn all_became(&self, touched: &[Touched]) -> Result<Vec<Record>, AllocError>
+        requires { All (λ t. IsNumberIn (partitions self.now.feeds) t.number) touched.now }
+        ensures { IfOk result (λ keys. keys.items ≡ filter_map (became_key (feeds_view self.now.feeds) (partitions self.now.feeds)) touched.now) }
+    {
+        let mut keys = Vec::new(self.alloc);
+        for one in touched {
+            push_some(self.became(*one)?, &mut keys)?;
+        }
+        Ok(keys)
+    }
+
+    // The same, each once, in the order of key values.
+    fn whole_among(&self, touched: &[Touched]) -> Result<Vec<Record>, AllocError>
+        requires { All (λ t. IsNumberIn (partitions self.now.feeds) t.number) touched.now }
+        ensures { IfOk result (λ whole. whole.items ≡ set_of (filter_map (became_key (feeds_view self.now.feeds) (partitions self.now.feeds)) touched.now)) }
+    {
+        let keys = self.all_became(touched)?;
+        Ok(in_order(keys))
     }
 
     // The entries at ports that carry the key, and the others.
-    fn parted(&self, entries: &[(u32, Id)]) -> Result<(Vec<(u32, Id)>, Vec<(u32, Id)>), AllocError>
-        ensures own { IfOk result (λ parts. parts.0.items ≡ filter (λ entry. carries_in (feeds_view self.now.feeds) entry.0) entries.now) }
-        ensures others { IfOk result (λ parts. parts.1.items ≡ filter (λ entry. not (carries_in (feeds_view self.now.feeds) entry.0)) entries.now) }
+    fn parted(&self, entries: &[(u32, Id)]) -> Result<Released, AllocError>
+        ensures { IfOk result (λ parts. AreParted (feeds_view self.now.feeds) entries.now parts) }
     {
-        let mut own = Vec::new(self.alloc);
-        let mut others = Vec::new(self.alloc);
+        let mut together = Vec::new(self.alloc);
+        let mut alone = Vec::new(self.alloc);
         for entry in entries {
             if self.feeds.carries(entry.0) {
-                own.push(*entry)?;
+                together.push(*entry)?;
             } else {
-                others.push(*entry)?;
+                alone.push(*entry)?;
             }
         }
-        Ok((own, others))
+        Ok(Released { together, alone })
     }
 
-    // Adds the timesteps of what is released.
-    fn push_released(
-        &self,
-        pool: &Pool,
-        entries: &[(u32, Id)],
-        steps: &mut Vec<Arrivals>,
-    ) -> Result<(), AllocError>
-        requires { All (λ entry. entry.1 < length pool.now) entries.now }
-        ensures { OnOk result ((key : Row) (keys : List Row) → steps.new.items ≡ steps.old.items ++ steps_released pool.now (feeds_view self.now.feeds) (key ∷ keys) entries.now) }
-    {
-        let alloc = self.alloc;
-        let ports = self.feeds.port_count();
-        let (own, others) = self.parted(entries)?;
-        steps.push(timestep(alloc, pool, ports, &own)?)?;
-        push_one_by_one(alloc, pool, ports, &others, steps)
-    }
-
-    // Adds what partitions that become whole set off, and holds it no longer.
-    fn release_all(
-        &mut self,
-        pool: &Pool,
-        whole: &[Record],
-        steps: &mut Vec<Arrivals>,
-    ) -> Result<(), AllocError>
-        requires { IsFrom pool.now self.old }
-        ensures { OnOk result (Releases pool.now self.old self.new whole.now steps.old.items steps.new.items) }
+    // What partitions that become whole release, where there are some. It is held no longer.
+    fn release_all(&mut self, whole: &[Record]) -> Result<Option<Released>, AllocError>
+        ensures { IfOk result (λ released. Releases self.old self.new whole.now released) }
     {
         if let [_, ..] = whole {
             let entries = self.waiting.released(whole)?;
-            self.push_released(pool, &entries, steps)?;
+            let released = self.parted(&entries)?;
             self.waiting.release(entries.len());
+            return Ok(Some(released));
         }
-        Ok(())
+        Ok(None)
     }
 
     // The same under Seal; else nothing was held.
-    fn release(
-        &mut self,
-        pool: &Pool,
-        whole: &[Record],
-        steps: &mut Vec<Arrivals>,
-    ) -> Result<(), AllocError>
-        requires { IsFrom pool.now self.old }
-        ensures { OnOk result (Releases pool.now self.old self.new (if self.old.sealing then whole.now else []) steps.old.items steps.new.items) }
+    fn release(&mut self, whole: &[Record]) -> Result<Option<Released>, AllocError>
+        ensures { IfOk result (λ released. Releases self.old self.new (if self.old.sealing then whole.now else []) released) }
     {
         if self.sealing {
-            self.release_all(pool, whole, steps)
+            self.release_all(whole)
         } else {
-            Ok(())
+            Ok(None)
         }
     }
 
     /// Hears a batch, whose ids the pool gave, as it gave those of all batches since the inbox was
-    /// empty; between two calls the pool may get records (`pool_law`). A message costs look-ups of
+    /// empty; between two calls the pool may get records (`pool_law`). A message costs one look-up of
     /// its key value by its hash, whatever the number of feeds, and a partition that becomes whole
     /// the sort of its records. The error is want of memory; afterwards the inbox can only be
     /// dropped.
@@ -471,44 +502,48 @@ impl Inbox {
         &mut self,
         pool: &Pool,
         batch: &[(u32, Message)],
-    ) -> Result<Timesteps, AllocError>
+    ) -> Result<SetOff, AllocError>
         requires feeds { All (λ pair. pair.0 < feeds_in self.old) batch.now }
         requires given { All (λ pair. IsGiven pool.now pair.1) batch.now }
         requires kept { IsFrom pool.now self.old }
 
         // Of every list of batches for which the inbox stood: the answer is what the batch sets off
         // after them, and the inbox then stands for them and this batch.
-        ensures steps { IfOk result (λ set. (i : Instance) (batches : List Batch) → HasHeard i pool.now batches self.old → set.steps ≡ (set_off i (all_pairs batches) (batch_with_ids pool.now batch.now)).steps) }
+        ensures steps { IfOk result (λ set. (i : Instance) (batches : List Batch) → HasHeard i pool.now batches self.old → (set_off_read pool.now set).steps ≡ (set_off i (all_pairs batches) (batch_with_ids pool.now batch.now)).steps) }
         ensures whole { IfOk result (λ set. (i : Instance) (batches : List Batch) → HasHeard i pool.now batches self.old → set.whole ≡ (set_off i (all_pairs batches) (batch_with_ids pool.now batch.now)).whole) }
         ensures heard { OnOk result ((i : Instance) (batches : List Batch) → HasHeard i pool.now batches self.old → HasHeard i pool.now (batches ++ batch_with_ids pool.now batch.now ∷ []) self.new) }
 
         ensures feeds { OnOk result (feeds_in self.new ≡ feeds_in self.old) }
         ensures kept { OnOk result (IsFrom pool.now self.new) }
+        ensures given { IfOk result (λ set. AreGivenTo pool.now set) }
     {
         pool.known();
-        let partial = self.open_keys(pool, batch)?;
-        let going = self.step_going(pool, batch)?;
-        self.hear_all(pool, &partial, batch)?;
-        let whole = self.whole_among(&partial)?;
-        let mut steps = Vec::new(self.alloc);
-        self.release(pool, &whole, &mut steps)?;
-        push_some(going, &mut steps)?;
-        Ok(Timesteps {
-            steps: Items::from_vec(steps),
+        let ports = self.feeds.port_count();
+        let touches = self.touches(pool, batch)?;
+        let touched = touches.as_slice();
+        let going = self.going(batch, touched)?;
+        self.hear_all(pool, batch, touched)?;
+        let whole = self.whole_among(touched)?;
+        let released = self.release(&whole)?;
+        Ok(SetOff {
+            ports,
+            released,
+            going,
             whole: Items::from_vec(whole),
         })
     }
 
     /// Hears a batch, as `hear_batch` does, and lets it go.
-    pub fn hear(&mut self, pool: &Pool, batch: Vec<(u32, Message)>) -> Result<Timesteps, AllocError>
+    pub fn hear(&mut self, pool: &Pool, batch: Vec<(u32, Message)>) -> Result<SetOff, AllocError>
         requires feeds { All (λ pair. pair.0 < feeds_in self.old) batch.items }
         requires given { All (λ pair. IsGiven pool.now pair.1) batch.items }
         requires kept { IsFrom pool.now self.old }
-        ensures steps { IfOk result (λ set. (i : Instance) (batches : List Batch) → HasHeard i pool.now batches self.old → set.steps ≡ (set_off i (all_pairs batches) (batch_with_ids pool.now batch.items)).steps) }
+        ensures steps { IfOk result (λ set. (i : Instance) (batches : List Batch) → HasHeard i pool.now batches self.old → (set_off_read pool.now set).steps ≡ (set_off i (all_pairs batches) (batch_with_ids pool.now batch.items)).steps) }
         ensures whole { IfOk result (λ set. (i : Instance) (batches : List Batch) → HasHeard i pool.now batches self.old → set.whole ≡ (set_off i (all_pairs batches) (batch_with_ids pool.now batch.items)).whole) }
         ensures heard { OnOk result ((i : Instance) (batches : List Batch) → HasHeard i pool.now batches self.old → HasHeard i pool.now (batches ++ batch_with_ids pool.now batch.items ∷ []) self.new) }
         ensures feeds { OnOk result (feeds_in self.new ≡ feeds_in self.old) }
         ensures kept { OnOk result (IsFrom pool.now self.new) }
+        ensures given { IfOk result (λ set. AreGivenTo pool.now set) }
     {
         self.hear_batch(pool, batch.as_slice())
     }

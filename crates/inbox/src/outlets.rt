@@ -1,7 +1,9 @@
 //! Where an instance emits: the outputs that have a stream.
-ghost use Rattle.std.specs.Prelude.{◌≡◌, ◌<◌, ◌≤◌, ℕ, length, slice_get, slice_set, option_copied, Err, IfOk, OnOk};
+ghost use Rattle.std.specs.Prelude.{◌≡◌, ◌<◌, ◌≤◌, ℕ, List, length, slice_get, slice_set, option_copied, Err, IfOk, OnOk};
 ghost use Rattle.std.specs.List.{All};
+ghost use Rattle.blz_value.specs.Record.{Row};
 ghost use Rattle.blz_value.specs.Sets.{IsRowSet};
+ghost use Rattle.bloom_eval.specs.Puts.{ArePutFrom, put_rows, puts_in};
 ghost use Rattle.bloom_forms.specs.Step.{set_at};
 ghost use Rattle.inbox.specs.Emission.{with_rows, with_seals};
 ghost use Rattle.inbox.specs.Growth.{Continues};
@@ -16,8 +18,7 @@ ghost use Rattle.messages.specs.declared.fault.EventFault.TheVariants.{TooManyMe
 
 use crate::keys::key_columns;
 use crate::places::Places;
-use bloom_eval::Outs;
-use blz_set::RecordSet;
+use bloom_eval::{Put, Puts};
 use blz_value::{Items, Record};
 use messages::{EventFault, Lists};
 use std::alloc::{AllocError, Global};
@@ -32,59 +33,75 @@ pub struct Outlet {
     pub key: Option<Items<u32>>,
 }
 
-/// That each output is a set; it takes a step for each.
-pub(crate) fn are_sets(outs: &Outs)
-    ensures { (n : ℕ) → IsRowSet (set_at outs.now n) }
+// That what is put out at an output is a set; the call does nothing.
+fn is_set(put: &Put)
+    ensures { (records : List Row) → IsRowSet (put_rows records put.now) }
 {
-    for set in outs.sets() {
-        let _ = set.rows();
+    match put {
+        Put::Arrived(_) => {}
+        Put::Rows(set) => {
+            let _ = set.rows();
+        }
     }
 }
 
-// The set of an output, None past the end.
-fn set_in(outs: &Outs, output: u32) -> Option<&RecordSet>
-    ensures { option_copied result ≡ slice_get outs.now output }
+/// That what is put out at each output is a set; it takes a step for each.
+pub(crate) fn are_sets(puts: &Puts)
+    ensures { (records : List Row) (n : ℕ) → IsRowSet (set_at (puts_in records puts.now) n) }
 {
-    outs.sets().get(output as usize)
+    for put in puts.as_slice() {
+        is_set(put);
+    }
 }
 
-// Emits the set of an outlet's output.
-fn emit_output(lists: &mut Lists, outlet: &Outlet, outs: &Outs) -> Result<(), EventFault>
+// What is put out at an output, None past the end.
+fn put_at(puts: &Puts, output: u32) -> Option<&Put>
+    ensures { option_copied result ≡ slice_get puts.now output }
+{
+    puts.as_slice().get(output as usize)
+}
+
+// Emits what is put out at an outlet's output.
+fn emit_put(lists: &mut Lists, outlet: &Outlet, puts: &Puts) -> Result<(), EventFault>
     requires place { outlet.now.place < length lists.old.lists }
+    requires given { ArePutFrom lists.old.records puts.now }
     requires exact { IsExact lists.old }
-    ensures ok { OnOk result (OneListBecomes lists.old lists.new outlet.now.place (with_rows (list_at (read_lists lists.old) outlet.now.place) (set_at outs.now outlet.now.output))) }
+    ensures ok { OnOk result (OneListBecomes lists.old lists.new outlet.now.place (with_rows (list_at (read_lists lists.old) outlet.now.place) (set_at (puts_in lists.old.records puts.now) outlet.now.output))) }
     ensures exact { OnOk result (IsExact lists.new) }
     ensures few { OnOk result (total lists.new.lists ≤ message_limit) }
-    ensures too_many { result ≡ Err TooManyMessages → message_limit < total (slice_set (read_lists lists.old) outlet.now.place (with_rows (list_at (read_lists lists.old) outlet.now.place) (set_at outs.now outlet.now.output))) }
+    ensures too_many { result ≡ Err TooManyMessages → message_limit < total (slice_set (read_lists lists.old) outlet.now.place (with_rows (list_at (read_lists lists.old) outlet.now.place) (set_at (puts_in lists.old.records puts.now) outlet.now.output))) }
     ensures legal { IsLimit result }
 {
     lists.known();
-    match set_in(outs, outlet.output) {
-        Some(set) => lists.emit_rows(outlet.place, set.rows()),
+    match put_at(puts, outlet.output) {
+        Some(Put::Arrived(id)) => lists.emit_id(outlet.place, *id),
+        Some(Put::Rows(set)) => lists.emit_rows(outlet.place, set.rows()),
         None => Ok(()),
     }
 }
 
-/// Emits what a step puts out, output by output. TooManyMessages comes exactly where the lists would
-/// have more messages together than they may. A fault leaves the lists with part of this.
-pub(crate) fn emit_outputs(
+/// Emits what a step puts out, output by output; a record that arrived is emitted by its id.
+/// TooManyMessages comes exactly where the lists would have more messages together than they may. A
+/// fault leaves the lists with part of this.
+pub(crate) fn emit_puts(
     lists: &mut Lists,
     outlets: &[Outlet],
-    outs: &Outs,
+    puts: &Puts,
 ) -> Result<(), EventFault>
     requires places { All (λ o. o.place < length lists.old.lists) outlets.now }
+    requires given { ArePutFrom lists.old.records puts.now }
     requires exact { IsExact lists.old }
-    ensures ok { OnOk result (read_lists lists.new ≡ emit_outlets outlets.now outs.now (read_lists lists.old)) }
+    ensures ok { OnOk result (read_lists lists.new ≡ emit_outlets outlets.now (puts_in lists.old.records puts.now) (read_lists lists.old)) }
     ensures records { OnOk result (Continues lists.old.records lists.new.records) }
     ensures exact { OnOk result (IsExact lists.new) }
     ensures count { OnOk result (length lists.new.lists ≡ length lists.old.lists) }
     ensures few { OnOk result (total lists.new.lists ≤ message_limit) }
-    ensures too_many { result ≡ Err TooManyMessages → message_limit < total (emit_outlets outlets.now outs.now (read_lists lists.old)) }
+    ensures too_many { result ≡ Err TooManyMessages → message_limit < total (emit_outlets outlets.now (puts_in lists.old.records puts.now) (read_lists lists.old)) }
     ensures legal { IsLimit result }
 {
     lists.known();
     for outlet in outlets {
-        emit_output(lists, outlet, outs)?;
+        emit_put(lists, outlet, puts)?;
     }
     Ok(())
 }
@@ -107,7 +124,7 @@ fn seal_output(lists: &mut Lists, outlet: &Outlet, keys: &[Record]) -> Result<()
 }
 
 /// Emits the seals of partitions that became whole, in the lists of the outlets whose streams carry
-/// the key, as `emit_outputs` does.
+/// the key, as `emit_puts` does.
 pub(crate) fn emit_seals(
     lists: &mut Lists,
     outlets: &[Outlet],

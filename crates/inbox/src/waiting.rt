@@ -1,13 +1,13 @@
 //! The records that an instance heard under Seal, each once, in the order first heard, and where
 //! those of each partition stand among them.
-ghost use Rattle.std.specs.Prelude.{◌≡◌, ◌&&◌, is_some, ◌+◌, ◌-◌, ◌≤◌, ◌∷◌, ◌++◌, [], ℕ, false, length, if◌then◌else◌, IfOk, OnOk};
+ghost use Rattle.std.specs.Prelude.{◌≡◌, ◌&&◌, is_some, ◌+◌, ◌-◌, ◌≤◌, ◌∷◌, ◌++◌, [], ℕ, false, length, if◌then◌else◌, IfOk, IsTrue, OnOk};
+ghost use Rattle.std.specs.BTreeMap.{IsUnchanged};
 ghost use Rattle.std.specs.List.{flat_map, list_any, cons_option, slice_get};
 ghost use Rattle.std.specs.Option.{option_map};
 ghost use Rattle.std.specs.Ordering.{nat_cmp};
 ghost use Rattle.blz_value.specs.Record.{Row};
 ghost use Rattle.blz_value.specs.Sets.{set_by};
-ghost use Rattle.topo_forms.specs.Messages.{is_same_row};
-ghost use Rattle.inbox.specs.Code.Places.{places_of};
+ghost use Rattle.inbox.specs.Code.Places.{places_of, PutsPlace};
 ghost use Rattle.messages.specs.Log.{is_same_entry_id};
 
 use blz_pool::Id;
@@ -27,29 +27,48 @@ pub(crate) struct Waiting {
     pub(crate) ghost few: { held ≤ length log },
 }
 
-// Takes out the places of a partition.
-fn take_places(alloc: Global, places: &mut BTreeMap<Record, Vec<usize>>, key: &Record) -> Vec<usize>
-    ensures own { result.items ≡ places_of places.old key.now }
-    ensures others { (k : Row) → is_same_row key.now k ≡ false → places_of places.new k ≡ places_of places.old k }
+// Puts a place behind those of a partition, where it has some, and answers whether it has.
+fn is_put(
+    places: &mut BTreeMap<Record, Vec<usize>>,
+    key: &Record,
+    place: usize,
+) -> Result<bool, AllocError>
+    ensures put { IfOk result (λ found. IsTrue found → PutsPlace places.old places.new key.now place) }
+    ensures none { IfOk result (λ found. found ≡ false → places_of places.old key.now ≡ []) }
+    ensures same { IfOk result (λ found. found ≡ false → IsUnchanged places.old places.new) }
 {
-    match places.remove(key) {
-        Some(own) => own,
-        None => Vec::new(alloc),
+    match places.get_mut(key) {
+        Some(own) => {
+            own.push(place)?;
+            Ok(true)
+        }
+        None => Ok(false),
     }
+}
+
+// The list of one place.
+fn one_place(alloc: Global, place: usize) -> Result<Vec<usize>, AllocError>
+    ensures { IfOk result (λ own. own.items ≡ place ∷ []) }
+{
+    let mut own = Vec::new(alloc);
+    own.push(place)?;
+    Ok(own)
 }
 
 // Puts a place behind those of a partition.
 fn put_place(
     alloc: Global,
     places: &mut BTreeMap<Record, Vec<usize>>,
-    key: Record,
+    key: &Record,
     place: usize,
 ) -> Result<(), AllocError>
-    ensures { OnOk result ((k : Row) → places_of places.new k ≡ (if is_same_row key k then places_of places.old k ++ place ∷ [] else places_of places.old k)) }
+    ensures { OnOk result (PutsPlace places.old places.new key.now place) }
 {
-    let mut own = take_places(alloc, places, &key);
-    own.push(place)?;
-    let _ = places.insert(key, own)?;
+    if is_put(places, key, place)? {
+        return Ok(());
+    }
+    let own = key.copy()?;
+    let _ = places.insert(own, one_place(alloc, place)?)?;
     Ok(())
 }
 
@@ -103,11 +122,11 @@ impl Waiting {
     }
 
     // Puts the last entry of the log to its partition, and counts it where it waits.
-    fn place_last(&mut self, place: usize, key: Record, waits: bool) -> Result<(), AllocError>
+    fn place_last(&mut self, place: usize, key: &Record, waits: bool) -> Result<(), AllocError>
         requires last { place + 1 ≡ length self.old.log }
         requires few { self.old.held + 1 ≤ length self.old.log }
         ensures log { self.new.log ≡ self.old.log }
-        ensures places { OnOk result ((k : Row) → places_of self.new.places k ≡ (if is_same_row key k then places_of self.old.places k ++ place ∷ [] else places_of self.old.places k)) }
+        ensures places { OnOk result (PutsPlace self.old.places self.new.places key.now place) }
         ensures held { OnOk result (self.new.held ≡ (if waits then self.old.held + 1 else self.old.held)) }
     {
         put_place(self.alloc, &mut self.places, key, place)?;
@@ -123,14 +142,14 @@ impl Waiting {
     fn place_new(
         &mut self,
         place: usize,
-        key: Option<Record>,
+        key: Option<&Record>,
         waits: bool,
     ) -> Result<(), AllocError>
         requires last { place + 1 ≡ length self.old.log }
         requires few { self.old.held + 1 ≤ length self.old.log }
         ensures log { self.new.log ≡ self.old.log }
-        ensures places { OnOk result ((k : Row) → places_of self.new.places k ≡ (if has_key key k then places_of self.old.places k ++ place ∷ [] else places_of self.old.places k)) }
-        ensures held { OnOk result (self.new.held ≡ (if is_some key && waits then self.old.held + 1 else self.old.held)) }
+        ensures places { OnOk result ((k : Row) → places_of self.new.places k ≡ (if has_key (option_map (λ q. q.now) key.entry) k then places_of self.old.places k ++ place ∷ [] else places_of self.old.places k)) }
+        ensures held { OnOk result (self.new.held ≡ (if is_some (option_map (λ q. q.now) key.entry) && waits then self.old.held + 1 else self.old.held)) }
     {
         match key {
             None => Ok(()),
@@ -144,10 +163,10 @@ impl Waiting {
         &mut self,
         port: u32,
         id: Id,
-        key: Option<Record>,
+        key: Option<&Record>,
         waits: bool,
     ) -> Result<(), AllocError>
-        ensures { OnOk result (KeepsEntry self.old self.new (port, id) key waits) }
+        ensures { OnOk result (KeepsEntry self.old self.new (port, id) (option_map (λ q. q.now) key.entry) waits) }
     {
         let place = self.log.len();
         if !self.log.append(port, id)? {

@@ -10,6 +10,7 @@ pub mod CountersLemmas
 pub mod FeedsLemmas
 pub mod TalliesLemmas
 pub mod HearingLemmas
+pub mod PartitionNumbers
 pub mod ListsLemmas
 pub mod ListSeals
 pub mod CountsLemmas
@@ -19,4 +20,5 @@ pub mod FaultLemmas
 pub mod SubjectLemmas
 pub mod LentLists
 pub mod Ids
+pub mod PutIds
 pub mod SealedSources

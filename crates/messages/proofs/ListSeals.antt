@@ -13,7 +13,7 @@ use Rattle.blz_value.specs.Message.{Message, row, seal, is_same_row, rows_in}
 use Rattle.blz_value.proofs.MessagesLemmas.{length-rows_in-le}
 use Rattle.messages.specs.Emitted.{has_seal, count_in, with_seal, Continues}
 use Rattle.messages.specs.Ids.{message_with_id}
-use Rattle.messages.specs.Log.{row_with_id}
+use Rattle.blz_pool.specs.Entries.{row_with_id}
 use Rattle.messages.specs.declared.message.Message.{Message as IdMessage}
 use Rattle.messages.specs.declared.message.Message.TheVariants.{Row, Seal}
 use Rattle.messages.proofs.EmittedLemmas.{continues_itself, with_seal-continues, rows_in-append, rows-with_seal}

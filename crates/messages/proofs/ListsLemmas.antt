@@ -12,7 +12,7 @@ use Rattle.blz_value.proofs.Membership.{Has-append_left, Has-append_right, Has-a
 use Rattle.blz_value.specs.Message.{Message, row, is_same_row, rows_in}
 use Rattle.messages.specs.Emitted.{with_row, Continues}
 use Rattle.messages.specs.Ids.{message_with_id, IsGiven}
-use Rattle.messages.specs.Log.{row_with_id}
+use Rattle.blz_pool.specs.Entries.{row_with_id}
 use Rattle.messages.specs.Messages.{is_same_message}
 use Rattle.messages.specs.declared.message.Message.{Message as IdMessage}
 use Rattle.messages.specs.declared.message.Message.TheVariants.{Row, Seal}

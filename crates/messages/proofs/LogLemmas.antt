@@ -14,7 +14,8 @@ use Rattle.blz_value.proofs.Membership.{Has-get_or, any_from_Has}
 use Rattle.blz_value.specs.Message.{is_same_row}
 use Rattle.blz_value.proofs.Booleans.{same_truth}
 use Rattle.messages.specs.Messages.{is_same_entry, with_new}
-use Rattle.messages.specs.Log.{EntryId, is_same_entry_id, row_with_id, entry_with_id, entries_with_ids, AreGiven, IsLog}
+use Rattle.blz_pool.specs.Entries.{EntryId, row_with_id, entry_with_id, entries_with_ids}
+use Rattle.messages.specs.Log.{is_same_entry_id, AreGiven, IsLog}
 use Rattle.messages.specs.Known.{is_known, KnowsAlso, IsKept}
 use Rattle.messages.proofs.NumbersLemmas.{none_set}
 use Rattle.messages.proofs.MessagesLemmas.{is_same_row-is, is_same_row-itself, any-from_same, same-from_any}

@@ -1,11 +1,10 @@
 -- What the entries of an emitted list's map say of the list.
-use Rattle.std.proofs.Common.{◌≡◌, ◌||◌, ◌==◌, ℕ, Bool, true, false, cond, Some, List, [], ◌∷◌, ◌++◌, map, is_some, refl, ap, ◌∙◌, sym, true≢false, not, Option, if◌then◌else◌}
+use Rattle.std.proofs.Common.{◌≡◌, ◌||◌, ℕ, Bool, true, false, cond, Some, List, [], ◌∷◌, ◌++◌, map, is_some, refl, ap, ◌∙◌, sym, true≢false, not, Option, if◌then◌else◌}
 use Rattle.std.specs.List.{list_any}
 use Rattle.std.specs.Map.{keys_of, lookup}
 use Rattle.std.proofs.lemmas.List.{map-append}
 use Rattle.indexmap.specs.IndexMap.{insert_entry}
 use Rattle.blz_value.specs.Record.{Row as Record}
-use Rattle.blz_value.specs.Message.{is_same_row}
 use Rattle.messages.specs.declared.message.Message.{Message as IdMessage}
 use Rattle.messages.specs.declared.message.Message.TheVariants as message
 use Rattle.messages.specs.EmittedIds.{is_row_with, is_seal_of, with_id}

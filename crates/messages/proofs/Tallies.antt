@@ -11,7 +11,7 @@ use Rattle.blz_value.specs.Record.{Row as Record}
 use Rattle.blz_value.specs.Message.{Message, row, seal, is_same_row}
 use Rattle.messages.specs.Emitted.{count_in, Continues}
 use Rattle.messages.specs.Ids.{message_with_id, IsGiven}
-use Rattle.messages.specs.Log.{row_with_id}
+use Rattle.blz_pool.specs.Entries.{row_with_id}
 use Rattle.messages.specs.declared.message.Message.{Message as IdMessage}
 use Rattle.messages.specs.declared.message.Message.TheVariants.{Row, Seal}
 use Rattle.messages.specs.Lists.{message_limit, read_list, list_at, total}

@@ -16,7 +16,7 @@ use Rattle.blz_value.proofs.Booleans.{or_false}
 use Rattle.messages.specs.PartitionCounts.{have_in, need_in, have_at, need_at, is_met}
 use Rattle.messages.specs.Feeds.{FeedView, is_enough, is_whole_in}
 use Rattle.messages.specs.Views.{have_of, need_of, feed_view, views_of}
-use Rattle.messages.specs.Code.Tallies.{lacks_at, IsTallied, IsNumbered}
+use Rattle.messages.specs.Code.Tallies.{lacks_at, IsTallied, IsAdded}
 use Rattle.messages.specs.declared.counter.Counter.{Counter}
 use Rattle.messages.specs.declared.feed.Feed.{Feed}
 use Rattle.messages.specs.declared.port.Port.{Port}
@@ -187,7 +187,7 @@ module _ (keys : List Row) (key : Row) where
       let need : (λ k. need_of (keys ++ key ∷ []) f.counts.items k) ≡ (λ k. need_of keys f.counts.items k) = λ i k. need-more f.counts.items few k i in
       ap (λ h. with_both h (λ k. need_of (keys ++ key ∷ []) f.counts.items k)) have ∙ ap (with_both (λ k. have_of keys f.counts.items k)) need
 
-module _ (carrying : ℕ) (old new : List Row) (was now : List ℕ) (key : Row) (number : ℕ) (h : IsNumbered carrying old new was now key number) (feeds : List Feed) (t : IsTallied (length old) carrying feeds was) where
+module _ (carrying : ℕ) (old new : List Row) (was now : List ℕ) (key : Row) (number : ℕ) (h : IsAdded carrying old new was now key number) (feeds : List Feed) (t : IsTallied (length old) carrying feeds was) where
   -- what is seen stays
   pub seen-same : (ports : List Port) → views_of ports feeds new carrying ≡ views_of ports feeds old carrying
   seen-same ports = elim h.grown [

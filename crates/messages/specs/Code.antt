@@ -1,3 +1,4 @@
 -- What private functions give.
 pub mod Tallies
 pub mod Hearing
+pub mod Counting

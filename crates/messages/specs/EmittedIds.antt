@@ -4,7 +4,7 @@ use Rattle.std.specs.List.{list_any}
 use Rattle.blz_value.specs.Record.{Row as Record}
 use Rattle.blz_value.specs.Operators.{cells}
 use Rattle.blz_value.specs.Message.{is_same_row}
-use Rattle.messages.specs.Log.{row_with_id}
+use Rattle.blz_pool.specs.Entries.{row_with_id}
 use Rattle.messages.specs.declared.message.Message.{Message as IdMessage}
 use Rattle.messages.specs.declared.message.Message.TheVariants.{Row, Seal}
 

@@ -3,7 +3,7 @@ use Rattle.std.specs.Prelude.{◌<◌, ℕ, List, map, length}
 use Rattle.blz_value.specs.Record.{Row as Record}
 use Rattle.blz_value.specs.Message.{Message, row, seal}
 use Rattle.messages.specs.Messages.{Pair, Batch}
-use Rattle.messages.specs.Log.{row_with_id}
+use Rattle.blz_pool.specs.Entries.{row_with_id}
 use Rattle.messages.specs.declared.message.Message.{Message as IdMessage}
 use Rattle.messages.specs.declared.message.Message.TheVariants.{Row, Seal}
 

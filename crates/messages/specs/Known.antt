@@ -1,7 +1,8 @@
 -- What is known of each place, and how a log knows its entries.
 use Rattle.std.specs.Prelude.{◌≡◌, ◌==◌, ◌&&◌, ◌||◌, ℕ, Bool, List, [], slice_index_or}
 use Rattle.std.specs.List.{list_any}
-use Rattle.messages.specs.Log.{EntryId, is_same_entry_id, IsLog}
+use Rattle.blz_pool.specs.Entries.{EntryId}
+use Rattle.messages.specs.Log.{is_same_entry_id, IsLog}
 use Rattle.messages.specs.Numbers.{has_number}
 
 -- a number is known at a place

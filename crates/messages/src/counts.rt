@@ -1,9 +1,11 @@
 //! How many records of a list there are of each key value.
-ghost use Rattle.std.specs.Prelude.{◌≡◌, ◌+◌, ◌<◌, ◌^◌, ◌↔◌, ◌++◌, ◌∷◌, [], List, IsTrue, IfOk, IfSome, OnOk, if◌then◌else◌};
+ghost use Rattle.std.specs.Prelude.{◌≡◌, ◌+◌, ◌<◌, ◌^◌, ◌↔◌, ◌++◌, ◌∷◌, [], List, false, IsTrue, IfOk, IfSome, OnOk, if◌then◌else◌};
+ghost use Rattle.std.specs.BTreeMap.{IsUnchanged};
 ghost use Rattle.blz_value.specs.Operators.{cells};
 ghost use Rattle.blz_value.specs.Record.{Row};
 ghost use Rattle.blz_value.specs.Message.{Message, row, is_same_row};
 ghost use Rattle.messages.specs.EmittedCounts.{count_of, HasRoom, IsTallied};
+ghost use Rattle.messages.specs.Code.Counting.{CountsOne};
 
 use crate::keys::key_of;
 use blz_value::{Items, Record};
@@ -15,6 +17,34 @@ use std::collections::BTreeMap;
 pub struct Tally {
     pub columns: Items<u32>,
     pub counts: BTreeMap<Record, u32>,
+}
+
+// Counts a record of a key value where some were counted, and answers whether there were some.
+fn is_again(counts: &mut BTreeMap<Record, u32>, key: &Record) -> bool
+    requires { count_of counts.old key.now + 1 < 2 ^ 32 }
+    ensures more { IsTrue result → CountsOne counts.old counts.new key.now }
+    ensures none { result ≡ false → count_of counts.old key.now ≡ 0 }
+    ensures same { result ≡ false → IsUnchanged counts.old counts.new }
+{
+    match counts.get_mut(key) {
+        Some(count) => {
+            *count += 1;
+            true
+        }
+        None => false,
+    }
+}
+
+// Counts a record of a key value.
+fn count_one(counts: &mut BTreeMap<Record, u32>, key: Record) -> Result<(), AllocError>
+    requires { count_of counts.old key + 1 < 2 ^ 32 }
+    ensures { OnOk result (CountsOne counts.old counts.new key) }
+{
+    if is_again(counts, &key) {
+        return Ok(());
+    }
+    let _ = counts.insert(key, 1)?;
+    Ok(())
 }
 
 impl Tally {
@@ -46,17 +76,6 @@ impl Tally {
         }
     }
 
-    // Counts a record of a key value.
-    fn count_key(&mut self, key: Record) -> Result<(), AllocError>
-        requires room { HasRoom self.old }
-        ensures columns { self.new.columns ≡ self.old.columns }
-        ensures counts { OnOk result ((k : Row) → count_of self.new.counts k ≡ (if is_same_row key k then count_of self.old.counts k + 1 else count_of self.old.counts k)) }
-    {
-        let was = self.count(&key);
-        let _ = self.counts.insert(key, was + 1)?;
-        Ok(())
-    }
-
     /// Counts a record. The error is want of memory.
     pub fn add(&mut self, alloc: Global, added: &Record) -> Result<(), AllocError>
         requires room { HasRoom self.old }
@@ -64,7 +83,7 @@ impl Tally {
         ensures counts { OnOk result ((k : Row) → count_of self.new.counts k ≡ count_of self.old.counts k + (if is_same_row (cells self.old.columns added.now) k then 1 else 0)) }
     {
         let key = key_of(alloc, added, self.columns.as_slice())?;
-        self.count_key(key)
+        count_one(&mut self.counts, key)
     }
 }
 

@@ -1,11 +1,11 @@
 //! What came on the feeds of an instance, and which partitions are whole by it. Each partition has a
 //! number, and by it the count of the feeds that lack something of it.
-ghost use Rattle.std.specs.Prelude.{◌≡◌, ◌<◌, ◌≤◌, ◌^◌, ◌+◌, ℕ, map, length, slice_index, if◌then◌else◌, IfOk, OnOk, OnErr};
+ghost use Rattle.std.specs.Prelude.{◌≡◌, ◌<◌, ◌≤◌, ◌^◌, ◌+◌, ℕ, Some, map, length, slice_get, slice_index, if◌then◌else◌, IfOk, IfSome, OnOk, OnErr};
 ghost use Rattle.std.specs.List.{count_by};
-ghost use Rattle.std.specs.Option.{option_map};
+ghost use Rattle.blz_value.specs.Record.{Row};
 ghost use Rattle.messages.specs.Ports.{port_keys};
 ghost use Rattle.messages.specs.Feeds.{feed_count, port_count, port_in, key_in, carries_in, is_whole_in, is_due_in, HearsRow, HearsSeal, IsFresh, IsCleared};
-ghost use Rattle.messages.specs.Code.Tallies.{lacks_at, IsTallied, IsNumbered};
+ghost use Rattle.messages.specs.Code.Tallies.{lacks_at, IsTallied, IsAdded, AreAsBefore};
 ghost use Rattle.messages.specs.Code.Hearing.{AreEmpty, AreCleared, RowHeard, SealHeard};
 
 use crate::feed::Feed;
@@ -63,18 +63,18 @@ fn number_for(
     keys: &mut IndexSet<Record, BuildHasherDefault<DefaultHasher>>,
     lacking: &mut Vec<usize>,
     carrying: usize,
-    key: Record,
+    key: &Record,
 ) -> Result<usize, AllocError>
-    ensures number { IfOk result (λ number. IsNumbered carrying keys.old.keys keys.new.keys lacking.old.items lacking.new.items key number) }
-    ensures keys { OnErr result (keys.new.keys ≡ keys.old.keys) }
-    ensures lacking { OnErr result (lacking.new.items ≡ lacking.old.items) }
+    ensures number { IfOk result (λ number. IsAdded carrying keys.old.keys keys.new.keys lacking.old.items lacking.new.items key.now number) }
+    ensures same { OnErr result (AreAsBefore keys.old.keys keys.new.keys lacking.old.items lacking.new.items) }
 {
-    if let Some(number) = keys.get_index_of(&key) {
+    if let Some(number) = keys.get_index_of(key) {
         return Ok(number);
     }
     let number = keys.len();
+    let own = key.copy()?;
     lacking.push(carrying)?;
-    match keys.insert(key) {
+    match keys.insert(own) {
         Ok(_) => Ok(number),
         Err(error) => {
             let _ = lacking.pop();
@@ -143,7 +143,7 @@ fn hear_seal_at(
 }
 
 impl Feeds {
-    ghost use Rattle.messages.specs.Whole.{feeds_view};
+    ghost use Rattle.messages.specs.Whole.{feeds_view, partitions, HasNumber, key_at, KeepNumbers};
 
     /// Feeds on which nothing came, one for each of the ports that are named last.
     pub fn new(alloc: Global, ports: Vec<Port>, feed_ports: &[u32]) -> Result<Feeds, AllocError>
@@ -206,32 +206,54 @@ impl Feeds {
         key_at(self.alloc, &self.ports, port, row)
     }
 
-    /// Whether a partition is whole. It is looked up by its hash, and no feed is asked.
-    pub fn is_whole(&self, key: &Record) -> bool
-        ensures { result ≡ is_whole_in (feeds_view self.now) key.now }
+    /// The number of a partition; one that has none gets the next. It is looked up by its hash. The
+    /// error is want of memory.
+    pub fn number_of(&mut self, key: &Record) -> Result<usize, AllocError>
+        ensures view { feeds_view self.new ≡ feeds_view self.old }
+        ensures kept { KeepNumbers (partitions self.old) (partitions self.new) }
+        ensures number { IfOk result (λ number. HasNumber (partitions self.new) key.now number) }
     {
-        match self.keys.get_index_of(key) {
-            Some(number) => self.carrying > 0 && self.lacking[number] == 0,
-            None => false,
-        }
+        number_for(&mut self.keys, &mut self.lacking, self.carrying, key)
     }
 
-    /// Whether a record with this key value waits for nothing.
-    pub fn is_due(&self, key: Option<&Record>) -> bool
-        ensures { result ≡ is_due_in (feeds_view self.now) (option_map (λ k. k.now) key.entry) }
+    /// The key value of the partition with a number.
+    pub fn key_with(&self, number: usize) -> &Record
+        requires { number < length (partitions self.now) }
+        ensures { slice_get (partitions self.now) number ≡ Some result.now }
     {
-        match key {
+        &self.keys.as_slice()[number]
+    }
+
+    /// Whether the partition with a number is whole. No feed is asked.
+    pub fn is_whole(&self, number: usize) -> bool
+        requires { number < length (partitions self.now) }
+        ensures { (key : Row) → HasNumber (partitions self.now) key number → result ≡ is_whole_in (feeds_view self.now) key }
+    {
+        // Tells the prover that no two partitions have one key value.
+        let _count = self.keys.len();
+        self.carrying > 0 && self.lacking[number] == 0
+    }
+
+    /// Whether a record waits for nothing, by the number of its partition, where it has one.
+    pub fn is_due(&self, number: Option<usize>) -> bool
+        requires { IfSome number (λ n. n < length (partitions self.now)) }
+        ensures { result ≡ is_due_in (feeds_view self.now) (key_at (partitions self.now) number) }
+    {
+        match number {
             None => true,
-            Some(key) => self.is_whole(key),
+            Some(number) => self.is_whole(number),
         }
     }
 
-    /// Hears a record of a partition on a feed.
-    pub fn hear_row(&mut self, feed: u32, key: Record, id: Id) -> Result<(), AllocError>
-        requires { feed < feed_count (feeds_view self.old) }
-        ensures { OnOk result (HearsRow (feeds_view self.old) (feeds_view self.new) feed key id) }
+    /// Hears a record of the partition with a number on a feed.
+    pub fn hear_row(&mut self, feed: u32, number: usize, id: Id) -> Result<(), AllocError>
+        requires feed { feed < feed_count (feeds_view self.old) }
+        requires number { number < length (partitions self.old) }
+        ensures partitions { partitions self.new ≡ partitions self.old }
+        ensures heard { OnOk result ((key : Row) → HasNumber (partitions self.old) key number → HearsRow (feeds_view self.old) (feeds_view self.new) feed key id) }
     {
-        let number = number_for(&mut self.keys, &mut self.lacking, self.carrying, key)?;
+        // Tells the prover that no two partitions have one key value.
+        let _count = self.keys.len();
         hear_row_at(
             &mut self.feeds,
             &mut self.lacking,
@@ -241,12 +263,15 @@ impl Feeds {
         )
     }
 
-    /// Hears a seal of a partition on a feed.
-    pub fn hear_seal(&mut self, feed: u32, key: Record, count: u32) -> Result<(), AllocError>
-        requires { feed < feed_count (feeds_view self.old) }
-        ensures { OnOk result (HearsSeal (feeds_view self.old) (feeds_view self.new) feed key count) }
+    /// Hears a seal of the partition with a number on a feed.
+    pub fn hear_seal(&mut self, feed: u32, number: usize, count: u32) -> Result<(), AllocError>
+        requires feed { feed < feed_count (feeds_view self.old) }
+        requires number { number < length (partitions self.old) }
+        ensures partitions { partitions self.new ≡ partitions self.old }
+        ensures heard { OnOk result ((key : Row) → HasNumber (partitions self.old) key number → HearsSeal (feeds_view self.old) (feeds_view self.new) feed key count) }
     {
-        let number = number_for(&mut self.keys, &mut self.lacking, self.carrying, key)?;
+        // Tells the prover that no two partitions have one key value.
+        let _count = self.keys.len();
         hear_seal_at(&mut self.feeds, &mut self.lacking, feed, number, count)
     }
 }

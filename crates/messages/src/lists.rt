@@ -1,6 +1,7 @@
 //! All emitted lists, and the pool of their records.
 ghost use Rattle.std.specs.Prelude.{◌≡◌, ◌<◌, ◌≤◌, ◌+◌, ◌++◌, ◌∷◌, ℕ, [], length, replicate, slice_get, slice_index_or, slice_set, false, true, None, Some, Err, IfOk, IfSome, OnOk, if◌then◌else◌};
 ghost use Rattle.std.specs.List.{All, list_any};
+ghost use Rattle.blz_pool.specs.Entries.{row_with_id};
 ghost use Rattle.blz_pool.specs.Pool.{IsPool, record_limit, with_record};
 ghost use Rattle.blz_value.specs.Members.{Has};
 ghost use Rattle.blz_value.specs.Record.{Row};
@@ -184,6 +185,23 @@ impl Lists {
     {
         self.known();
         let id = self.id_of(row)?;
+        self.put_id(place, id)?;
+        self.known();
+        Ok(())
+    }
+
+    /// Emits the record with an id that the pool gave, as `emit_row` does, and looks up no record.
+    pub fn emit_id(&mut self, place: usize, id: Id) -> Result<(), EventFault>
+        requires place { place < length self.old.lists }
+        requires given { id < length self.old.records }
+        requires exact { IsExact self.old }
+        ensures ok { OnOk result (OneListBecomes self.old self.new place (with_row (list_at (read_lists self.old) place) (row_with_id self.old.records id))) }
+        ensures exact { OnOk result (IsExact self.new) }
+        ensures few { OnOk result (total self.new.lists ≤ message_limit) }
+        ensures too_many { result ≡ Err TooManyMessages → message_limit < total (slice_set (read_lists self.old) place (with_row (list_at (read_lists self.old) place) (row_with_id self.old.records id))) }
+        ensures legal { IsLimit result }
+    {
+        self.known();
         self.put_id(place, id)?;
         self.known();
         Ok(())

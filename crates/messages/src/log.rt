@@ -4,7 +4,8 @@ ghost use Rattle.std.specs.List.{list_any};
 ghost use Rattle.blz_pool.specs.Pool.{IsPool};
 ghost use Rattle.blz_value.specs.Members.{Has};
 ghost use Rattle.blz_value.specs.Record.{Row};
-ghost use Rattle.messages.specs.Log.{IsLog, AreGiven, is_same_entry_id, entries_with_ids, row_with_id};
+ghost use Rattle.blz_pool.specs.Entries.{entries_with_ids, row_with_id};
+ghost use Rattle.messages.specs.Log.{IsLog, AreGiven, is_same_entry_id};
 ghost use Rattle.messages.specs.Messages.{with_new, is_same_entry};
 
 use crate::known::Known;
@@ -22,7 +23,7 @@ pub struct Log {
 
 impl Model for Log {
     ghost use Rattle.std.specs.Prelude.{List};
-    ghost use Rattle.messages.specs.Log.{EntryId};
+    ghost use Rattle.blz_pool.specs.Entries.{EntryId};
     ghost use Rattle.messages.specs.Known.{IsKept};
 
     ghost Value = { List EntryId };

@@ -18,7 +18,8 @@ use Rattle.inbox.specs.Executions.{Execution, with_lives, execution_of, after_st
 use Rattle.inbox.specs.Instances.{Instance}
 use Rattle.inbox.specs.Lives.{Life, Lives, all_lives, hear_batch, take_entry, of_entry, life_timesteps}
 use Rattle.messages.specs.Messages.{Batch, Entry, all_pairs}
-use Rattle.inbox.specs.Timesteps.{set_off, timestep_of, timesteps}
+use Rattle.bloom_eval.specs.Arrivals.{timestep_of}
+use Rattle.inbox.specs.Timesteps.{set_off, timesteps}
 use Rattle.inbox.specs.Wiring.{instance_at, wiring_of}
 use Rattle.inbox.proofs.Executions.Appending.{legal_more, sets_off-taking, timesteps-more}
 use Rattle.inbox.proofs.Executions.Lengthening.{lives-changed}

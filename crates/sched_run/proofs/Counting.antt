@@ -13,7 +13,8 @@ use Rattle.blz_value.proofs.Membership.{Has-get_or, Has-from_any, Has-from_map}
 use Rattle.topo_forms.specs.Messages.{row_in, rows_in}
 use Rattle.blz_value.specs.NumberSets.{below}
 use Rattle.messages.specs.Ids.{message_with_id}
-use Rattle.messages.specs.Log.{EntryId, IsLog}
+use Rattle.blz_pool.specs.Entries.{EntryId}
+use Rattle.messages.specs.Log.{IsLog}
 use Rattle.messages.specs.declared.message.Message.{Message as IdMessage}
 use Rattle.messages.specs.declared.message.Message.TheVariants.{Row, Seal}
 use Rattle.messages.specs.Lists.{read_list}

@@ -17,7 +17,8 @@ use Rattle.topo_forms.specs.Valid.{IsValid}
 use Rattle.topo_forms.specs.View.{View, End, senders_of, origin_of, program_of, replicas_of, source_count}
 use Rattle.inbox.specs.Emission.{first_tables}
 use Rattle.inbox.specs.Instances.{Instance}
-use Rattle.messages.specs.Log.{EntryId, AreGiven, entries_with_ids}
+use Rattle.blz_pool.specs.Entries.{EntryId, entries_with_ids}
+use Rattle.messages.specs.Log.{AreGiven}
 use Rattle.inbox.specs.Wiring.{wiring_of, instance_at}
 use Rattle.inbox.proofs.Executions.Standing.{first_seats, stands_first}
 use Rattle.inbox.proofs.WiringLemmas.{instance-wired}

@@ -30,7 +30,8 @@ use Rattle.inbox.specs.Growth.{feed_numbered}
 use Rattle.messages.specs.EmittedIds.{id_in}
 use Rattle.messages.specs.Ids.{IsGiven}
 use Rattle.inbox.specs.Instances.{Instance}
-use Rattle.messages.specs.Log.{EntryId, AreGiven, IsLog, is_same_entry_id, entry_with_id, entries_with_ids}
+use Rattle.blz_pool.specs.Entries.{EntryId, entry_with_id, entries_with_ids}
+use Rattle.messages.specs.Log.{AreGiven, IsLog, is_same_entry_id}
 use Rattle.messages.specs.Messages.{Batch, Entry, Pair, all_pairs, is_same_entry, is_same_pair}
 use Rattle.inbox.specs.Wiring.{feeds_for, instances_at, instance_at, instance_for, is_sequencer, is_there, wiring_of}
 use Rattle.inbox.specs.declared.inbox.Inbox.{Inbox}

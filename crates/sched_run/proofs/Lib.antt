@@ -34,4 +34,3 @@ pub mod FirstLemmas
 pub mod StepsLemmas
 pub mod WorkedLines
 pub mod WorkedReplay
-pub mod Schedules

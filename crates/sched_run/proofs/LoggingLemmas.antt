@@ -16,7 +16,8 @@ use Rattle.inbox.specs.Events.{Part, Step, event, order, Refusal, no_instance, n
 use Rattle.inbox.specs.Executions.{Execution, result_and_then, pair_of, with_logged, after_event}
 use Rattle.messages.specs.Ids.{IsGiven, message_with_id}
 use Rattle.inbox.specs.Instances.{Instance}
-use Rattle.messages.specs.Log.{EntryId, AreGiven, is_same_entry_id, entry_with_id, entries_with_ids}
+use Rattle.blz_pool.specs.Entries.{EntryId, entry_with_id, entries_with_ids}
+use Rattle.messages.specs.Log.{AreGiven, is_same_entry_id}
 use Rattle.messages.specs.Messages.{Pair, is_same_entry, with_new}
 use Rattle.inbox.specs.Standing.{Seats}
 use Rattle.inbox.specs.Wiring.{nobody, instances_at, instance_at, is_sequencer, wiring_of}

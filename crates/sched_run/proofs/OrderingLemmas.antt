@@ -20,7 +20,7 @@ use Rattle.inbox.specs.Executions.{Execution, with_lives, after_event, after_tak
 use Rattle.inbox.specs.Growth.{Continues}
 use Rattle.inbox.specs.Instances.{Instance}
 use Rattle.inbox.specs.Lives.{take_entry, of_entry}
-use Rattle.messages.specs.Log.{EntryId, entry_with_id, entries_with_ids}
+use Rattle.blz_pool.specs.Entries.{EntryId, entry_with_id, entries_with_ids}
 use Rattle.messages.specs.Messages.{Entry}
 use Rattle.inbox.specs.Standing.{Seat, Seats}
 use Rattle.inbox.specs.Wiring.{instance_at, is_there, wiring_of}

@@ -19,7 +19,7 @@ use Rattle.inbox.specs.Events.{Step}
 use Rattle.inbox.specs.Executions.{Execution, after_step, execution_of, result_and_then, emitted_list}
 use Rattle.inbox.specs.Growth.{Continues, NoRepeats, is_repeat_of, feed_numbered}
 use Rattle.inbox.specs.Instances.{Instance}
-use Rattle.messages.specs.Log.{EntryId, row_with_id}
+use Rattle.blz_pool.specs.Entries.{EntryId, row_with_id}
 use Rattle.messages.specs.Messages.{Pair, all_pairs}
 use Rattle.inbox.specs.Pools.{IsLater}
 use Rattle.inbox.specs.Standing.{Seat, Seats, StandsFor}

@@ -14,8 +14,8 @@ use Rattle.topo_forms.specs.Valid.{IsValid}
 use Rattle.topo_forms.specs.View.{View, component_at, replicas_of}
 use Rattle.inbox.specs.Events.{Step, take_one}
 use Rattle.inbox.specs.Growth.{Continues}
-use Rattle.messages.specs.Log.{EntryId, entry_with_id}
-use Rattle.inbox.specs.Timesteps.{timestep_of}
+use Rattle.blz_pool.specs.Entries.{EntryId, entry_with_id}
+use Rattle.bloom_eval.specs.Arrivals.{timestep_of}
 use Rattle.inbox.specs.Wiring.{wiring_of}
 use Rattle.sched_run.specs.Answers.{answer_to, answer_at, fault_at}
 use Rattle.inbox.specs.Limits.{Limit, too_many_rows, too_many_messages, limit_of_event}

@@ -6,9 +6,3 @@ pub mod Hearing
 pub mod First
 pub mod Remaining
 pub mod Records
-pub mod Looking
-pub mod Making
-pub mod Stale
-pub mod Watch
-pub mod Works
-pub mod Written

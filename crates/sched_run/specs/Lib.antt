@@ -12,7 +12,4 @@ pub mod Lent
 pub mod StepReading
 pub mod Steps
 pub mod ScheduleLines
-pub mod Made
-pub mod Naming
-pub mod Making
 pub mod Code

@@ -10,7 +10,8 @@ use Rattle.topo_forms.specs.View.{View, program_of, replicas_of, is_order}
 use Rattle.messages.specs.Messages.{Pair, all_pairs}
 use Rattle.inbox.specs.Instances.{Instance}
 use Rattle.inbox.specs.Wiring.{wiring_of, instance_for, feeds_for}
-use Rattle.messages.specs.Log.{EntryId, AreGiven, entries_with_ids}
+use Rattle.blz_pool.specs.Entries.{EntryId, entries_with_ids}
+use Rattle.messages.specs.Log.{AreGiven}
 use Rattle.inbox.specs.Inbox.{HasHeard, IsFrom, feeds_in}
 use Rattle.inbox.specs.Standing.{Seat, Seats, StandsFor}
 use Rattle.inbox.specs.Growth.{feed_numbered}

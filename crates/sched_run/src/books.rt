@@ -9,6 +9,7 @@ ghost use Rattle.sched_run.specs.Code.Hearing.{EndsAt};
 ghost use Rattle.inbox.specs.Places.{instance_place};
 
 use crate::seated::Seated;
+use bloom_eval::Puts;
 use inbox::Places;
 use messages::{EventFault, Lists, Log, MessageList};
 use topo_forms::Valid;
@@ -25,6 +26,8 @@ pub struct Books {
     pub logs: Vec<Log>,
     /// The books of the instances.
     pub seats: Vec<Seated>,
+    /// What the last step put out; the memory is kept for the next one.
+    pub puts: Puts,
     /// Whether a fault ended the net.
     pub ended: bool,
 }

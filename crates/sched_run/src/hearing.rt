@@ -4,6 +4,7 @@ ghost use Rattle.std.specs.List.{All};
 ghost use Rattle.topo_forms.specs.View.{replicas_of};
 ghost use Rattle.inbox.specs.Events.{batch, deliver};
 ghost use Rattle.messages.specs.Ids.{IsGiven};
+ghost use Rattle.inbox.specs.SetOffs.{AreGivenTo, set_off_read};
 ghost use Rattle.inbox.specs.Wiring.{feeds_for};
 ghost use Rattle.sched_run.specs.Net.{Runs, BooksRun, EventAnswers, EventLeaves};
 ghost use Rattle.sched_run.specs.Numbered.{numbered_parts};
@@ -18,7 +19,7 @@ use crate::seated::{Ear, Seated};
 use bloom_eval::Component;
 use bloom_forms::Mode;
 use blz_pool::Pool;
-use inbox::{Timesteps, emit_at};
+use inbox::{SetOff, emit_at};
 use messages::{EventFault, Known, Message};
 use sched_text::Part;
 use std::alloc::{AllocError, Global};
@@ -40,9 +41,10 @@ fn hear_by(
     pool: &Pool,
     pairs: &[(u32, Message)],
     indexes: &[(u32, u32)],
-) -> Result<Timesteps, AllocError>
+) -> Result<SetOff, AllocError>
     requires { EarCanHear pool.now pairs.now ear.old }
-    ensures { IfOk result (λ set. EarHears pool.now pairs.now indexes.now (record { steps = set.steps; whole = set.whole }) ear.old ear.new) }
+    ensures hears { IfOk result (λ set. EarHears pool.now pairs.now indexes.now (set_off_read pool.now set) ear.old ear.new) }
+    ensures given { IfOk result (λ set. AreGivenTo pool.now set) }
 {
     let Ear::Hears(inbox, known) = ear else {
         unreachable!()
@@ -59,10 +61,11 @@ fn hear_at(
     pool: &Pool,
     pairs: &[(u32, Message)],
     indexes: &[(u32, u32)],
-) -> Result<Timesteps, AllocError>
+) -> Result<SetOff, AllocError>
     requires place { place < length seats.old.items }
     requires can { (was : _) → slice_get seats.old.items place ≡ Some was → EarCanHear pool.now pairs.now was.ear }
-    ensures { IfOk result (λ set. OneHears pool.now pairs.now indexes.now (record { steps = set.steps; whole = set.whole }) place seats.old.items seats.new.items) }
+    ensures hears { IfOk result (λ set. OneHears pool.now pairs.now indexes.now (set_off_read pool.now set) place seats.old.items seats.new.items) }
+    ensures given { IfOk result (λ set. AreGivenTo pool.now set) }
 {
     hear_by(&mut seats[place].ear, pool, pairs, indexes)
 }
@@ -102,12 +105,13 @@ impl Books {
         replica: u32,
         pairs: &[(u32, Message)],
         indexes: &[(u32, u32)],
-    ) -> Result<Timesteps, AllocError>
+    ) -> Result<SetOff, AllocError>
         requires runs { BooksRun valid.now.view self.old }
         requires hears { hears_itself valid.now.view component replica ≡ true }
         requires feeds { All (λ pair. pair.0 < length (feeds_for valid.now.view component replica)) pairs.now }
         requires given { All (λ pair. IsGiven self.old.lists.records pair.1) pairs.now }
-        ensures seats { IfOk result (λ set. OneHears self.old.lists.records pairs.now indexes.now (record { steps = set.steps; whole = set.whole }) (instance_place valid.now.view component replica) self.old.seats.items self.new.seats.items) }
+        ensures seats { IfOk result (λ set. OneHears self.old.lists.records pairs.now indexes.now (set_off_read self.old.lists.records set) (instance_place valid.now.view component replica) self.old.seats.items self.new.seats.items) }
+        ensures given { IfOk result (λ set. AreGivenTo self.old.lists.records set) }
         ensures lists { self.new.lists ≡ self.old.lists }
         ensures places { self.new.places ≡ self.old.places }
         ensures logs { self.new.logs ≡ self.old.logs }
@@ -126,10 +130,11 @@ impl Books {
         component: u32,
         replica: u32,
         parts: &[NumberedPart],
-    ) -> Result<Timesteps, EventFault>
+    ) -> Result<SetOff, EventFault>
         requires runs { BooksRun valid.now.view self.old }
         requires hears { hears_itself valid.now.view component replica ≡ true }
-        ensures heard { IfOk result (λ set. HearsParts valid.now.view self.old component replica parts.now (record { steps = set.steps; whole = set.whole }) self.new.seats.items) }
+        ensures heard { IfOk result (λ set. HearsParts valid.now.view self.old component replica parts.now (set_off_read self.old.lists.records set) self.new.seats.items) }
+        ensures given { IfOk result (λ set. AreGivenTo self.old.lists.records set) }
         ensures refused { IfErr result (λ fault. PairsAnswer valid.now.view self.old component replica parts.now (Err fault) (λ pairs. pairs)) }
         ensures stays { IfErr result (λ fault. fault ≡ NoMemory ⊎ (self.new ≡ self.old)) }
         ensures lists { self.new.lists ≡ self.old.lists }
@@ -175,8 +180,8 @@ impl Books {
             place,
             &mut self.lists,
             self.seats[place].outlets.as_slice(),
-            set.steps.as_slice(),
-            set.whole.as_slice(),
+            &set,
+            &mut self.puts,
         )?;
         self.lists.known();
         Ok(())

@@ -1,5 +1,5 @@
-//! The runner: every instance of a topology with what it heard and sent, the events and steps of a schedule
-//! that is given, applied to it in order, and the schedule that is made of a seed.
+//! The runner: every instance of a topology with what it heard and sent, and the events and steps of a
+//! schedule that is given, applied to it in order.
 #![tactic(auto)]
 
 mod as_step;
@@ -8,7 +8,6 @@ mod closing;
 mod fault;
 mod forgetting;
 mod hearing;
-mod making;
 mod net;
 mod numbered;
 mod opening;
@@ -23,11 +22,13 @@ mod step;
 mod step_reading;
 
 pub use as_step::{AsStep, StepRef};
-pub use fault::{ForgetFault, MakeFault};
-pub use making::{Made, make, make_numbered};
+pub use books::Books;
+pub use fault::ForgetFault;
 pub use messages::EventFault;
 pub use net::Net;
-pub use numbered::NumberedEvent;
+pub use numbered::{NumberedEvent, NumberedPart};
+pub use ordering::is_order;
 pub use running::{StepRefusal, run};
 pub use sched_bench::OpenFault;
+pub use seated::Ear;
 pub use step::Step;

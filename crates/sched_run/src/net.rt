@@ -157,8 +157,8 @@ impl<'a> Net<'a> {
         }
     }
 
-    // Ends the net, after a fault of making.
-    pub(crate) fn end(&mut self)
+    /// Ends the net, as a fault of an event does: for who makes steps of it, and lacks memory for that.
+    pub fn end(&mut self)
         ensures ended { self.new.books.ended ≡ true }
         ensures valid { self.new.valid ≡ self.old.valid }
         ensures shells { self.new.shells ≡ self.old.shells }

@@ -11,7 +11,7 @@ use crate::books::Books;
 use crate::net::Net;
 use crate::numbered::Nearby;
 use crate::seating::first_seats;
-use bloom_eval::Component;
+use bloom_eval::{Component, Puts};
 use inbox::{Places, first_lists};
 use messages::Log;
 use sched_bench::{OpenFault, open_shells};
@@ -44,6 +44,7 @@ fn first_books(alloc: Global, valid: &Valid, given: &Data) -> Result<Books, Allo
         lists,
         logs,
         seats,
+        puts: Puts::new(alloc),
         ended: false,
     })
 }

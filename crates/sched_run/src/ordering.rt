@@ -6,8 +6,8 @@ ghost use Rattle.bloom_eval.specs.Step.{Arrive};
 ghost use Rattle.blz_pool.specs.Pool.{IsPool};
 ghost use Rattle.inbox.specs.Events.{order, take_one};
 ghost use Rattle.inbox.specs.Growth.{Continues};
-ghost use Rattle.messages.specs.Log.{entry_with_id};
-ghost use Rattle.inbox.specs.Timesteps.{timestep_of};
+ghost use Rattle.blz_pool.specs.Entries.{entry_with_id};
+ghost use Rattle.bloom_eval.specs.Arrivals.{timestep_of};
 ghost use Rattle.inbox.specs.Limits.{too_many_rows, too_many_messages};
 ghost use Rattle.messages.specs.Lists.{IsExact, read_lists};
 ghost use Rattle.sched_run.specs.Net.{Runs, BooksRun, EventAnswers, EventLeaves, BooksAnswer, BooksLeave};
@@ -21,10 +21,10 @@ ghost use Rattle.messages.specs.declared.fault.EventFault.TheVariants.{TooManyRo
 use crate::books::Books;
 use crate::numbered::NumberedPart;
 use crate::seated::Seated;
-use bloom_eval::Component;
+use bloom_eval::{Component, Puts};
 use bloom_forms::Mode;
 use blz_pool::Id;
-use inbox::{Outlet, emit_at, timestep};
+use inbox::{Outlet, emit_entries_at};
 use messages::{EventFault, Lists, Message};
 use std::alloc::{AllocError, Global};
 use topo_forms::Valid;
@@ -39,7 +39,7 @@ fn has_log(valid: &Valid, component: u32) -> bool
 }
 
 /// Whether the mode of a component is Order.
-pub(crate) fn is_order(valid: &Valid, component: u32) -> bool
+pub fn is_order(valid: &Valid, component: u32) -> bool
     requires { component < length valid.now.view.components }
     ensures { result ≡ is_order valid.now.view component }
 {
@@ -78,6 +78,7 @@ fn emit_entry(
     outlets: &[Outlet],
     ports: usize,
     entry: (u32, Id),
+    puts: &mut Puts,
 ) -> Result<(), EventFault>
     requires place { place < length shells.old.items }
     requires program { IsSome (slice_index_or (map (λ b. program b) shells.old.items) place None) }
@@ -96,8 +97,7 @@ fn emit_entry(
     ensures messages { result ≡ Err TooManyMessages → MeetsAt too_many_messages (map (λ b. program b) shells.old.items) place outlets.now (map (λ b. kept b) shells.old.items) (read_lists lists.old) (entry_sets_off lists.old.records ports entry) }
     ensures legal { IsLegal result }
 {
-    let now = timestep(alloc, lists.pool(), ports, &[entry])?;
-    let emitted = emit_at(alloc, shells, place, lists, outlets, &[now], &[]);
+    let emitted = emit_entries_at(alloc, shells, place, lists, outlets, ports, &[entry], puts);
     lists.known();
     emitted
 }
@@ -171,6 +171,7 @@ impl Books {
             self.seats[place].outlets.as_slice(),
             valid.port_count(component) as usize,
             entry,
+            &mut self.puts,
         )?;
         take_at(&mut self.seats, place);
         Ok(())

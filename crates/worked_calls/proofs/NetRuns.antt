@@ -6,7 +6,7 @@ use Rattle.topo_forms.specs.Data.{Data}
 use Rattle.topo_forms.specs.View.{View}
 use Rattle.sched_run.specs.Net.{BooksRun, Stands}
 use Rattle.sched_run.specs.declared.books.Books.{Books}
-use Rattle.sched_run.specs.Making.{RunsFirst}
+use Rattle.sched_make.specs.Making.{RunsFirst}
 use Rattle.sched_run.specs.Steps.{Applies, steps_in}
 use Rattle.sched_run.specs.declared.running.StepRefusal.{StepRefusal}
 use Rattle.sched_run.specs.declared.step.Step.{Step as NamedStep}

@@ -84,15 +84,15 @@ AllLast lasting rules head = (rule : NumberedRule) → Has rule rules → rule.h
 -- the change of a rule that is kept stands behind the others, and the rows of another are added; TooManyRows comes only where these are too many
 abbrev pub AddsRule : {X : Type 0} → Change → (old new : HeadParts) → Result X SetFault → Type 0
 AddsRule change old new (Ok x) =
-    (new.changes.items ≡ cond change.kept (old.changes.items ++ change ∷ []) old.changes.items) × (new.rows ≡ cond change.kept old.rows (set_of (old.rows ++ rows_in change.rows)))
-AddsRule change old new (Err TooManyRows) = (change.kept ≡ false) × (row_limit < length (set_of (old.rows ++ rows_in change.rows)))
+    (new.changes.items ≡ cond change.kept (old.changes.items ++ change ∷ []) old.changes.items) × (rows_in new.rows ≡ cond change.kept (rows_in old.rows) (set_of (rows_in old.rows ++ rows_in change.rows)))
+AddsRule change old new (Err TooManyRows) = (change.kept ≡ false) × (row_limit < length (set_of (rows_in old.rows ++ rows_in change.rows)))
 AddsRule change old new (Err NoMemory) = Unit {0}
 
 -- its rules were evaluated: those that are kept changed, and the others give the set; TooManyRows comes only where the head has too many rows or a part of a body has
 abbrev pub MakesParts : (rules : List NumberedRule) (head : ℕ) (memos : List Memo) (held : List Change) → AreReady rules head memos held → (after : List Memo) → Result HeadParts SetFault → Type 0
 MakesParts rules head memos held ready after (Ok parts) =
     BodiesTurn (bodies_of ready.old ready.new (kept_rules ready.lasting rules head)) parts.changes.items
-    × (parts.rows ≡ set_of (rows_given ready.new (passing_rules ready.lasting rules head)))
+    × (rows_in parts.rows ≡ set_of (rows_given ready.new (passing_rules ready.lasting rules head)))
     × AllFit (head_sets ready.a ready.new head)
     × AreTurned ready.growing ready.lasting ready.new rules head (length rules) memos after
 MakesParts rules head memos held ready after (Err TooManyRows) = SomeIsOver (set_of (ruled_at ready.a.form ready.new head) ∷ head_sets ready.a ready.new head)

@@ -2,7 +2,9 @@
 use Rattle.std.specs.Prelude.{ℕ, ◌≡◌, Bool, Some, List, [], length, map, slice_get}
 use Rattle.blz_set.specs.RecordSet.{IsRecordSet}
 use Rattle.bloom_forms.specs.declared.module.Collection.{Collection}
-use Rattle.bloom_forms.specs.Step.{Sets, set_at, at_start}
+use Rattle.bloom_forms.specs.declared.module.Kind.TheVariants.{Output}
+use Rattle.bloom_forms.specs.Form.{Accepted}
+use Rattle.bloom_forms.specs.Step.{Sets, set_at, sets_of_kind, at_start}
 use Rattle.bloom_index.specs.declared.change.Change.{Change}
 use Rattle.bloom_index.specs.Code.Lasting.{lasts_at}
 use Rattle.bloom_index.specs.Code.Turns.{rows_in}
@@ -10,6 +12,10 @@ use Rattle.bloom_index.specs.Code.Turns.{rows_in}
 -- the rows of the change of each collection
 abbrev pub held_sets : List Change → Sets
 held_sets held = map (λ change. rows_in change.rows) held
+
+-- of them those that are put out
+abbrev pub outs_in : Accepted → List Change → Sets
+outs_in a held = sets_of_kind Output a.form.collections (held_sets held)
 
 -- what a collection has at the beginning: a port what arrives, any other nothing, and where it is kept this is what comes of it, and nothing goes
 pub record IsBegunAt (cs : List Collection) (lasting : List Bool) (now : Sets) (number : ℕ) (change : Change) : Type 0 where

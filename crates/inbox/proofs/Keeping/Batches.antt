@@ -1,43 +1,38 @@
 -- An inbox that hears one message more stands for what was heard.
-use Rattle.std.proofs.Common.{◌≡◌, refl, ap, sym, subst, ◌∙◌, ℕ, ◌<◌, ◌&&◌, Bool, true, false, not, Option, Some, None, List, [], ◌∷◌, ◌++◌, length, append-nil, inl, inr}
-use Rattle.std.specs.BTreeSet.{BTreeSet, contains}
-use Rattle.std.specs.List.{filter_map}
-use Rattle.std.specs.Option.{option_map, option_map_or, is_some, unwrap_or}
+use Rattle.std.proofs.Common.{◌≡◌, refl, ap, sym, subst, ◌∙◌, ℕ, ◌<◌, ◌&&◌, Bool, true, false, Option, Some, None, List, [], ◌∷◌, ◌++◌, length, append-nil, inl, inr}
+use Rattle.std.specs.Option.{is_some}
 use Rattle.std.proofs.Math.ListN.{length-set}
-use Rattle.std.proofs.lemmas.Bool.{cases_Bool, not-true, not_from_false}
+use Rattle.std.proofs.lemmas.Bool.{cases_Bool}
 use Rattle.blz_pool.specs.Pool.{IsPool}
 use Rattle.blz_value.specs.Members.{Has}
-use Rattle.blz_value.specs.Record.{Row, record_cmp}
-use Rattle.blz_value.specs.Sets.{set_of}
-use Rattle.blz_value.proofs.Membership.{Has-append_cases, any_from_Has}
-use Rattle.blz_value.proofs.SetLaws.{Has-set_of, Has-from_set_of}
-use Rattle.blz_value.proofs.Booleans.{same_truth}
-use Rattle.topo_forms.specs.Messages.{Message, row, seal, is_same_row, row_in}
-use Rattle.messages.specs.Messages.{Pair, Batch, Entry}
+use Rattle.blz_value.specs.Record.{Row}
+use Rattle.blz_value.proofs.Membership.{Has-append_cases}
+use Rattle.topo_forms.specs.Messages.{row, seal}
+use Rattle.messages.specs.Messages.{Pair, Entry}
 use Rattle.inbox.specs.Instances.{Instance, port_of_feed, entries_of, key_of_entry}
-use Rattle.inbox.specs.Timesteps.{is_whole, is_due}
-use Rattle.messages.specs.Log.{EntryId, is_same_entry_id, row_with_id}
+use Rattle.blz_pool.specs.Entries.{EntryId, row_with_id}
+use Rattle.messages.specs.Log.{is_same_entry_id}
 use Rattle.messages.specs.Whole.{feeds_view}
-use Rattle.messages.specs.Feeds.{FeedView, FeedsView, feed_count, port_in, key_in, HearsSeal, IsOneChanged}
-use Rattle.inbox.specs.Code.Batches.{open_key, is_open, HearsIf, HearsRecord, WaitsWith, AllWaitWith}
+use Rattle.messages.specs.Feeds.{FeedView, FeedsView, feed_count, port_in, HearsSeal, IsOneChanged}
+use Rattle.inbox.specs.Code.Batches.{HearsIf, HearsRecord, IsHeardAs}
+use Rattle.messages.specs.Whole.{key_at}
+use Rattle.messages.specs.declared.feeds.Feeds.{Feeds}
+use Rattle.inbox.specs.declared.inbox.Touched.{Touched}
 use Rattle.inbox.specs.Code.Heard.{FeedsHeard, WaitingHeard, IsIdle}
 use Rattle.inbox.specs.Code.Waiting.{KeepsEntry}
 use Rattle.inbox.specs.Inbox.{Keeps, IsFrom}
 use Rattle.inbox.specs.declared.waiting.Waiting.{Waiting}
 use Rattle.inbox.specs.declared.inbox.Inbox.{Inbox}
 use Rattle.messages.proofs.LogLemmas.{one_id, is_same_entry_id-is, is_same_entry_id-itself}
-use Rattle.messages.proofs.MessagesLemmas.{Has-from_with_new, is_same_row-is, is_same_row-itself, any-from_same, same-from_any}
-use Rattle.inbox.proofs.TimestepLemmas.Touching.{is_touching}
-use Rattle.inbox.proofs.TimestepLemmas.UnderSeal.{is-of_key}
+use Rattle.messages.proofs.MessagesLemmas.{Has-from_with_new}
 use Rattle.inbox.proofs.TimestepLemmas.Whole.{entries_of-append}
-use Rattle.inbox.proofs.Keeping.Feeds.{feeds-row, feeds-seal, feeds-no_row, port_in-is, key_in-is}
+use Rattle.inbox.proofs.Keeping.Feeds.{feeds-row, feeds-seal, feeds-no_row, port_in-is}
 use Rattle.inbox.proofs.Keeping.Records.{records-row, records-seal}
-use Rattle.inbox.proofs.Keeping.Whole.{opens, opened}
 
 -- ---- ids are the pool's
 
-pub from-record : (records : List Row) (partial : BTreeSet Row) (old new : Inbox) (feed id : ℕ) (key : Option Row) → HearsRecord partial old new feed key id → id < length records → IsFrom records old → IsFrom records new
-from-record records partial old new feed id key h within from x there =
+pub from-record : (records : List Row) (old new : Inbox) (feed id : ℕ) (key : Option Row) (waits : Bool) → HearsRecord old new feed key id waits → id < length records → IsFrom records old → IsFrom records new
+from-record records old new feed id key waits h within from x there =
     elim (cases_Bool old.sealing) [
       | inl on ↦
           elim (Has-from_with_new is_same_entry_id is_same_entry_id-is is_same_entry_id-itself x (port_in (feeds_view old.feeds) feed, id) old.waiting.log (subst (λ l. Has x l) (h.kept on).log there)) [
@@ -63,34 +58,30 @@ come-seal i heard feed k n come entry h = come entry (subst (λ l. Has entry l) 
 
 -- ---- one message more
 
-open_test : (partial : BTreeSet Row) (key : Option Row) → (is_some key && is_open partial key) ≡ is_open partial key
-open_test partial None = refl
-open_test partial (Some key) = refl
-
 module _ (i : Instance) (records : List Row) (waits : Entry → Bool) (heard : List Pair) (old new : Inbox) (s : Keeps i records waits heard old) (feed : ℕ) (inside : feed < feed_count (feeds_view old.feeds)) where
   counted : (f : FeedsView) (id : ℕ) (key : Option Row) → HearsIf (feeds_view old.feeds) f feed key id → key ≡ key_of_entry i (port_of_feed i feed, row_with_id records id) → id < length records → IsPool records
       → FeedsHeard i records (heard ++ (feed, row (row_with_id records id)) ∷ []) f
   counted f id None same of within pool = subst (λ g. FeedsHeard i records (heard ++ (feed, row (row_with_id records id)) ∷ []) g) (sym same) (feeds-no_row i records heard (feeds_view old.feeds) feed (row_with_id records id) s.feeds (sym of))
   counted f id (Some key) hears of within pool = feeds-row i records heard (feeds_view old.feeds) f feed key id s.feeds hears inside within (one_id records pool id within) (sym of)
 
-  pub keeps-row : (partial : BTreeSet Row) (id : ℕ) → HearsRecord partial old new feed (key_in (feeds_view old.feeds) (port_in (feeds_view old.feeds) feed, row_with_id records id)) id → id < length records → IsPool records
-      → WaitsWith partial i waits (feed, row (row_with_id records id)) → Keeps i records waits (heard ++ (feed, row (row_with_id records id)) ∷ []) new
-  keeps-row partial id h within pool wait =
+  pub keeps-row : (keys : List Row) (t : Touched) (id : ℕ) → HearsRecord old new feed (key_at keys t.number) id t.waits → id < length records → IsPool records
+      → IsHeardAs i keys waits (feed, row (row_with_id records id)) t → Keeps i records waits (heard ++ (feed, row (row_with_id records id)) ∷ []) new
+  keeps-row keys t id h within pool as_said =
       let r : Row = row_with_id records id in
       let port : port_in (feeds_view old.feeds) feed ≡ port_of_feed i feed = port_in-is i records heard (feeds_view old.feeds) feed s.feeds inside in
-      let key : key_in (feeds_view old.feeds) (port_in (feeds_view old.feeds) feed, r) ≡ key_of_entry i (port_of_feed i feed, r) = ap (λ (p : ℕ). key_in (feeds_view old.feeds) (p, r)) port ∙ key_in-is i records heard (feeds_view old.feeds) (port_of_feed i feed, r) s.feeds in
+      let key : key_at keys t.number ≡ key_of_entry i (port_of_feed i feed, r) = as_said.key_is in
       record {
         mode = h.mode ∙ s.mode;
         hears = s.hears;
         come = come-row i heard feed r (s.feeds.within feed (subst (λ n. feed < n) s.feeds.count inside)) s.come;
-        feeds = counted (feeds_view new.feeds) id (key_in (feeds_view old.feeds) (port_in (feeds_view old.feeds) feed, r)) h.feeds key within pool;
+        feeds = counted (feeds_view new.feeds) id (key_at keys t.number) h.feeds key within pool;
         waiting = λ on.
             let was : old.sealing ≡ true = sym h.mode ∙ on in
-            records-row i records waits heard feed id old.waiting new.waiting (key_in (feeds_view old.feeds) (port_in (feeds_view old.feeds) feed, r)) (is_open partial (key_in (feeds_view old.feeds) (port_in (feeds_view old.feeds) feed, r)))
+            records-row i records waits heard feed id old.waiting new.waiting (key_at keys t.number) t.waits
             (s.waiting was)
-            (subst (λ (p : ℕ). KeepsEntry old.waiting new.waiting (p, id) (key_in (feeds_view old.feeds) (port_in (feeds_view old.feeds) feed, r)) (is_open partial (key_in (feeds_view old.feeds) (port_in (feeds_view old.feeds) feed, r)))) port (h.kept was))
+            (subst (λ (p : ℕ). KeepsEntry old.waiting new.waiting (p, id) (key_at keys t.number) t.waits) port (h.kept was))
             within (one_id records pool id within) key
-            (open_test partial (key_in (feeds_view old.feeds) (port_in (feeds_view old.feeds) feed, r)) ∙ ap (is_open partial) key ∙ sym (wait (port_of_feed i feed, r) refl));
+            (ap (λ (k : Option Row). is_some k && t.waits) key ∙ sym (as_said.waiting (port_of_feed i feed, r) refl));
         idle = λ off. subst (λ w. IsIdle w) (sym (h.idle (sym h.mode ∙ off))) (s.idle (sym h.mode ∙ off));
       }
 
@@ -104,28 +95,6 @@ module _ (i : Instance) (records : List Row) (waits : Entry → Bool) (heard : L
     idle = λ off. subst (λ w. IsIdle w) (sym same) (s.idle (sym mode ∙ off));
   }
 
--- ---- the records of a batch wait exactly where their partitions aren't whole
-
-pub all_wait : (i : Instance) (records : List Row) (heard : List Pair) (batch : Batch) (f : FeedsView) (partial : BTreeSet Row) → FeedsHeard i records heard f → ((pair : Pair) → Has pair batch → pair.0 < feed_count f)
-    → partial.keys ≡ set_of (filter_map (open_key f) batch) → AllWaitWith partial i (λ entry. not (is_due i heard entry)) batch
-all_wait i records heard batch f partial s inside is pair there entry of = by (key_of_entry i entry) refl
-  where
-    by : (key : Option Row) → key_of_entry i entry ≡ key → not (option_map_or (is_whole i heard) key true) ≡ is_open partial key
-    by None e = refl
-    by (Some key) e = same_truth (not (is_whole i heard key)) (contains record_cmp partial key)
-        (λ waits. any-from_same is_same_row is_same_row-is is_same_row-itself key partial.keys
-        (subst (λ l. Has key l) (sym is) (Has-set_of key (filter_map (open_key f) batch)
-        (opens i records heard f s batch key inside (any_from_Has (is_touching i key) pair batch there (touches pair.0 pair.1 of)) (not-true (is_whole i heard key) waits)))))
-        (λ found. not_from_false (is_whole i heard key)
-        (opened i records heard f s batch key (Has-from_set_of key (filter_map (open_key f) batch)
-        (subst (λ l. Has key l) is (same-from_any is_same_row is_same_row-is is_same_row-itself key partial.keys found)))))
-      where
-        touches : (feed : ℕ) (message : Message) → option_map (λ r. (port_of_feed i feed, r)) (row_in message) ≡ Some entry → is_touching i key (feed, message) ≡ true
-        touches feed (row r) p =
-            let is_entry : (port_of_feed i feed, r) ≡ entry = ap (λ o. unwrap_or o (port_of_feed i feed, r)) p in
-            is-of_key i key (port_of_feed i feed, r) (ap (key_of_entry i) is_entry ∙ e)
-        touches feed (seal k n) p = cc
-
 -- ---- the number of feeds
 
 pub count-one : (old new : FeedsView) (feed : ℕ) (was now : FeedView) → IsOneChanged old new feed was now → feed_count new ≡ feed_count old
@@ -137,15 +106,12 @@ count-if old new feed id (Some key) hears = count-one old new feed hears.was hea
 
 -- ---- a record is heard by being kept and counted
 
-pub hears_record : (partial : BTreeSet Row) (old mid new : Inbox) (feed id port : ℕ) (key own : Option Row) → own ≡ key → port ≡ port_in (feeds_view old.feeds) feed
-    → mid.sealing ≡ old.sealing → feeds_view mid.feeds ≡ feeds_view old.feeds → (old.sealing ≡ true → KeepsEntry old.waiting mid.waiting (port, id) own (is_open partial own)) → (old.sealing ≡ false → mid.waiting ≡ old.waiting)
-    → new.sealing ≡ mid.sealing → HearsIf (feeds_view mid.feeds) (feeds_view new.feeds) feed own id → new.waiting ≡ mid.waiting → HearsRecord partial old new feed key id
-hears_record partial old mid new feed id port key own same at mode feeds kept idle mode_then hears waiting = record {
+pub hears_record : (old mid new : Inbox) (feed id port : ℕ) (key : Option Row) (waits : Bool) → port ≡ port_in (feeds_view old.feeds) feed
+    → mid.sealing ≡ old.sealing → mid.feeds ≡ old.feeds → (old.sealing ≡ true → KeepsEntry old.waiting mid.waiting (port, id) key waits) → (old.sealing ≡ false → mid.waiting ≡ old.waiting)
+    → new.sealing ≡ mid.sealing → HearsIf (feeds_view mid.feeds) (feeds_view new.feeds) feed key id → new.waiting ≡ mid.waiting → HearsRecord old new feed key id waits
+hears_record old mid new feed id port key waits at mode feeds kept idle mode_then hears waiting = record {
   mode = mode_then ∙ mode;
-  feeds = subst (λ k. HearsIf (feeds_view old.feeds) (feeds_view new.feeds) feed k id) same (subst (λ f. HearsIf f (feeds_view new.feeds) feed own id) feeds hears);
-  kept = λ on.
-      subst (λ w. KeepsEntry old.waiting w (port_in (feeds_view old.feeds) feed, id) key (is_open partial key)) (sym waiting)
-      (subst (λ k. KeepsEntry old.waiting mid.waiting (port_in (feeds_view old.feeds) feed, id) k (is_open partial k)) same
-      (subst (λ (p : ℕ). KeepsEntry old.waiting mid.waiting (p, id) own (is_open partial own)) at (kept on)));
+  feeds = subst (λ (f : Feeds). HearsIf (feeds_view f) (feeds_view new.feeds) feed key id) feeds hears;
+  kept = λ on. subst (λ w. KeepsEntry old.waiting w (port_in (feeds_view old.feeds) feed, id) key waits) (sym waiting) (subst (λ (p : ℕ). KeepsEntry old.waiting mid.waiting (p, id) key waits) at (kept on));
   idle = λ off. waiting ∙ idle off;
 }

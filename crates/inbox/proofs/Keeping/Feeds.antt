@@ -22,7 +22,7 @@ use Rattle.topo_forms.specs.Messages.{Message, row, seal, is_same_row}
 use Rattle.messages.specs.Messages.{Pair, Entry}
 use Rattle.inbox.specs.Instances.{PortKey, Instance, port_of_feed, is_carrying, entries_of, key_of_entry, is_of_key}
 use Rattle.inbox.specs.Timesteps.{is_seal_within, from_feed}
-use Rattle.messages.specs.Log.{row_with_id}
+use Rattle.blz_pool.specs.Entries.{row_with_id}
 use Rattle.messages.specs.PartitionCounts.{is_met}
 use Rattle.messages.specs.Feeds.{FeedView, FeedsView, feed_count, port_in, key_in, carries_in, FeedHearsRow, FeedHearsSeal, HearsRow, HearsSeal, IsOneChanged}
 use Rattle.inbox.specs.Code.Heard.{keyed_rows, count_sent, FeedHeard, FeedsHeard}

@@ -11,7 +11,7 @@ use Rattle.messages.specs.Messages.{Pair, Batch, Entry, all_pairs}
 use Rattle.inbox.specs.Instances.{Instance, PortKey, port_of_feed, is_carrying}
 use Rattle.inbox.specs.Timesteps.{is_some_feed, is_due}
 use Rattle.inbox.specs.Wiring.{instance_for, port_for}
-use Rattle.messages.specs.Log.{EntryId, entries_with_ids}
+use Rattle.blz_pool.specs.Entries.{EntryId, entries_with_ids}
 use Rattle.inbox.specs.Code.Places.{places_of}
 use Rattle.messages.specs.Whole.{feeds_view}
 use Rattle.messages.specs.Feeds.{FeedView, FeedsView, feed_count, IsFreshFeed, carries_at, IsFresh, IsCleared}

@@ -1,6 +1,5 @@
 -- What an inbox answers to a batch is what the batch sets off, and it then stands for the batch too.
-use Rattle.std.proofs.Common.{◌≡◌, refl, ap, sym, subst, ◌∙◌, ℕ, suc, ◌-◌, ◌<◌, ◌&&◌, ◌||◌, Bool, true, false, not, cond, List, [], ◌∷◌, ◌++◌, length, filter, get_or, arith, inl, inr}
-use Rattle.std.specs.BTreeSet.{BTreeSet}
+use Rattle.std.proofs.Common.{◌≡◌, refl, ap, sym, subst, ◌∙◌, ℕ, suc, ◌-◌, ◌<◌, ◌&&◌, ◌||◌, Bool, true, false, not, cond, Option, None, Some, List, [], ◌∷◌, ◌++◌, length, filter, get_or, arith, inl, inr}
 use Rattle.std.specs.List.{All, list_any, filter_map, cons_option}
 use Rattle.std.specs.Option.{option_map}
 use Rattle.std.proofs.lemmas.Bool.{cases_Bool}
@@ -20,12 +19,16 @@ use Rattle.topo_forms.specs.Messages.{row_in}
 use Rattle.topo_forms.specs.View.{is_order_mode}
 use Rattle.messages.specs.Messages.{Pair, Batch, Entry, is_same_entry, all_pairs, firsts}
 use Rattle.inbox.specs.Instances.{Instance, port_of_feed, is_carrying, entry_of, entries_of}
-use Rattle.inbox.specs.Timesteps.{is_due, is_of_some, timestep_of, one_timestep, one_by_one, first_part, second_part, newly_whole, steps_in, held_count}
+use Rattle.bloom_eval.specs.Arrivals.{timestep_of}
+use Rattle.inbox.specs.Timesteps.{is_due, is_of_some, one_timestep, one_by_one, first_part, second_part, newly_whole, steps_in, held_count}
 use Rattle.messages.specs.Ids.{message_with_id, pair_with_id, batch_with_ids, IsGiven}
-use Rattle.messages.specs.Log.{EntryId, AreGiven, is_same_entry_id, row_with_id, entry_with_id, entries_with_ids}
-use Rattle.messages.specs.Whole.{feeds_view}
-use Rattle.messages.specs.Feeds.{FeedsView, feed_count, port_count, port_in, key_in, carries_in, is_whole_in, is_due_in}
-use Rattle.inbox.specs.Code.Batches.{AllWaitWith, id_in, entry_ids_of, goes_in, open_key, steps_released, Releases}
+use Rattle.blz_pool.specs.Entries.{EntryId, row_with_id, entry_with_id, entries_with_ids}
+use Rattle.messages.specs.Log.{AreGiven, is_same_entry_id}
+use Rattle.messages.specs.Whole.{feeds_view, partitions}
+use Rattle.messages.specs.Feeds.{FeedsView, feed_count, port_count, port_in, key_in, carries_in, is_due_in}
+use Rattle.inbox.specs.Code.Batches.{AreHeardAs, AreTouched, IsSeenAs, became_key, id_in, entry_ids_of, goes_in, open_key, AreReleased, Releases}
+use Rattle.inbox.specs.SetOffs.{released_read}
+use Rattle.inbox.specs.declared.set_off.Released.{Released}
 use Rattle.inbox.specs.Code.Heard.{FeedsHeard, WaitingHeard, IsIdle, is_sealing, is_place_of}
 use Rattle.messages.specs.Ports.{PortKey}
 use Rattle.inbox.specs.Code.Places.{places_of}
@@ -34,6 +37,7 @@ use Rattle.inbox.specs.Inbox.{Keeps, HasHeard}
 use Rattle.messages.specs.declared.message.Message.{Message as IdMessage}
 use Rattle.messages.specs.declared.message.Message.TheVariants.{Row, Seal}
 use Rattle.inbox.specs.declared.waiting.Waiting.{Waiting}
+use Rattle.inbox.specs.declared.inbox.Touched.{Touched}
 use Rattle.inbox.specs.declared.inbox.Inbox.{Inbox}
 use Rattle.messages.proofs.LogLemmas.{one_id, any-with_ids}
 use Rattle.messages.proofs.MessagesLemmas.{is_same_entry-is, is_same_entry-itself, any-from_same, same-from_any, Has-firsts, Has-from_firsts}
@@ -41,7 +45,7 @@ use Rattle.inbox.proofs.TimestepLemmas.AtOnce.{GoesAtOnce}
 use Rattle.inbox.proofs.TimestepLemmas.Held.{seal_held, at_once_held}
 use Rattle.inbox.proofs.TimestepLemmas.UnderSeal.{all_pairs-more}
 use Rattle.inbox.proofs.Keeping.Feeds.{port_in-is, carries_in-is}
-use Rattle.inbox.proofs.Keeping.Batches.{all_wait}
+use Rattle.inbox.proofs.Keeping.Touching.{all_heard_as, whole-among}
 use Rattle.inbox.proofs.Keeping.Whole.{due_in-is, newly-is}
 use Rattle.inbox.proofs.Keeping.Released.{released-is, first_steps-are, held-after}
 
@@ -137,6 +141,22 @@ module _ (i : Instance) (records : List Record) (waits : Entry → Bool) (heard 
 count_ports : (i : Instance) (records : List Record) (heard : List Pair) (f : FeedsView) → FeedsHeard i records heard f → port_count f ≡ length i.ports
 count_ports i records heard f s = ap (length {A = PortKey}) s.ports
 
+-- the timesteps of these entries, where some partition becomes whole: those at carrying ports in one, and then the others one by one
+abbrev steps_released : List Record → FeedsView → (whole : List Record) → List EntryId → List Sets
+steps_released records f [] entries = []
+steps_released records f (key ∷ keys) entries =
+    timestep_of (port_count f) (entries_with_ids records (filter (λ entry. carries_in f entry.0) entries))
+    ∷ one_by_one (port_count f) (entries_with_ids records (filter (λ entry. not (carries_in f entry.0)) entries))
+
+-- are those of the parts in which they are released
+parts_steps : (records : List Record) (f : FeedsView) (whole : List Record) (entries : List EntryId) (released : Option Released) → AreReleased f whole entries released → released_read records (port_count f) released ≡ steps_released records f whole entries
+parts_steps records f [] entries None h = refl
+parts_steps records f [] entries (Some parts) h = absurd h
+parts_steps records f (key ∷ keys) entries None h = absurd h
+parts_steps records f (key ∷ keys) entries (Some parts) h =
+    ap (λ (own : List EntryId). timestep_of (port_count f) (entries_with_ids records own) ∷ one_by_one (port_count f) (entries_with_ids records parts.alone.items)) h.together
+    ∙ ap (λ (others : List EntryId). timestep_of (port_count f) (entries_with_ids records (filter (λ entry. carries_in f entry.0) entries)) ∷ one_by_one (port_count f) (entries_with_ids records others)) h.alone
+
 pub released_first : (i : Instance) (records : List Record) (waits : Entry → Bool) (heard : List Pair) (f : FeedsView) (w : Waiting) (whole : List Record) → FeedsHeard i records heard f → WaitingHeard i records waits heard w
     → steps_released records f whole (released_of w whole) ≡ first_part i whole (entries_of i heard)
 released_first i records waits heard f w [] s t = refl
@@ -161,13 +181,14 @@ released_first i records waits heard f w (key ∷ keys) s t =
 -- ---- a whole batch
 
 -- what the code says of the batch, from its beginning over its middle, when all is heard, to its end
-pub record HearsBatch (records : List Record) (old mid new : Inbox) (partial : BTreeSet Record) (batch : List (ℕ × IdMessage)) (whole : List Record) (first steps : List Sets) : Type 0 where
+pub record HearsBatch (records : List Record) (old mid new : Inbox) (touched : List Touched) (batch : List (ℕ × IdMessage)) (whole : List Record) (released : Option Released) (first steps : List Sets) : Type 0 where
   pub pool : IsPool records
   pub inside : (pair : ℕ × IdMessage) → Has pair batch → pair.0 < feed_count (feeds_view old.feeds)
   pub given : (pair : ℕ × IdMessage) → Has pair batch → IsGiven records pair.1
-  pub open_keys : partial.keys ≡ set_of (filter_map (open_key (feeds_view old.feeds)) (batch_with_ids records batch))
-  pub whole_are : whole ≡ filter (is_whole_in (feeds_view mid.feeds)) partial.keys
-  pub releases : Releases records mid new (cond mid.sealing whole []) [] first
+  pub touched_are : AreTouched records (feeds_view old.feeds) (partitions old.feeds) batch touched
+  pub whole_are : whole ≡ set_of (filter_map (became_key (feeds_view mid.feeds) (partitions old.feeds)) touched)
+  pub releases : Releases mid new (cond mid.sealing whole []) released
+  pub first_are : first ≡ released_read records (port_count (feeds_view old.feeds)) released
   pub steps_are : steps ≡ first ++ one_timestep (port_count (feeds_view old.feeds)) (entries_with_ids records (filter (goes_in records old) (entry_ids_of (feeds_view old.feeds) batch)))
 
 pairs_inside : (records : List Record) (count : ℕ) (batch : List (ℕ × IdMessage)) → ((pair : ℕ × IdMessage) → Has pair batch → pair.0 < count) → (pair : Pair) → Has pair (batch_with_ids records batch) → pair.0 < count
@@ -175,14 +196,24 @@ pairs_inside records count batch inside pair h =
     let m = Has-from_map (pair_with_id records) pair batch h in
     subst (λ (n : ℕ). n < count) (ap (λ (p : Pair). p.0) m.2) (inside m.0 m.1)
 
-module _ (records : List Record) (old mid new : Inbox) (partial : BTreeSet Record) (batch : List (ℕ × IdMessage)) (whole : List Record) (first steps : List Sets)
-    (h : HearsBatch records old mid new partial batch whole first steps) (i : Instance) (batches : List Batch) (s : HasHeard i records batches old)
+module _ (records : List Record) (old mid new : Inbox) (touched : List Touched) (batch : List (ℕ × IdMessage)) (whole : List Record) (released : Option Released) (first steps : List Sets)
+    (h : HearsBatch records old mid new touched batch whole released first steps) (i : Instance) (batches : List Batch) (s : HasHeard i records batches old)
     (m : Keeps i records (λ entry. not (is_due i (all_pairs batches) entry)) (all_pairs batches ++ batch_with_ids records batch) mid) where
   pub whole-is : whole ≡ newly_whole i (all_pairs batches) (batch_with_ids records batch)
-  whole-is = newly-is i records (all_pairs batches) (batch_with_ids records batch) (feeds_view old.feeds) (feeds_view mid.feeds) partial.keys whole s.feeds m.feeds (pairs_inside records (feed_count (feeds_view old.feeds)) batch h.inside) h.open_keys h.whole_are
+  whole-is =
+      let keys : List Record = filter_map (open_key (feeds_view old.feeds)) (batch_with_ids records batch) in
+      newly-is i records (all_pairs batches) (batch_with_ids records batch) (feeds_view old.feeds) (feeds_view mid.feeds) (set_of keys) whole s.feeds m.feeds (pairs_inside records (feed_count (feeds_view old.feeds)) batch h.inside) refl
+      (h.whole_are ∙ whole-among records (feeds_view old.feeds) (feeds_view mid.feeds) (partitions old.feeds) batch touched h.touched_are)
 
   same_mode : old.sealing ≡ mid.sealing
   same_mode = s.mode ∙ sym m.mode
+
+  first_released : first ≡ steps_released records (feeds_view mid.feeds) (cond mid.sealing whole []) (released_of mid.waiting (cond mid.sealing whole []))
+  first_released =
+      let before : port_count (feeds_view old.feeds) ≡ length i.ports = count_ports i records (all_pairs batches) (feeds_view old.feeds) s.feeds in
+      let after : port_count (feeds_view mid.feeds) ≡ length i.ports = count_ports i records (all_pairs batches ++ batch_with_ids records batch) (feeds_view mid.feeds) m.feeds in
+      h.first_are ∙ ap (λ (n : ℕ). released_read records n released) (before ∙ sym after)
+      ∙ parts_steps records (feeds_view mid.feeds) (cond mid.sealing whole []) (released_of mid.waiting (cond mid.sealing whole [])) released h.releases.parts
 
   pub steps-are : steps ≡ steps_in i.mode i (all_pairs batches) (batch_with_ids records batch)
   steps-are =
@@ -194,19 +225,19 @@ module _ (records : List Record) (old mid new : Inbox) (partial : BTreeSet Recor
       ∙ elim (cases_Bool mid.sealing) [
         | inl on ↦
             let on_old : old.sealing ≡ true = same_mode ∙ on in
-            let released : first ≡ first_part i (newly_whole i heard more) (entries_of i (heard ++ more)) =
-            h.releases.steps
+            let first_is : first ≡ first_part i (newly_whole i heard more) (entries_of i (heard ++ more)) =
+            first_released
             ∙ ap (λ b. steps_released records (feeds_view mid.feeds) (cond b whole []) (released_of mid.waiting (cond b whole []))) on
             ∙ released_first i records (λ entry. not (is_due i heard entry)) (heard ++ more) (feeds_view mid.feeds) mid.waiting whole m.feeds (m.waiting on)
             ∙ ap (λ keys. first_part i keys (entries_of i (heard ++ more))) whole-is in
-            ap (λ l. l ++ one_timestep (length i.ports) (entries_with_ids records going)) released
+            ap (λ l. l ++ one_timestep (length i.ports) (entries_with_ids records going)) first_is
             ∙ ap (λ l. first_part i (newly_whole i heard more) (entries_of i (heard ++ more)) ++ one_timestep (length i.ports) l)
             (going-seal i records (λ entry. not (is_due i heard entry)) heard old s h.pool batch h.inside h.given on_old)
             ∙ sym (sealing_steps i.mode i heard more (sym m.mode ∙ on))
         | inr off ↦
             let off_old : old.sealing ≡ false = same_mode ∙ off in
             let none : first ≡ [] =
-            h.releases.steps ∙ ap (λ b. steps_released records (feeds_view mid.feeds) (cond b whole []) (released_of mid.waiting (cond b whole []))) off in
+            first_released ∙ ap (λ b. steps_released records (feeds_view mid.feeds) (cond b whole []) (released_of mid.waiting (cond b whole []))) off in
             ap (λ l. l ++ one_timestep (length i.ports) (entries_with_ids records going)) none
             ∙ ap (one_timestep (length i.ports)) (going-at_once i records (λ entry. not (is_due i heard entry)) heard old s h.pool batch h.inside h.given off_old)
             ∙ sym (other_steps i.mode i heard more (sym m.mode ∙ off) m.hears)
@@ -266,21 +297,33 @@ module _ (records : List Record) (old mid new : Inbox) (partial : BTreeSet Recor
   has_heard = subst (λ heard. Keeps i records (λ entry. not (is_due i heard entry)) heard new) (sym (all_pairs-more batches (batch_with_ids records batch))) stands_then
 
 -- what the code says of a batch, and of the messages in it, is what the contract says
-pub record Heard (records : List Record) (old new : Inbox) (batch : List (ℕ × IdMessage)) (whole : List Record) (steps : List Sets) (i : Instance) (batches : List Batch) : Type 0 where
+pub record Heard (records : List Record) (new : Inbox) (batch : List (ℕ × IdMessage)) (whole : List Record) (steps : List Sets) (i : Instance) (batches : List Batch) : Type 0 where
   pub steps_as : steps ≡ steps_in i.mode i (all_pairs batches) (batch_with_ids records batch)
   pub whole_as : whole ≡ newly_whole i (all_pairs batches) (batch_with_ids records batch)
   pub stands : HasHeard i records (batches ++ batch_with_ids records batch ∷ []) new
 
-pub hears_all : (records : List Record) (old mid new : Inbox) (partial : BTreeSet Record) (batch : List (ℕ × IdMessage)) (whole : List Record) (first steps : List Sets) → HearsBatch records old mid new partial batch whole first steps
-    → ((i : Instance) (waits : Entry → Bool) (heard : List Pair) → AllWaitWith partial i waits (batch_with_ids records batch) → Keeps i records waits heard old → Keeps i records waits (heard ++ batch_with_ids records batch) mid)
-    → (i : Instance) (batches : List Batch) → HasHeard i records batches old → Heard records old new batch whole steps i batches
-hears_all records old mid new partial batch whole first steps h keeps i batches s =
-    let wait = all_wait i records (all_pairs batches) (batch_with_ids records batch) (feeds_view old.feeds) partial s.feeds (pairs_inside records (feed_count (feeds_view old.feeds)) batch h.inside) h.open_keys in
-    let m = keeps i (λ entry. not (is_due i (all_pairs batches) entry)) (all_pairs batches) wait s in
+-- an inbox that is seen as another stands for what that does
+seen_stands : (i : Instance) (records : List Record) (waits : Entry → Bool) (heard : List Pair) (old new : Inbox) → IsSeenAs old new → Keeps i records waits heard old → Keeps i records waits heard new
+seen_stands i records waits heard old new seen s = record {
+  mode = seen.mode ∙ s.mode;
+  hears = s.hears;
+  come = s.come;
+  feeds = subst (λ f. FeedsHeard i records heard f) (sym seen.feeds) s.feeds;
+  waiting = λ on. subst (λ w. WaitingHeard i records waits heard w) (sym seen.waiting) (s.waiting (sym seen.mode ∙ on));
+  idle = λ off. subst (λ w. IsIdle w) (sym seen.waiting) (s.idle (sym seen.mode ∙ off));
+}
+
+pub hears_all : (records : List Record) (first_of old mid new : Inbox) (touched : List Touched) (batch : List (ℕ × IdMessage)) (whole : List Record) (released : Option Released) (first steps : List Sets) → IsSeenAs first_of old → HearsBatch records old mid new touched batch whole released first steps
+    → ((i : Instance) (waits : Entry → Bool) (heard : List Pair) → AreHeardAs i records (partitions old.feeds) waits batch touched → Keeps i records waits heard old → Keeps i records waits (heard ++ batch_with_ids records batch) mid)
+    → (i : Instance) (batches : List Batch) → HasHeard i records batches first_of → Heard records new batch whole steps i batches
+hears_all records first_of old mid new touched batch whole released first steps seen h keeps i batches was =
+    let s = seen_stands i records (λ entry. not (is_due i (all_pairs batches) entry)) (all_pairs batches) first_of old seen was in
+    let as_said = all_heard_as i records (all_pairs batches) (feeds_view old.feeds) s.feeds (partitions old.feeds) batch touched h.inside h.touched_are in
+    let m = keeps i (λ entry. not (is_due i (all_pairs batches) entry)) (all_pairs batches) as_said s in
     record {
-      steps_as = steps-are records old mid new partial batch whole first steps h i batches s m;
-      whole_as = whole-is records old mid new partial batch whole first steps h i batches s m;
-      stands = has_heard records old mid new partial batch whole first steps h i batches s m;
+      steps_as = steps-are records old mid new touched batch whole released first steps h i batches s m;
+      whole_as = whole-is records old mid new touched batch whole released first steps h i batches s m;
+      stands = has_heard records old mid new touched batch whole released first steps h i batches s m;
     }
 
 -- ---- what is held

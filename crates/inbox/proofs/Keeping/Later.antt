@@ -15,7 +15,8 @@ use Rattle.messages.specs.Whole.{feeds_view}
 use Rattle.messages.specs.Feeds.{FeedView, FeedsView}
 use Rattle.inbox.specs.Instances.{Instance, is_of_key}
 use Rattle.inbox.specs.Timesteps.{from_feed}
-use Rattle.messages.specs.Log.{EntryId, AreGiven, row_with_id, entry_with_id, entries_with_ids}
+use Rattle.blz_pool.specs.Entries.{EntryId, row_with_id, entry_with_id, entries_with_ids}
+use Rattle.messages.specs.Log.{AreGiven}
 use Rattle.inbox.specs.Code.Heard.{keyed_rows, FeedHeard, FeedsHeard, WaitingHeard, is_place_of}
 use Rattle.inbox.specs.Inbox.{Keeps}
 use Rattle.inbox.specs.Pools.{IsLater, PlacedIsLater, LaterInSteps, StandsLater, KeepsLater, GivenLater, ReadsLater}

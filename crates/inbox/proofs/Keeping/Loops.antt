@@ -1,6 +1,6 @@
 -- What an inbox reads off a batch, of one message more; and the place of an attribute.
-use Rattle.std.proofs.Common.{◌≡◌, refl, ap, sym, subst, ◌∙◌, ℕ, zero, suc, take, ◌+◌, ◌-◌, ◌<◌, ◌≤◌, ◌==◌, Bool, true, false, cond, Option, Some, None, List, [], ◌∷◌, ◌++◌, length, map, filter, append-nil, append_assoc, get_or, arith}
-use Rattle.std.specs.List.{All, filter_map, flat_map, cons_option, position_from, slice_get}
+use Rattle.std.proofs.Common.{◌≡◌, refl, ap, sym, subst, ◌∙◌, ℕ, zero, suc, take, ◌+◌, ◌-◌, ◌<◌, ◌≤◌, ◌==◌, ◌&&◌, ◌||◌, Bool, true, false, not, cond, Option, Some, None, List, [], ◌∷◌, ◌++◌, length, map, filter, append_assoc, get_or, arith}
+use Rattle.std.specs.List.{All, list_any, filter_map, flat_map, cons_option, position_from, slice_get}
 use Rattle.std.specs.Ordering.{nat_cmp}
 use Rattle.std.proofs.lemmas.Option.{get_or_from_slice_get, slice_get_within}
 use Rattle.std.specs.Option.{unwrap_or}
@@ -8,35 +8,27 @@ use Rattle.std.proofs.lemmas.List.{map-append, take_more}
 use Rattle.std.proofs.lemmas.List.Elements.{filter-append, filter_map-append}
 use Rattle.blz_value.specs.Record.{Row}
 use Rattle.blz_value.specs.Members.{Has}
-use Rattle.blz_value.specs.Sets.{set_of, set_by}
+use Rattle.blz_value.specs.Sets.{set_by}
 use Rattle.blz_value.proofs.Membership.{Has-map, Has-get_or, Has-from_filter, All-of_member}
-use Rattle.bloom_forms.specs.Step.{Sets}
-use Rattle.blz_value.proofs.RowSets.{set_of-push}
 use Rattle.bloom_forms.specs.Roots.{are_same}
 use Rattle.topo_forms.specs.Data.{place_of_attribute}
 use Rattle.messages.specs.Ids.{pair_with_id, batch_with_ids}
 use Rattle.messages.specs.Messages.{Pair}
-use Rattle.messages.specs.Log.{EntryId, AreGiven}
+use Rattle.blz_pool.specs.Entries.{EntryId}
+use Rattle.messages.specs.Log.{AreGiven}
 use Rattle.messages.specs.Whole.{feeds_view}
-use Rattle.messages.specs.Feeds.{FeedsView}
+use Rattle.messages.specs.Feeds.{FeedsView, port_in, carries_in, is_due_in}
+use Rattle.messages.specs.Log.{is_same_entry_id}
+use Rattle.inbox.specs.SetOffs.{AreReleasedFrom}
+use Rattle.inbox.specs.declared.set_off.Released.{Released}
 use Rattle.inbox.specs.Code.Places.{places_of}
 use Rattle.inbox.specs.Code.Waiting.{released_of}
-use Rattle.inbox.specs.Code.Batches.{open_key, with_key, entry_id_of, entry_ids_of, steps_released, Releases}
+use Rattle.inbox.specs.Code.Batches.{entry_id_of, entry_ids_of, goes_if, goes_in, key_of_id, AreParted, AreReleased, Releases}
 use Rattle.messages.specs.declared.message.Message.{Message}
+use Rattle.messages.specs.declared.message.Message.TheVariants.{Row as ById, Seal}
 use Rattle.inbox.specs.declared.waiting.Waiting.{Waiting}
 use Rattle.inbox.specs.declared.inbox.Inbox.{Inbox}
 use Rattle.inbox.proofs.TimestepLemmas.Whole.{Has-from_filter_map}
-
-with_key-more : (keys : List Row) (o : Option Row) → set_of (keys ++ cons_option o []) ≡ with_key (set_of keys) o
-with_key-more keys None = ap set_of (append-nil keys)
-with_key-more keys (Some key) = set_of-push key keys
-
-pub open_keys_more : (f : FeedsView) (records : List Row) (batch : List (ℕ × Message)) (pair : ℕ × Message)
-    → set_of (filter_map (open_key f) (batch_with_ids records (batch ++ pair ∷ []))) ≡ with_key (set_of (filter_map (open_key f) (batch_with_ids records batch))) (open_key f (pair_with_id records pair))
-open_keys_more f records batch pair =
-    ap (λ l. set_of (filter_map (open_key f) l)) (map-append (pair_with_id records) batch (pair ∷ []))
-    ∙ ap set_of (filter_map-append (open_key f) (batch_with_ids records batch) (pair_with_id records pair ∷ []))
-    ∙ with_key-more (filter_map (open_key f) (batch_with_ids records batch)) (open_key f (pair_with_id records pair))
 
 pub entry_ids_more : (f : FeedsView) (p : EntryId → Bool) (batch : List (ℕ × Message)) (pair : ℕ × Message)
     → filter p (entry_ids_of f (batch ++ pair ∷ [])) ≡ filter p (entry_ids_of f batch) ++ filter p (cons_option (entry_id_of f pair) [])
@@ -54,6 +46,23 @@ going_step f p batch n pair old new below is more so_far =
 
 pub filter_map_last : {X Y : Type 0} (f : X → Option Y) (xs : List X) (x : X) → filter_map f (xs ++ x ∷ []) ≡ filter_map f xs ++ cons_option (f x) []
 filter_map_last f xs x = filter_map-append f xs (x ∷ [])
+
+-- what is said of one message to wait is what the feeds say
+pub goes_one : (records : List Row) (x : Inbox) (pair : ℕ × Message) (waits : Bool) → waits ≡ not (is_due_in (feeds_view x.feeds) (key_of_id records (feeds_view x.feeds) pair))
+    → filter (goes_if x waits) (cons_option (entry_id_of (feeds_view x.feeds) pair) []) ≡ filter (goes_in records x) (cons_option (entry_id_of (feeds_view x.feeds) pair) [])
+goes_one records x pair waits is = by pair.1 is
+  where
+    twice : (b : Bool) → not (not b) ≡ b
+    twice true = refl
+    twice false = refl
+
+    by : (m : Message) → waits ≡ not (is_due_in (feeds_view x.feeds) (key_of_id records (feeds_view x.feeds) (pair.0, m)))
+        → filter (goes_if x waits) (cons_option (entry_id_of (feeds_view x.feeds) (pair.0, m)) []) ≡ filter (goes_in records x) (cons_option (entry_id_of (feeds_view x.feeds) (pair.0, m)) [])
+    by (ById id) w =
+        let entry : EntryId = (port_in (feeds_view x.feeds) pair.0, id) in
+        ap (λ b. cond (not x.sealing || (not (list_any (is_same_entry_id entry) x.waiting.log) && b)) (entry ∷ []) [])
+        (ap not w ∙ twice (is_due_in (feeds_view x.feeds) (key_of_id records (feeds_view x.feeds) (pair.0, ById id))))
+    by (Seal key count) w = refl
 
 -- one message more of a batch
 pub heard_more : (records : List Row) (heard : List Pair) (batch : List (ℕ × Message)) (n : ℕ) (pair : ℕ × Message) → n < length batch → pair ≡ get_or batch n pair
@@ -77,12 +86,24 @@ given_released records w keys given k d below =
     let m = Has-from_filter_map (slice_get w.log) e (set_by nat_cmp (flat_map (places_of w.places) keys)) (Has-get_or (released_of w keys) k d below) in
     given e (subst (λ (x : EntryId). Has x w.log) (get_or_from_slice_get w.log m.0 e e m.2) (Has-get_or w.log m.0 e (slice_get_within w.log m.0 e m.2)))
 
+-- so of the parts of what is released
+pub parts_given : (records : List Row) (f : FeedsView) (w : Waiting) (whole : List Row) (released : Option Released) → AreGiven records w.log → AreReleased f whole (released_of w whole) released → AreReleasedFrom records released
+parts_given records f w whole None given h = tt
+parts_given records f w [] (Some parts) given h = absurd h
+parts_given records f w (key ∷ keys) (Some parts) given h =
+    let all = given_released records w (key ∷ keys) given in
+    let entries : List EntryId = released_of w (key ∷ keys) in
+    let Own : List EntryId → Type 0 = λ l. All (λ entry. entry.1 < length records) l in (
+      subst Own (sym h.together) (given_filter (λ (entry : EntryId). entry.1 < length records) (λ entry. carries_in f entry.0) entries all),
+      subst Own (sym h.alone) (given_filter (λ (entry : EntryId). entry.1 < length records) (λ entry. not (carries_in f entry.0)) entries all),
+    )
+
 -- where some partition becomes whole, its records are released
-pub releases_some : (records : List Row) (old new : Inbox) (whole : List Row) (before after : List Sets) → 1 ≤ length whole → new.sealing ≡ old.sealing → feeds_view new.feeds ≡ feeds_view old.feeds → new.waiting.log ≡ old.waiting.log → new.waiting.places ≡ old.waiting.places
+pub releases_some : (old new : Inbox) (whole : List Row) (parts : Released) → 1 ≤ length whole → new.sealing ≡ old.sealing → feeds_view new.feeds ≡ feeds_view old.feeds → new.waiting.log ≡ old.waiting.log → new.waiting.places ≡ old.waiting.places
     → new.waiting.held ≡ old.waiting.held - length (released_of old.waiting whole)
-    → ((key : Row) (keys : List Row) → after ≡ before ++ steps_released records (feeds_view old.feeds) (key ∷ keys) (released_of old.waiting whole)) → Releases records old new whole before after
-releases_some records old new [] before after some mode feeds log places held steps = absurd (omega arith)
-releases_some records old new (key ∷ keys) before after some mode feeds log places held steps = record { mode = mode; feeds = feeds; log = log; places = places; held = held; steps = steps key keys }
+    → AreParted (feeds_view old.feeds) (released_of old.waiting whole) parts → Releases old new whole (Some parts)
+releases_some old new [] parts some mode feeds log places held are = absurd (omega arith)
+releases_some old new (key ∷ keys) parts some mode feeds log places held are = record { mode = mode; feeds = feeds; log = log; places = places; held = held; parts = are }
 
 -- ---- the place of an attribute
 

@@ -12,7 +12,8 @@ use Rattle.blz_value.proofs.Membership.{Has-append_left, Has-append_right, Has-a
 use Rattle.topo_forms.specs.Messages.{row, seal, is_same_row}
 use Rattle.messages.specs.Messages.{Pair, Entry, is_same_entry, with_new, firsts}
 use Rattle.inbox.specs.Instances.{Instance, port_of_feed, entries_of, key_of_entry, is_of_key}
-use Rattle.messages.specs.Log.{EntryId, AreGiven, is_same_entry_id, row_with_id, entry_with_id, entries_with_ids}
+use Rattle.blz_pool.specs.Entries.{EntryId, row_with_id, entry_with_id, entries_with_ids}
+use Rattle.messages.specs.Log.{AreGiven, is_same_entry_id}
 use Rattle.inbox.specs.Code.Places.{places_of}
 use Rattle.inbox.specs.Code.Waiting.{KeepsEntry, has_key}
 use Rattle.inbox.specs.Code.Heard.{WaitingHeard, is_place_of}

@@ -22,8 +22,9 @@ use Rattle.blz_value.proofs.Lists.{filter-map}
 use Rattle.topo_forms.specs.Messages.{is_same_row}
 use Rattle.messages.specs.Messages.{Pair, Batch, Entry, is_same_entry, with_new, firsts}
 use Rattle.inbox.specs.Instances.{Instance, is_carrying, key_of_entry, is_of_key}
-use Rattle.inbox.specs.Timesteps.{is_whole, is_due, is_of_some, timestep_of, one_by_one, released_steps, newly_whole}
-use Rattle.messages.specs.Log.{EntryId, entry_with_id, entries_with_ids}
+use Rattle.bloom_eval.specs.Arrivals.{timestep_of}
+use Rattle.inbox.specs.Timesteps.{is_whole, is_due, is_of_some, one_by_one, released_steps, newly_whole}
+use Rattle.blz_pool.specs.Entries.{EntryId, entry_with_id, entries_with_ids}
 use Rattle.inbox.specs.Code.Places.{places_of}
 use Rattle.inbox.specs.Code.Waiting.{released_of}
 use Rattle.inbox.specs.Code.Heard.{WaitingHeard}

@@ -15,7 +15,8 @@ use Rattle.topo_forms.specs.View.{is_order_mode}
 use Rattle.topo_forms.specs.Messages.{rows_in}
 use Rattle.messages.specs.Messages.{Entry}
 use Rattle.inbox.specs.Instances.{Instance}
-use Rattle.inbox.specs.Timesteps.{timestep_of, one_by_one}
+use Rattle.bloom_eval.specs.Arrivals.{timestep_of}
+use Rattle.inbox.specs.Timesteps.{one_by_one}
 use Rattle.inbox.specs.Lives.{Life, Lives, all_lives, emitted_by}
 use Rattle.inbox.specs.Folds.{fold_rows}
 use Rattle.inbox.specs.Wiring.{instance_at}

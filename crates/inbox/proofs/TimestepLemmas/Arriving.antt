@@ -10,7 +10,8 @@ use Rattle.blz_value.proofs.Membership.{Has-map, Has-from_map, Has-filter, Has-f
 use Rattle.blz_value.proofs.SetLaws.{Has-set_of, Has-from_set_of}
 use Rattle.bloom_forms.specs.Step.{set_at}
 use Rattle.messages.specs.Messages.{Entry}
-use Rattle.inbox.specs.Timesteps.{timestep_of, one_timestep, one_by_one, Stands}
+use Rattle.bloom_eval.specs.Arrivals.{timestep_of}
+use Rattle.inbox.specs.Timesteps.{one_timestep, one_by_one, Stands}
 
 -- the records at a port
 abbrev pub at_port : List Entry → (port : ℕ) → List Row

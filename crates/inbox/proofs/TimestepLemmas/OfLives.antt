@@ -13,7 +13,8 @@ use Rattle.bloom_forms.specs.declared.mode.Mode.TheVariants.{Free, Pass, Seal, O
 use Rattle.topo_forms.specs.View.{is_order_mode}
 use Rattle.messages.specs.Messages.{Batch, Entry, all_pairs}
 use Rattle.inbox.specs.Instances.{Instance, entries_of}
-use Rattle.inbox.specs.Timesteps.{SetOff, timestep_of, one_by_one, each_set_off, timesteps, Stands}
+use Rattle.bloom_eval.specs.Arrivals.{timestep_of}
+use Rattle.inbox.specs.Timesteps.{SetOff, one_by_one, each_set_off, timesteps, Stands}
 use Rattle.inbox.specs.Lives.{Life, of_entry, life_timesteps}
 use Rattle.inbox.proofs.Executions.Appending.{sets_off-hearing, sets_off-taking}
 use Rattle.inbox.proofs.TimestepLemmas.Arriving.{Has-from_arrivals}

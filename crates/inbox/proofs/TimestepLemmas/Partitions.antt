@@ -12,7 +12,8 @@ use Rattle.blz_value.specs.declared.attrs.Attrs.{Attrs}
 use Rattle.bloom_forms.specs.declared.mode.Mode.TheVariants.{Seal}
 use Rattle.messages.specs.Messages.{Pair, Batch, Entry, is_same_entry, all_pairs, firsts}
 use Rattle.inbox.specs.Instances.{Instance, is_carrying, entries_of, key_of_entry, is_of_key}
-use Rattle.inbox.specs.Timesteps.{is_whole, is_due, is_of_some, newly_whole, released_steps, first_part, second_part, set_off, each_after, each_set_off, timestep_of, one_by_one, timesteps}
+use Rattle.bloom_eval.specs.Arrivals.{timestep_of}
+use Rattle.inbox.specs.Timesteps.{is_whole, is_due, is_of_some, newly_whole, released_steps, first_part, second_part, set_off, each_after, each_set_off, one_by_one, timesteps}
 use Rattle.messages.proofs.MessagesLemmas.{is_same_entry-is, is_same_entry-itself, Has-from_firsts}
 use Rattle.inbox.specs.Timesteps.{Stands}
 use Rattle.inbox.proofs.TimestepLemmas.Arriving.{Has-arrivals, Has-from_arrivals, Stands-from_together, Stands-from_one_by_one}

@@ -13,7 +13,8 @@ use Rattle.blz_value.specs.declared.attrs.Attrs.{Attrs}
 use Rattle.topo_forms.specs.Messages.{is_same_row}
 use Rattle.messages.specs.Messages.{Pair, Batch, Entry, is_same_entry, all_pairs, firsts}
 use Rattle.inbox.specs.Instances.{Instance, is_carrying, entries_of, key_of_entry, is_of_key}
-use Rattle.inbox.specs.Timesteps.{is_whole, is_due, is_of_some, newly_whole, released_steps, first_part, second_part, steps_in, set_off, timestep_of, timesteps}
+use Rattle.bloom_eval.specs.Arrivals.{timestep_of}
+use Rattle.inbox.specs.Timesteps.{is_whole, is_due, is_of_some, newly_whole, released_steps, first_part, second_part, steps_in, set_off, timesteps}
 use Rattle.messages.proofs.MessagesLemmas.{is_same_row-is, is_same_row-itself, is_same_entry-is, is_same_entry-itself, Has-firsts, Has-from_firsts, any-from_same, same-from_any}
 use Rattle.inbox.specs.Timesteps.{Stands, Goes}
 use Rattle.inbox.proofs.TimestepLemmas.Arriving.{Has-arrivals, Has-from_arrivals, Stands-together, Stands-from_together, Stands-one_by_one, Stands-from_one_by_one}

@@ -9,7 +9,8 @@ use Rattle.bloom_forms.specs.declared.mode.Mode.{Mode}
 use Rattle.bloom_forms.specs.declared.mode.Mode.TheVariants.{Free, Pass, Seal, Order}
 use Rattle.messages.specs.Messages.{Pair, Batch, Entry, is_same_entry, firsts}
 use Rattle.inbox.specs.Instances.{Instance, is_carrying, entries_of}
-use Rattle.inbox.specs.Timesteps.{SetOff, timestep_of, one_timestep, one_by_one, released_steps, is_of_some, first_part, second_part, newly_whole, steps_in, each_after, timesteps}
+use Rattle.bloom_eval.specs.Arrivals.{timestep_of}
+use Rattle.inbox.specs.Timesteps.{SetOff, one_timestep, one_by_one, released_steps, is_of_some, first_part, second_part, newly_whole, steps_in, each_after, timesteps}
 use Rattle.inbox.proofs.TimestepLemmas.Arriving.{at_port}
 
 timestep_of-many : (ports : ℕ) (entries : List Entry) → length (timestep_of ports entries) ≡ ports

@@ -10,7 +10,8 @@ use Rattle.topo_forms.specs.Messages.{is_same_row}
 use Rattle.messages.specs.Messages.{Pair, Entry, is_same_entry, firsts}
 use Rattle.inbox.specs.Instances.{Instance, port_of_feed, is_carrying, carrying_feeds, entries_of, key_of_entry, is_of_key}
 use Rattle.inbox.specs.Timesteps.{is_seal_within, from_feed, is_some_feed}
-use Rattle.messages.specs.Log.{EntryId, AreGiven, entry_with_id, entries_with_ids, row_with_id}
+use Rattle.blz_pool.specs.Entries.{EntryId, entry_with_id, entries_with_ids, row_with_id}
+use Rattle.messages.specs.Log.{AreGiven}
 use Rattle.messages.specs.PartitionCounts.{is_met}
 use Rattle.messages.specs.Feeds.{FeedView, FeedsView, feed_count}
 use Rattle.inbox.specs.Code.Places.{places_of}

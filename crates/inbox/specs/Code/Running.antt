@@ -1,45 +1,23 @@
 -- How an instance goes through timesteps, with a shell and the lists of its outlets.
-use Rattle.std.specs.Prelude.{◌≡◌, ◌<◌, ◌+◌, ◌++◌, [], ℕ, Option, None, Some, List, map, length, slice_set, slice_index_or}
+use Rattle.std.specs.Prelude.{◌≡◌, ◌<◌, ◌≤◌, ◌+◌, ◌++◌, [], ℕ, Option, None, Some, List, map, length, slice_set, slice_index_or}
 use Rattle.std.specs.List.{fold}
-use Rattle.blz_value.specs.Sets.{IsRowSet}
 use Rattle.bloom_forms.specs.declared.program.Program.{Program}
 use Rattle.bloom_forms.specs.Laws.{StandsStill}
 use Rattle.bloom_forms.specs.ProgramStep.{standing_outputs}
 use Rattle.bloom_forms.specs.Step.{Sets, set_at}
-use Rattle.bloom_eval.specs.StepAnswers.{AllFit}
-use Rattle.bloom_eval.specs.Changes.{AreChanges}
-use Rattle.bloom_eval.specs.Step.{tables_next, outs_next, outs_still, counted_next}
 use Rattle.blz_value.specs.Members.{Has}
 use Rattle.blz_value.specs.Record.{Row}
 use Rattle.topo_forms.specs.Messages.{Message, rows_in}
 use Rattle.inbox.specs.Instances.{Instance}
 use Rattle.inbox.specs.Timesteps.{SetOff}
 use Rattle.inbox.specs.Emission.{Kept, list_of, output_key, emit_step, emit}
-use Rattle.inbox.specs.Limits.{Limit, message_limit, limit_in, limit_of}
-use Rattle.messages.specs.Lists.{total}
-use Rattle.inbox.specs.Outlets.{emit_outlets, AreApart, ShowsOutlets, own_messages}
+use Rattle.inbox.specs.Growth.{Continues}
+use Rattle.inbox.specs.Limits.{Limit, too_many_rows, too_many_messages, message_limit, limit_in, limit_of}
+use Rattle.messages.specs.Lists.{Listed, IsExact, read_lists, total}
+use Rattle.messages.specs.declared.fault.EventFault.{EventFault}
+use Rattle.messages.specs.declared.fault.EventFault.TheVariants.{NoInstance, NoMessage, NothingToTake, TooManyRows, TooManyMessages, NoMemory}
+use Rattle.inbox.specs.Outlets.{AreApart, ShowsOutlets, OthersStay, own_messages}
 use Rattle.inbox.specs.declared.outlets.Outlet.{Outlet}
-
--- ---- one step
-
--- what a step of a shell puts out, as its changes
-pub record AreStepChanges (program : Option Program) (tables now some : Sets) : Type 0 where
-  pub fit : AllFit (counted_next program tables now)
-  pub changes : AreChanges (outs_next program tables now) (outs_still program tables) some
-  pub sets : (n : ℕ) → IsRowSet (set_at some n)
-
--- a step was made, and what it put out is emitted
-pub record HasStepped (program : Option Program) (outlets : List Outlet) (now : Sets) (tables next : Sets) (before after : List (List Message)) : Type 0 where
-  pub kept : next ≡ tables_next program tables now
-  pub some : Sets
-  pub step : AreStepChanges program tables now some
-  pub lists : after ≡ emit_outlets outlets some before
-
--- or it would be too much
-pub record HasOverflowed (program : Option Program) (outlets : List Outlet) (now : Sets) (tables : Sets) (before : List (List Message)) : Type 0 where
-  pub some : Sets
-  pub step : AreStepChanges program tables now some
-  pub over : message_limit < total (emit_outlets outlets some before)
 
 -- ---- a course
 
@@ -70,10 +48,30 @@ pub record GoesOnTo (program : Program) (loaded : Option Program) (outlets : Lis
 abbrev pub GoesOn : (loaded : Option Program) → List Outlet → (tables next : Sets) → (before after : List (List Message)) → (nows : List Sets) → Type 0
 GoesOn loaded outlets tables next before after nows = (program : Program) (others : ℕ) (kept : Kept) → IsCourse program loaded outlets others tables before kept → GoesOnTo program loaded outlets others next after kept nows
 
--- each course that it was meets this limit in the timesteps
+-- each course that it was meets this limit in the timesteps, whatever comes after them
 abbrev pub MeetsLimit : Limit → (loaded : Option Program) → List Outlet → (tables : Sets) → (before : List (List Message)) → (nows : List Sets) → Type 0
 MeetsLimit limit loaded outlets tables before nows = (program : Program) (others : ℕ) (kept : Kept) → IsCourse program loaded outlets others tables before kept
-    → (i : Instance) (s : SetOff) → limit_in program i s (outputs_of_outlets outlets) others kept nows ≡ Some limit
+    → (i : Instance) (s : SetOff) (more : List Sets) → limit_in program i s (outputs_of_outlets outlets) others kept (nows ++ more) ≡ Some limit
+
+-- ---- timesteps that were gone through
+
+-- a shell went through timesteps, and the lists with it: their pool went on and has exactly their records, and the lists of others stay
+pub record HasGone (loaded : Option Program) (outlets : List Outlet) (tables next : Sets) (old new : Listed) (nows : List Sets) : Type 0 where
+  pub goes : GoesOn loaded outlets tables next (read_lists old) (read_lists new) nows
+  pub records : Continues old.records new.records
+  pub exact : IsExact new
+  pub others : OthersStay outlets (read_lists old) (read_lists new)
+  pub count : length new.lists ≡ length old.lists
+  pub few : total new.lists ≤ message_limit
+
+-- or it met a fault there: the limit that each course meets, or want of memory
+abbrev pub HasMet : EventFault → (loaded : Option Program) → List Outlet → (tables : Sets) → (before : List (List Message)) → (nows : List Sets) → Type 0
+HasMet NoInstance loaded outlets tables before nows = ⊥
+HasMet NoMessage loaded outlets tables before nows = ⊥
+HasMet NothingToTake loaded outlets tables before nows = ⊥
+HasMet TooManyRows loaded outlets tables before nows = MeetsLimit too_many_rows loaded outlets tables before nows
+HasMet TooManyMessages loaded outlets tables before nows = MeetsLimit too_many_messages loaded outlets tables before nows
+HasMet NoMemory loaded outlets tables before nows = Unit {0}
 
 -- ---- what is set off, with its seals
 

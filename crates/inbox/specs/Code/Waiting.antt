@@ -6,7 +6,8 @@ use Rattle.std.specs.Ordering.{nat_cmp}
 use Rattle.blz_value.specs.Record.{Row}
 use Rattle.blz_value.specs.Sets.{set_by}
 use Rattle.topo_forms.specs.Messages.{is_same_row}
-use Rattle.messages.specs.Log.{EntryId, is_same_entry_id}
+use Rattle.blz_pool.specs.Entries.{EntryId}
+use Rattle.messages.specs.Log.{is_same_entry_id}
 use Rattle.messages.specs.Messages.{with_new}
 use Rattle.inbox.specs.Code.Places.{places_of}
 use Rattle.inbox.specs.declared.waiting.Waiting.{Waiting}

@@ -19,7 +19,12 @@ pub record IsTallied (count carrying : ℕ) (feeds : List Feed) (lacking : List 
   pub few : (k : ℕ) (d : Feed) → k < length feeds → length (slice_index_or feeds k d).counts.items ≤ count
 
 -- a partition has a number: it had it, or is new and goes last, and all carrying feeds lack something of it
-pub record IsNumbered (carrying : ℕ) (old new : List Row) (was now : List ℕ) (key : Row) (number : ℕ) : Type 0 where
+pub record IsAdded (carrying : ℕ) (old new : List Row) (was now : List ℕ) (key : Row) (number : ℕ) : Type 0 where
   pub found : number_of new key ≡ Some number
   pub within : number < length new
   pub grown : ((new ≡ old) × (now ≡ was)) ⊎ ((number_of old key ≡ None) × (new ≡ old ++ key ∷ []) × (now ≡ was ++ carrying ∷ []))
+
+-- no partition is new
+pub record AreAsBefore (old new : List Row) (was now : List ℕ) : Type 0 where
+  pub keys : new ≡ old
+  pub lacking : now ≡ was

@@ -8,7 +8,7 @@ use Rattle.topo_forms.specs.Messages.{row_in}
 use Rattle.blz_value.specs.NumberSets.{below}
 use Rattle.topo_forms.specs.View.{View}
 use Rattle.messages.specs.Ids.{message_with_id}
-use Rattle.messages.specs.Log.{EntryId, entries_with_ids}
+use Rattle.blz_pool.specs.Entries.{EntryId, entries_with_ids}
 use Rattle.messages.specs.Messages.{is_same_entry}
 use Rattle.messages.specs.declared.message.Message.{Message as IdMessage}
 use Rattle.messages.specs.Known.{is_known}

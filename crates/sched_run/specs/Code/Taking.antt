@@ -4,9 +4,11 @@ use Rattle.blz_value.specs.Record.{Row as Record}
 use Rattle.topo_forms.specs.View.{View, replicas_of, is_order}
 use Rattle.inbox.specs.Inbox.{HasHeard, IsFrom, feeds_in}
 use Rattle.inbox.specs.Instances.{Instance}
-use Rattle.messages.specs.Log.{EntryId, is_same_entry_id, entry_with_id}
+use Rattle.blz_pool.specs.Entries.{EntryId, entry_with_id}
+use Rattle.messages.specs.Log.{is_same_entry_id}
 use Rattle.messages.specs.Messages.{Batch, with_new}
-use Rattle.inbox.specs.Timesteps.{SetOff, timestep_of}
+use Rattle.bloom_eval.specs.Arrivals.{timestep_of}
+use Rattle.inbox.specs.Timesteps.{SetOff}
 use Rattle.inbox.specs.declared.inbox.Inbox.{Inbox}
 use Rattle.messages.specs.declared.message.Message.{Message as IdMessage}
 use Rattle.messages.specs.declared.message.Message.TheVariants.{Row, Seal}

@@ -11,7 +11,7 @@ use Rattle.bloom_index.proofs.bags.put_rows.Goals as goal
 
 pub loop-row-preserved : goal.loop-row-preserved
 loop-row-preserved c =
-    let items = c.rows-row-items.result.now in
+    let items = c.args.more.now in
     let i = c.loop-row.row-index in
     let row = c.row-item.result in
     let lt : i < length items = omega arith in
@@ -37,30 +37,24 @@ loop-row-preserved c =
 
 pub returns-in_err-put_in-clause-bag : goal.returns-in_err-put_in-clause-bag
 returns-in_err-put_in-clause-bag c = λ rows small is.
-    let items = c.rows-row-items.result.now in
+    let items = c.args.more.now in
     let i = c.loop-row.row-index in
     let row = c.row-item.result in
     let lt : i < length items = omega arith in
-    let all = c.rows-row-items.ensures.all in
-    let small_items : length (items ++ rows) < most_given = subst (λ (l : List Row). length (l ++ rows) < most_given) (sym all) small in
-    let fits : length (take i items ++ rows) < most_given = omega (arith, small_items, length-append (take i items) rows, length-append items rows, length-take i items) in
+    let fits : length (take i items ++ rows) < most_given = omega (arith, small, length-append (take i items) rows, length-append items rows, length-take i items) in
     let fault = c.in_err-put_in.field-0.0 in
     let new = c.put_in.new.self in
-    let before = c.loop-row.invariant.bag rows small_items is in
-    subst (λ (l : List Row). BecomesBag {X = Unit {0}} (l ++ rows) new c.from_residual-in_err-put_in.result) (sym (rows_all items i row lt c.row-item.is) ∙ all)
+    let before = c.loop-row.invariant.bag rows small is in
+    subst (λ (l : List Row). BecomesBag {X = Unit {0}} (l ++ rows) new c.from_residual-in_err-put_in.result) (sym (rows_all items i row lt c.row-item.is))
     (subst (BecomesBag {X = Unit {0}} ((take i items ++ row ∷ drop (i + 1) items) ++ rows) new) (sym (handed_on _ c.from_residual-in_err-put_in.result fault c.from_residual-in_err-put_in.ensures.1))
     (put_fault (row ∷ []) (take i items) (drop (i + 1) items) rows new fault (subst (λ (r : Row). BecomesBag {X = Unit {0}} (r ∷ (take i items ++ rows)) new (Err fault)) c.in_ok-copy.ensures (c.in_err-put_in.ensures.bag (take i items ++ rows) fits before))))
 
 pub returns-clause-bag : goal.returns-clause-bag
 returns-clause-bag c = λ rows small is.
-    let items = c.rows-row-items.result.now in
-    let all = c.rows-row-items.ensures.all in
-    let small_items : length (items ++ rows) < most_given = subst (λ (l : List Row). length (l ++ rows) < most_given) (sym all) small in
-    subst (λ (l : List Row). IsBag (l ++ rows) c.loop-row.bag) (take_all c.loop-row.row-index items (omega arith) ∙ all) (c.loop-row.invariant.bag rows small_items is)
+    let items = c.args.more.now in
+    subst (λ (l : List Row). IsBag (l ++ rows) c.loop-row.bag) (take_all c.loop-row.row-index items (omega arith)) (c.loop-row.invariant.bag rows small is)
 
 pub returns-clause-entered : goal.returns-clause-entered
 returns-clause-entered c = λ mid rows small is e.
-    let items = c.rows-row-items.result.now in
-    let all = c.rows-row-items.ensures.all in
-    let small_items : length (items ++ rows) < most_given = subst (λ (l : List Row). length (l ++ rows) < most_given) (sym all) small in
-    subst (λ (l : List Row). Extends mid (set_of (l ++ rows)) (entered_rows c.loop-row.passing)) (take_all c.loop-row.row-index items (omega arith) ∙ all) (c.loop-row.invariant.entered mid rows small_items is e)
+    let items = c.args.more.now in
+    subst (λ (l : List Row). Extends mid (set_of (l ++ rows)) (entered_rows c.loop-row.passing)) (take_all c.loop-row.row-index items (omega arith)) (c.loop-row.invariant.entered mid rows small is e)

@@ -9,7 +9,7 @@ use Rattle.bloom_index.proofs.bags.put_rows.Given as goal
 
 abbrev pub invariant-loop-row : goal.invariant-loop-row
 invariant-loop-row l = record {
-  bag : (rows : List Row) → length (l.row-items ++ rows) < most_given → IsBag rows l.fn.bag → IsBag (take l.row-index l.row-items ++ rows) l.bag;
-  entered : (mid rows : List Row) → length (l.row-items ++ rows) < most_given → IsBag rows l.fn.bag → Extends mid (set_of rows) (entered_rows l.fn.passing) → Extends mid (set_of (take l.row-index l.row-items ++ rows)) (entered_rows l.passing);
+  bag : (rows : List Row) → length (l.more ++ rows) < most_given → IsBag rows l.fn.bag → IsBag (take l.row-index l.more ++ rows) l.bag;
+  entered : (mid rows : List Row) → length (l.more ++ rows) < most_given → IsBag rows l.fn.bag → Extends mid (set_of rows) (entered_rows l.fn.passing) → Extends mid (set_of (take l.row-index l.more ++ rows)) (entered_rows l.passing);
   left : left_rows l.passing ≡ left_rows l.fn.passing;
 }

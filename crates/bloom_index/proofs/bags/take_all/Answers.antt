@@ -15,9 +15,9 @@ loop-change-preserved c =
     let changes = c.args.changes.now in
     let i = c.loop-change.change-index in
     let change = c.change-item.result in
-    let gone = c.as_set.result.now in
+    let gone = c.as_rows.result.now in
     let rest = gone_of (drop (i + 1) changes) in
-    let first : gone_of (drop i changes) ≡ gone ++ rest = pieces_from (λ (x : Change). rows_in x.gone) changes i change c.loop-change-test.true c.change-item.is ∙ ap (λ (l : List Row). l ++ rest) (sym c.as_set.ensures.rows) in
+    let first : gone_of (drop i changes) ≡ gone ++ rest = pieces_from (λ (x : Change). rows_in x.gone) changes i change c.loop-change-test.true c.change-item.is ∙ ap (λ (l : List Row). l ++ rest) (sym c.as_rows.ensures) in
     let cut = λ (rows : List Row). ap (λ (l : List Row). l ++ rows) first ∙ append_assoc gone rest rows in
     record {
       bag = λ rows is. c.in_ok-take_rows.ensures.bag (rest ++ rows) (subst (λ (l : List Row). IsBag l c.loop-change.bag) (cut rows) (c.loop-change.invariant.bag rows is));

@@ -1,4 +1,4 @@
-use Rattle.std.proofs.Common.{◌≡◌, ◌∙◌, ◌+◌, ◌<◌, ◌∷◌, ◌++◌, List, length, drop, sym, subst, arith}
+use Rattle.std.proofs.Common.{◌≡◌, ◌∙◌, ◌+◌, ◌<◌, ◌∷◌, ◌++◌, List, length, drop, subst, arith}
 use Rattle.std.proofs.lemmas.List.{drop_all}
 use Rattle.blz_value.specs.Record.{Row}
 use Rattle.blz_value.specs.Sets.{set_of}
@@ -9,7 +9,7 @@ use Rattle.bloom_index.proofs.bags.take_rows.Goals as goal
 
 pub loop-row-preserved : goal.loop-row-preserved
 loop-row-preserved c =
-    let items = c.rows-row-items.result.now in
+    let items = c.args.gone.now in
     let i = c.loop-row.row-index in
     let row = c.row-item.result in
     let lt : i < length items = omega arith in
@@ -25,14 +25,12 @@ loop-row-preserved c =
 
 pub returns-clause-bag : goal.returns-clause-bag
 returns-clause-bag c = λ rows is.
-    let items = c.rows-row-items.result.now in
+    let items = c.args.gone.now in
     subst (λ (l : List Row). IsBag (l ++ rows) c.loop-row.bag) (drop_all c.loop-row.row-index items (omega arith))
-    (c.loop-row.invariant.bag rows (subst (λ (l : List Row). IsBag (l ++ rows) c.args.bag.now) (sym c.rows-row-items.ensures.all) is))
+    (c.loop-row.invariant.bag rows is)
 
 pub returns-clause-left : goal.returns-clause-left
 returns-clause-left c = λ old rows is e.
-    let items = c.rows-row-items.result.now in
-    let all = sym c.rows-row-items.ensures.all in
+    let items = c.args.gone.now in
     subst (λ (l : List Row). Extends (set_of (l ++ rows)) old (left_rows c.loop-row.passing)) (drop_all c.loop-row.row-index items (omega arith))
-    (c.loop-row.invariant.left old rows (subst (λ (l : List Row). IsBag (l ++ rows) c.args.bag.now) all is)
-    (subst (λ (l : List Row). Extends (set_of (l ++ rows)) old (left_rows c.args.passing.now)) all e))
+    (c.loop-row.invariant.left old rows is e)

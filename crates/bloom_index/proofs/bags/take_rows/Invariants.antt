@@ -8,7 +8,7 @@ use Rattle.bloom_index.proofs.bags.take_rows.Given as goal
 
 abbrev pub invariant-loop-row : goal.invariant-loop-row
 invariant-loop-row l = record {
-  bag : (rows : List Row) → IsBag (l.row-items ++ rows) l.fn.bag → IsBag (drop l.row-index l.row-items ++ rows) l.bag;
-  left : (old rows : List Row) → IsBag (l.row-items ++ rows) l.fn.bag → Extends (set_of (l.row-items ++ rows)) old (left_rows l.fn.passing) → Extends (set_of (drop l.row-index l.row-items ++ rows)) old (left_rows l.passing);
+  bag : (rows : List Row) → IsBag (l.gone ++ rows) l.fn.bag → IsBag (drop l.row-index l.gone ++ rows) l.bag;
+  left : (old rows : List Row) → IsBag (l.gone ++ rows) l.fn.bag → Extends (set_of (l.gone ++ rows)) old (left_rows l.fn.passing) → Extends (set_of (drop l.row-index l.gone ++ rows)) old (left_rows l.passing);
   entered : entered_rows l.passing ≡ entered_rows l.fn.passing;
 }

@@ -1,13 +1,14 @@
-use Rattle.blz_value.specs.Groups.{at_least_rows}
-use Rattle.blz_value.specs.Sets.{set_of}
-use Rattle.blz_value.specs.declared.aggregate.Agg.TheVariants.{Count}
-use Rattle.bloom_index.proofs.Turning.{turned_of, turned_into, few_often, groups_turn}
+use Rattle.std.proofs.Common.{◌∙◌}
+use Rattle.std.proofs.lemmas.Result.{on_ok_weaker}
+use Rattle.bloom_index.proofs.Settling.{turns_settled}
 use Rattle.bloom_index.proofs.grouping.at_least.Goals as goal
 
+pub at_least_sets-requires-clause-kept : goal.at_least_sets-requires-clause-kept
+at_least_sets-requires-clause-kept c = c.in_ok-part.ensures.kept ∙ c.requires
+
 pub returns-clause-turned : goal.returns-clause-turned
-returns-clause-turned c = λ keys old new turns stands.
-    let part = c.args.part.now in
-    let bound = c.args.bound in
-    let made = c.turned.ensures in
-    let turn = groups_turn keys Count old new c.turning.result.more.now c.turning.result.gone.now part c.args.groups.now c.requires c.turning.ensures.more c.turning.ensures.gone turns stands in
-    turned_into (set_of (at_least_rows keys bound old)) (set_of (at_least_rows keys bound new)) c.in_ok-turn.turn c.turned.result made.kept made.rows made.gone (few_often keys bound old (turned_of old new part turns c.requires).1) (c.in_ok-turn.ensures.often keys Count old new turn)
+returns-clause-turned c = λ keys old new turns stands. c.at_least_sets.ensures.turned keys old new (turns_settled c.args.part c.in_ok-part.part c.in_ok-part.ensures old new turns) stands
+
+pub returns-clause-kept : goal.returns-clause-kept
+returns-clause-kept c =
+    on_ok_weaker c.at_least_sets.result (λ k keys old new turns stands. k keys old new (turns_settled c.args.part c.in_ok-part.part c.in_ok-part.ensures old new turns) stands) c.at_least_sets.ensures.kept

@@ -1,11 +1,14 @@
-use Rattle.blz_value.specs.Groups.{group_rows}
-use Rattle.blz_value.specs.Sets.{set_of}
-use Rattle.bloom_index.proofs.Turning.{turned_of, turned_into, few_grouped, groups_turn}
+use Rattle.std.proofs.Common.{◌∙◌}
+use Rattle.std.proofs.lemmas.Result.{on_ok_weaker}
+use Rattle.bloom_index.proofs.Settling.{turns_settled}
 use Rattle.bloom_index.proofs.grouping.group.Goals as goal
 
+pub group_sets-requires-clause-kept : goal.group_sets-requires-clause-kept
+group_sets-requires-clause-kept c = c.in_ok-part.ensures.kept ∙ c.requires
+
 pub returns-clause-turned : goal.returns-clause-turned
-returns-clause-turned c = λ keys agg old new turns stands.
-    let part = c.args.part.now in
-    let made = c.turned.ensures in
-    let turn = groups_turn keys agg old new c.turning.result.more.now c.turning.result.gone.now part c.args.groups.now c.requires c.turning.ensures.more c.turning.ensures.gone turns stands in
-    turned_into (set_of (group_rows keys agg old)) (set_of (group_rows keys agg new)) c.in_ok-turn.turn c.turned.result made.kept made.rows made.gone (few_grouped keys agg old (turned_of old new part turns c.requires).1) (c.in_ok-turn.ensures.rows keys agg old new turn)
+returns-clause-turned c = λ keys agg old new turns stands. c.group_sets.ensures.turned keys agg old new (turns_settled c.args.part c.in_ok-part.part c.in_ok-part.ensures old new turns) stands
+
+pub returns-clause-kept : goal.returns-clause-kept
+returns-clause-kept c =
+    on_ok_weaker c.group_sets.result (λ k keys agg old new turns stands. k keys agg old new (turns_settled c.args.part c.in_ok-part.part c.in_ok-part.ensures old new turns) stands) c.group_sets.ensures.kept

@@ -1,9 +1,7 @@
-use Rattle.std.proofs.Common.{◌≤◌, ◌∙◌, List, length, sym, subst, inl, inr}
-use Rattle.blz_value.specs.Record.{Row}
-use Rattle.blz_set.specs.RecordSet.{row_limit}
+use Rattle.std.proofs.Common.{◌∙◌, refl, sym}
 use Rattle.bloom_eval.specs.Code.NumberedRows.{numbered_rows}
 use Rattle.bloom_index.specs.Code.Turns.{rows_in}
-use Rattle.bloom_index.proofs.HeadsLemmas.{gets_all, extends_on, head_refused, head_over, head_fresh}
+use Rattle.bloom_index.proofs.HeadsLemmas.{gets_all, head_refused, head_over, head_put}
 use Rattle.bloom_index.proofs.heads.grow_by.Goals as goal
 
 pub returns-in_err-change : goal.returns-in_err-change
@@ -16,13 +14,8 @@ returns-in_err-new c = λ ready start has e.
     let rows = c.args.rows.now in
     let change = c.in_ok-change.change in
     let answers = c.in_ok-change.ensures ready in
-    let whole = gets_all change.kept (numbered_rows ready.old body) (numbered_rows ready.new body) (rows_in change.rows) (rows_in change.gone) c.as_set.result.now rows answers.0.1.rows (λ f. has (sym answers.0.0 ∙ f)) c.as_set.ensures.rows in
-    head_over body c.args.memo.now _ c.args.held.now ready start rows _ _ c.from_residual-in_err-new.result c.in_err-new.field-0.0 c.from_residual-in_err-new.ensures.1 c.as_set.result.now c.take.new.self whole c.in_err-new.ensures
-
-pub returns-in_err-put_into : goal.returns-in_err-put_into
-returns-in_err-put_into c = λ ready start has e.
-    let takes = c.in_ok-new.ensures in
-    head_fresh c.args.rule.now.body c.args.memo.now _ c.args.held.now ready start c.args.rows.now _ _ c.from_residual-in_err-put_into.result c.in_err-put_into.field-0.0 c.from_residual-in_err-put_into.ensures.1 c.take.new.self c.args.fresh.now c.in_ok-new.new c.put_into.new.into e takes.2 takes.1 c.in_err-put_into.ensures
+    let whole = gets_all change.kept (numbered_rows ready.old body) (numbered_rows ready.new body) (rows_in change.rows) (rows_in change.gone) (rows_in change.rows) rows answers.0.1.rows (λ f. has (sym answers.0.0 ∙ f)) refl in
+    head_over body c.args.memo.now _ c.args.held.now ready start rows _ _ c.from_residual-in_err-new.result c.in_err-new.field-0.0 c.from_residual-in_err-new.ensures.1 (rows_in change.rows) c.taken.new.rows whole c.in_err-new.ensures
 
 pub returns : goal.returns
 returns c = λ ready start has e.
@@ -31,9 +24,5 @@ returns c = λ ready start has e.
     let change = c.in_ok-change.change in
     let answers = c.in_ok-change.ensures ready in
     let takes = c.in_ok-new.ensures in
-    let whole = gets_all change.kept (numbered_rows ready.old body) (numbered_rows ready.new body) (rows_in change.rows) (rows_in change.gone) c.as_set.result.now rows answers.0.1.rows (λ f. has (sym answers.0.0 ∙ f)) c.as_set.ensures.rows in (
-      takes.0 ∙ whole,
-      answers.1,
-      λ set h. elim h [ inl own ↦ subst (λ (l : List Row). length l ≤ row_limit) own takes.1 | inr m ↦ answers.2 set m ],
-      extends_on start rows c.take.new.self c.args.fresh.now c.in_ok-new.new c.put_into.new.into e takes.2 c.in_ok-put_into.ensures.0,
-    )
+    let whole = gets_all change.kept (numbered_rows ready.old body) (numbered_rows ready.new body) (rows_in change.rows) (rows_in change.gone) (rows_in change.rows) rows answers.0.1.rows (λ f. has (sym answers.0.0 ∙ f)) refl in
+    head_put body c.args.memo.now c.evaluate.new.memo c.args.held.now ready start rows c.taken.new.rows (rows_in c.args.fresh.now) c.in_ok-new.new (rows_in c.put_onto.new.into) c.put_onto.result (takes.0 ∙ whole) takes.1 answers.1 answers.2 e takes.2 c.put_onto.ensures.rows c.put_onto.ensures.too_many

@@ -1,6 +1,7 @@
 use Rattle.std.proofs.Common.{◌≡◌, ◌<◌, ◌∙◌, Some, length, ap, refl, arith}
 use Rattle.std.specs.Prelude.{slice_get}
 use Rattle.std.proofs.lemmas.List.{length-set}
+use Rattle.bloom_index.specs.declared.change.Rows.TheVariants.{Own}
 use Rattle.bloom_index.proofs.HeadParts.{parts_begin, parts_other, parts_own, parts_refused, parts_over, parts_end}
 use Rattle.bloom_index.proofs.HeadRulesLemmas.{ready_at, kept_at, later_set, later_same}
 use Rattle.bloom_index.proofs.heads.head_parts.Goals as goal
@@ -10,7 +11,7 @@ pub loop-i-init : goal.loop-i-init
 loop-i-init c = record {
   many = refl;
   later = λ k le. refl;
-  made = λ ready. parts_begin c.args.rules.now c.args.head c.args.memos.now.items c.args.held.now ready (record { changes = c.new.result; rows = c.new-2.result }) c.new.ensures.items c.new-2.ensures;
+  made = λ ready. parts_begin c.args.rules.now c.args.head c.args.memos.now.items c.args.held.now ready (record { changes = c.new.result; rows = Own c.new-2.result }) c.new.ensures.items c.new-2.ensures;
 }
 
 pub index_mut-requires : goal.index_mut-requires

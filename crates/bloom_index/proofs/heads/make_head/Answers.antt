@@ -1,12 +1,26 @@
-use Rattle.std.proofs.Common.{List, sym, subst}
+use Rattle.std.proofs.Common.{◌≡◌, ◌∙◌, List, Ok, length, sym, subst, vec_len, arith}
+use Rattle.std.proofs.lemmas.Bool.{eqb-true}
+use Rattle.blz_value.specs.Record.{Row}
 use Rattle.bloom_index.specs.declared.change.Change.{Change}
-use Rattle.bloom_index.specs.Code.Heads.{BodiesTurn, news_of}
-use Rattle.bloom_index.proofs.HeadTurns.{Bodies, bag_standing, more_within, head_made, head_make_refused, head_kept_over, head_made_over}
+use Rattle.bloom_index.specs.Code.Heads.{BodiesTurn, news_of, AddsGiven}
+use Rattle.bloom_index.proofs.HeadTurns.{Bodies, bag_standing, more_within, head_made, head_passing, head_make_refused, head_kept_over, head_made_over}
 use Rattle.bloom_index.proofs.heads.make_head.Goals as goal
 
 pub returns-in_err-parts : goal.returns-in_err-parts
 returns-in_err-parts c = λ ready given momentary.
     head_make_refused c.args.rules.now c.args.head c.args.memos.now.items c.args.held.now ready c.args.whole c.args.bag.now c.head_parts.new.memos.items c.from_residual.result c.in_err-parts.field-0.0 c.from_residual.ensures.1 c.head_parts.new.memos.items (c.in_err-parts.ensures ready)
+
+pub returns-then-is_empty : goal.returns-then-is_empty
+returns-then-is_empty c = λ ready given momentary.
+    let rules = c.args.rules.now in
+    let head = c.args.head in
+    let first = c.args.memos.now.items in
+    let held = c.args.held.now in
+    let parts = c.in_ok-parts.parts in
+    let no_change : vec_len parts.changes ≡ 0 = eqb-true (vec_len parts.changes) 0 (sym c.is_empty.ensures ∙ c.if-is_empty.true) in
+    let none : length parts.changes.items ≡ 0 = omega (arith, no_change, parts.changes.ok.0) in
+    head_passing rules head first held ready c.args.whole parts c.args.bag.now c.all.result c.head_parts.new.memos.items none c.all.ensures.kept (c.all.ensures.rows ∙ c.in_ok-lasting.ensures) c.known.ensures.small (c.in_ok-parts.ensures ready)
+    (bag_standing rules head first held ready c.args.bag.now momentary given)
 
 pub returns-in_err-turn : goal.returns-in_err-turn
 returns-in_err-turn c = λ ready given momentary.
@@ -31,7 +45,7 @@ returns-in_err-set c = λ ready given momentary.
     let before = bag_standing rules head first held ready c.args.bag.now momentary given in
     let stands = c.in_ok-turn.ensures.bag bodies turned before in
     let within = more_within rules head first held ready c.in_ok-turn.turn (c.in_ok-turn.ensures.rows bodies turned before) in
-    head_made_over rules head first held ready c.args.whole c.turn_bag.new.bag c.head_parts.new.memos.items c.from_residual-in_err-set.result c.in_err-set.field-0.0 c.from_residual-in_err-set.ensures.1 c.in_ok-parts.parts.rows c.in_ok-turn.turn.more made.1
+    head_made_over rules head first held ready c.args.whole c.turn_bag.new.bag c.head_parts.new.memos.items c.from_residual-in_err-set.result c.in_err-set.field-0.0 c.from_residual-in_err-set.ensures.1 c.in_ok-into_set.field-0 c.in_ok-turn.turn.more (c.in_ok-into_set.ensures ∙ made.1)
     (c.in_err-set.ensures (news_of bodies) stands within)
 
 pub returns : goal.returns
@@ -46,5 +60,5 @@ returns c = λ ready given momentary.
     let before = bag_standing rules head first held ready c.args.bag.now momentary given in
     let stands = c.in_ok-turn.ensures.bag bodies turned before in
     let turns = c.in_ok-turn.ensures.rows bodies turned before in
-    head_made rules head first held ready c.args.whole c.in_ok-parts.parts c.turn_bag.new.bag c.in_ok-turn.turn c.in_ok-set.set c.all.result c.head_parts.new.memos.items c.all.ensures.kept c.all.ensures.rows made turns stands
-    (c.in_ok-set.ensures (news_of bodies) stands (more_within rules head first held ready c.in_ok-turn.turn turns))
+    head_made rules head first held ready c.args.whole c.in_ok-parts.parts c.turn_bag.new.bag c.in_ok-turn.turn c.in_ok-set.set c.of_set.result c.head_parts.new.memos.items c.of_set.ensures.kept c.of_set.ensures.rows made turns stands
+    (subst (λ (l : List Row). AddsGiven c.args.whole l (news_of bodies) c.in_ok-turn.turn.more (Ok c.in_ok-set.set)) c.in_ok-into_set.ensures (c.in_ok-set.ensures (news_of bodies) stands (more_within rules head first held ready c.in_ok-turn.turn turns)))

@@ -1,48 +1,29 @@
-use Rattle.std.proofs.Common.{Ok, ap, sym, subst, arith}
+use Rattle.std.proofs.Common.{◌∙◌}
+use Rattle.std.proofs.lemmas.Result.{on_ok_weaker}
 use Rattle.blz_value.specs.Operators.{notin_rows}
 use Rattle.blz_value.specs.Sets.{set_of}
-use Rattle.blz_set.proofs.Unions.{handed_on}
-use Rattle.bloom_growth.proofs.TurnNotIns.{few_notin}
-use Rattle.bloom_index.specs.Code.Turns.{TurnsTo}
-use Rattle.bloom_index.proofs.PartTurns.{notin_turns, notin_stands}
-use Rattle.bloom_index.proofs.Turning.{turned_of, turned_into, into_fault, flagged}
+use Rattle.bloom_index.proofs.Settling.{notin_settled, notin_stands_settled}
+use Rattle.bloom_index.proofs.Turning.{flagged}
 use Rattle.bloom_index.proofs.nots.not_in.Goals as goal
 
-pub returns-in_err-turn-clause-turned : goal.returns-in_err-turn-clause-turned
-returns-in_err-turn-clause-turned c = λ rg lo ln ro rn changes.
-    let pairs = c.args.pairs.now in
-    let left = c.args.left.now in
-    let right = c.args.right.now in
-    let before = set_of (notin_rows pairs lo ro) in
-    let now = set_of (notin_rows pairs ln rn) in
-    let fault = c.in_err-turn.field-0.0 in
-    let l = c.turning.ensures in
-    let r = c.turning-then-left.ensures in
-    let turns = notin_turns pairs rg lo ln ro rn left right c.args.memo.now changes _ _ _ _ c.if-left.true c.requires l.more l.gone r.more r.gone in
-    subst (TurnsTo left.kept before now) (sym (handed_on _ c.from_residual.result fault c.from_residual.ensures.1)) (into_fault left.kept before now fault (c.in_err-turn.ensures.rows lo ln ro rn turns))
+pub not_in_sets-requires-clause-kept : goal.not_in_sets-requires-clause-kept
+not_in_sets-requires-clause-kept c = c.in_ok-right.ensures.kept ∙ c.requires
 
-pub returns-in_ok-turn-clause-turned : goal.returns-in_ok-turn-clause-turned
-returns-in_ok-turn-clause-turned c = λ rg lo ln ro rn changes.
+pub returns-clause-turned : goal.returns-clause-turned
+returns-clause-turned c = λ rg lo ln ro rn changes.
     let pairs = c.args.pairs.now in
-    let left = c.args.left.now in
-    let right = c.args.right.now in
-    let before = set_of (notin_rows pairs lo ro) in
-    let now = set_of (notin_rows pairs ln rn) in
-    let l = c.turning.ensures in
-    let r = c.turning-then-left.ensures in
-    let turns = notin_turns pairs rg lo ln ro rn left right c.args.memo.now changes _ _ _ _ c.if-left.true c.requires l.more l.gone r.more r.gone in
-    let made = c.turned.ensures in
-    let few = (turned_of lo ln left changes.left_turned c.if-left.true).1 in
-    flagged _ left.kept before now (Ok c.turned.result) (sym c.if-left.true)
-    (turned_into before now c.in_ok-turn.turn c.turned.result made.kept made.rows made.gone (omega (arith, few, few_notin pairs lo ro)) (c.in_ok-turn.ensures.rows lo ln ro rn turns))
+    let l = c.in_ok-left.ensures in
+    let r = c.in_ok-right.ensures in
+    let left = c.in_ok-left.left in
+    let right = c.in_ok-right.right in
+    flagged left.kept c.args.left.kept (set_of (notin_rows pairs lo ro)) (set_of (notin_rows pairs ln rn)) c.not_in_sets.result l.kept
+    (c.not_in_sets.ensures.turned rg lo ln ro rn (notin_settled c.args.left left c.args.right right l r pairs rg lo ln ro rn c.args.memo.now changes))
 
-pub returns-in_ok-turn-clause-kept : goal.returns-in_ok-turn-clause-kept
-returns-in_ok-turn-clause-kept c = λ rg lo ln ro rn changes.
+pub returns-clause-kept : goal.returns-clause-kept
+returns-clause-kept c =
     let pairs = c.args.pairs.now in
-    let left = c.args.left.now in
-    let right = c.args.right.now in
-    let l = c.turning.ensures in
-    let r = c.turning-then-left.ensures in
-    let turns = notin_turns pairs rg lo ln ro rn left right c.args.memo.now changes _ _ _ _ c.if-left.true c.requires l.more l.gone r.more r.gone in
-    let made = c.in_ok-turn.ensures in
-    notin_stands pairs rg lo ln ro rn left right c.args.memo.now changes c.turn_notin.new.memo (ap (λ v. v.items) made.left) made.right (made.kept lo ln ro rn turns)
+    let l = c.in_ok-left.ensures in
+    let r = c.in_ok-right.ensures in
+    let left = c.in_ok-left.left in
+    let right = c.in_ok-right.right in
+    on_ok_weaker c.not_in_sets.result (λ k rg lo ln ro rn changes. notin_stands_settled c.args.left left c.args.right right l r pairs rg ln rn c.not_in_sets.new.memo (k rg lo ln ro rn (notin_settled c.args.left left c.args.right right l r pairs rg lo ln ro rn c.args.memo.now changes))) c.not_in_sets.ensures.kept

@@ -4,6 +4,7 @@ use Rattle.blz_set.specs.RecordSet.{IsRecordSet}
 use Rattle.bloom_forms.specs.declared.module.Kind.TheVariants.{Input}
 use Rattle.bloom_eval.specs.Code.Begin.{place_after}
 use Rattle.bloom_eval.proofs.Beginning.{place_more, place_within, place_after-le}
+use Rattle.bloom_index.specs.Code.Arriving.{arrived_in}
 use Rattle.bloom_index.specs.Code.StepSets.{AreBegunAt}
 use Rattle.bloom_index.proofs.StepLoops.{none_begun, begun_more, begun_at_kind, all_known, known_more}
 use Rattle.bloom_index.proofs.step.begin.Goals as goal
@@ -13,7 +14,7 @@ loop-i-init c = record {
   port = refl;
   few = omega arith;
   within = omega arith;
-  begun = none_begun c.args.collections.now c.args.parts.now.lasting.items c.args.now.now c.new-held.result.items c.new-held.ensures.items;
+  begun = none_begun c.args.collections.now c.args.parts.now.lasting.items (arrived_in c.args.now.now) c.in_ok-held.held.items c.in_ok-held.ensures.items;
   sets = λ k lt. absurd (omega (arith, lt));
 }
 
@@ -25,7 +26,7 @@ loop-i-preserved c =
     let cs = c.args.collections.now in
     let lasting = c.args.parts.now.lasting.items in
     let rows = c.args.parts.now.rows.items in
-    let now = c.args.now.now in
+    let now = (arrived_in c.args.now.now) in
     let i = c.loop-i.i in
     let item = c.index-collections-i.result in
     let inv = c.loop-i.invariant in
@@ -43,7 +44,7 @@ loop-i-preserved c =
     }
 
 pub returns-clause-begun : goal.returns-clause-begun
-returns-clause-begun c = subst (λ n. AreBegunAt c.args.collections.now c.args.parts.now.lasting.items c.args.now.now n c.loop-i.held.items) (let e : c.loop-i.i ≡ length c.args.collections.now = omega (arith, c.loop-i-test.false, c.loop-i.invariant.within) in e) c.loop-i.invariant.begun
+returns-clause-begun c = subst (λ n. AreBegunAt c.args.collections.now c.args.parts.now.lasting.items (arrived_in c.args.now.now) n c.loop-i.held.items) (let e : c.loop-i.i ≡ length c.args.collections.now = omega (arith, c.loop-i-test.false, c.loop-i.invariant.within) in e) c.loop-i.invariant.begun
 
 pub returns-clause-sets : goal.returns-clause-sets
 returns-clause-sets c = all_known c.args.parts.now.rows.items c.loop-i.i (omega (arith, c.loop-i-test.false, c.requires.rows)) c.loop-i.invariant.sets

@@ -9,13 +9,13 @@ use Rattle.bloom_forms.specs.declared.module.Collection.{Collection}
 use Rattle.bloom_forms.specs.Form.{Form}
 use Rattle.bloom_forms.specs.Kinds.{of_kind, kind_at}
 use Rattle.bloom_forms.specs.Program.{columns_of_kind}
-use Rattle.bloom_forms.specs.Step.{sets_of_kind}
 use Rattle.bloom_eval.proofs.Widths.{length-sets_of}
 use Rattle.bloom_index.specs.declared.change.Change.{Change}
 use Rattle.bloom_index.specs.Code.Growth.{grows_at}
 use Rattle.bloom_index.specs.Code.Kept.{tables_in}
 use Rattle.bloom_index.specs.Code.Lasting.{lasts_at}
-use Rattle.bloom_index.specs.Code.StepSets.{AreBegunAt, held_sets}
+use Rattle.bloom_index.specs.Code.Arriving.{arrived_in}
+use Rattle.bloom_index.specs.Code.StepSets.{AreBegunAt, outs_in}
 use Rattle.bloom_index.proofs.StepEnds.{mid_starts, parts_end, tables_end, fits_end, puts_out}
 use Rattle.bloom_index.proofs.StepHeads.{IsStep}
 use Rattle.bloom_index.proofs.StepLoops.{fault_is, kind_read}
@@ -32,7 +32,7 @@ pub begin-requires-clause-ports : goal.begin-requires-clause-ports
 begin-requires-clause-ports c =
     let cs = c.args.program.now.form.collections in
     let same = c.as_slice-collections.ensures ∙ ap (λ (f : Form). f.collections) c.module-written.ensures.form in
-    length-sets_of (columns_of_kind Input cs) c.args.now.now c.requires.ports
+    length-sets_of (columns_of_kind Input cs) (arrived_in c.args.now.now) c.requires.ports
     ∙ length-map (of_kind Input cs) (λ (d : Collection). d.columns)
     ∙ sym (ap (λ own. length (of_kind Input own)) same)
 
@@ -43,7 +43,7 @@ loop-head-init c =
     let growing = parts.growing.items in
     let lasting = parts.lasting.items in
     let tables = tables_in a parts.rows.items in
-    let now = c.args.now.now in
+    let now = (arrived_in c.args.now.now) in
     let rules = c.rules-rules.result.now in
     let held = c.in_ok-held.held.items in
     let same = c.as_slice-collections.ensures ∙ ap (λ (f : Form). f.collections) c.module-written.ensures.form in
@@ -65,7 +65,7 @@ bounds-collections-number c =
     let growing = c.args.parts.now.growing.items in
     let lasting = c.args.parts.now.lasting.items in
     let tables = tables_in a c.args.parts.now.rows.items in
-    let now = c.args.now.now in
+    let now = (arrived_in c.args.now.now) in
     let rules = c.rules-rules.result.now in
     let parts = c.loop-head.parts in
     let i = c.loop-head.head-index in
@@ -84,7 +84,7 @@ head_change-requires-clause-growing c =
     let growing = c.args.parts.now.growing.items in
     let lasting = c.args.parts.now.lasting.items in
     let tables = tables_in a c.args.parts.now.rows.items in
-    let now = c.args.now.now in
+    let now = (arrived_in c.args.now.now) in
     let rules = c.rules-rules.result.now in
     let parts = c.loop-head.parts in
     let i = c.loop-head.head-index in
@@ -102,7 +102,7 @@ head_change-requires-clause-lasting c =
     let growing = c.args.parts.now.growing.items in
     let lasting = c.args.parts.now.lasting.items in
     let tables = tables_in a c.args.parts.now.rows.items in
-    let now = c.args.now.now in
+    let now = (arrived_in c.args.now.now) in
     let rules = c.rules-rules.result.now in
     let parts = c.loop-head.parts in
     let i = c.loop-head.head-index in
@@ -120,7 +120,7 @@ head_change-requires-clause-rows c =
     let growing = c.args.parts.now.growing.items in
     let lasting = c.args.parts.now.lasting.items in
     let tables = tables_in a c.args.parts.now.rows.items in
-    let now = c.args.now.now in
+    let now = (arrived_in c.args.now.now) in
     let rules = c.rules-rules.result.now in
     let parts = c.loop-head.parts in
     let i = c.loop-head.head-index in
@@ -138,7 +138,7 @@ head_change-requires-clause-bags c =
     let growing = c.args.parts.now.growing.items in
     let lasting = c.args.parts.now.lasting.items in
     let tables = tables_in a c.args.parts.now.rows.items in
-    let now = c.args.now.now in
+    let now = (arrived_in c.args.now.now) in
     let rules = c.rules-rules.result.now in
     let parts = c.loop-head.parts in
     let i = c.loop-head.head-index in
@@ -156,7 +156,7 @@ head_change-requires-clause-ready c =
     let growing = c.args.parts.now.growing.items in
     let lasting = c.args.parts.now.lasting.items in
     let tables = tables_in a c.args.parts.now.rows.items in
-    let now = c.args.now.now in
+    let now = (arrived_in c.args.now.now) in
     let rules = c.rules-rules.result.now in
     let parts = c.loop-head.parts in
     let i = c.loop-head.head-index in
@@ -174,7 +174,7 @@ returns-in_err-change-clause-too_many c =
     let growing = c.args.parts.now.growing.items in
     let lasting = c.args.parts.now.lasting.items in
     let tables = tables_in a c.args.parts.now.rows.items in
-    let now = c.args.now.now in
+    let now = (arrived_in c.args.now.now) in
     let rules = c.rules-rules.result.now in
     let parts = c.loop-head.parts in
     let i = c.loop-head.head-index in
@@ -209,7 +209,7 @@ put_change-requires c =
     let growing = c.args.parts.now.growing.items in
     let lasting = c.args.parts.now.lasting.items in
     let tables = tables_in a c.args.parts.now.rows.items in
-    let now = c.args.now.now in
+    let now = (arrived_in c.args.now.now) in
     let rules = c.rules-rules.result.now in
     let parts = c.loop-head.parts in
     let i = c.loop-head.head-index in
@@ -227,7 +227,7 @@ loop-head-preserved c =
     let growing = c.args.parts.now.growing.items in
     let lasting = c.args.parts.now.lasting.items in
     let tables = tables_in a c.args.parts.now.rows.items in
-    let now = c.args.now.now in
+    let now = (arrived_in c.args.now.now) in
     let rules = c.rules-rules.result.now in
     let parts = c.loop-head.parts in
     let i = c.loop-head.head-index in
@@ -269,7 +269,7 @@ returns-clause-parts c =
     let growing = c.args.parts.now.growing.items in
     let lasting = c.args.parts.now.lasting.items in
     let tables = tables_in a c.args.parts.now.rows.items in
-    let now = c.args.now.now in
+    let now = (arrived_in c.args.now.now) in
     let rules = c.rules-rules.result.now in
     let parts = c.loop-head.parts in
     let i = c.loop-head.head-index in
@@ -284,7 +284,7 @@ returns-clause-tables c =
     let growing = c.args.parts.now.growing.items in
     let lasting = c.args.parts.now.lasting.items in
     let tables = tables_in a c.args.parts.now.rows.items in
-    let now = c.args.now.now in
+    let now = (arrived_in c.args.now.now) in
     let rules = c.rules-rules.result.now in
     let parts = c.loop-head.parts in
     let i = c.loop-head.head-index in
@@ -293,21 +293,35 @@ returns-clause-tables c =
     let m = mid_none a rules growing lasting tables now st parts held c.heads-head-items.result.now i c.heads-head-items.ensures (omega (arith, c.loop-head-test.false)) c.loop-head.invariant.1 in
     tables_end a rules growing lasting tables now st parts held m
 
-pub returns-clause-outs : goal.returns-clause-outs
-returns-clause-outs c =
+pub returns-clause-many : goal.returns-clause-many
+returns-clause-many c =
     let a = c.args.program.now in
     let growing = c.args.parts.now.growing.items in
     let lasting = c.args.parts.now.lasting.items in
     let tables = tables_in a c.args.parts.now.rows.items in
-    let now = c.args.now.now in
+    let now = (arrived_in c.args.now.now) in
     let rules = c.rules-rules.result.now in
     let parts = c.loop-head.parts in
     let i = c.loop-head.head-index in
     let st = c.loop-head.invariant.0 in
     let held = c.loop-head.held.items in
     let m = mid_none a rules growing lasting tables now st parts held c.heads-head-items.result.now i c.heads-head-items.ensures (omega (arith, c.loop-head-test.false)) c.loop-head.invariant.1 in
-    let same = c.as_slice-collections.ensures ∙ ap (λ (f : Form). f.collections) c.module-written.ensures.form in
-    puts_out a rules growing lasting tables now st parts held m c.in_ok-finish.field-0 (c.in_ok-finish.ensures ∙ ap (λ (cs : List Collection). sets_of_kind Output cs (held_sets held)) same)
+    m.held_many
+
+pub returns-clause-outs : goal.returns-clause-outs
+returns-clause-outs c =
+    let a = c.args.program.now in
+    let growing = c.args.parts.now.growing.items in
+    let lasting = c.args.parts.now.lasting.items in
+    let tables = tables_in a c.args.parts.now.rows.items in
+    let now = (arrived_in c.args.now.now) in
+    let rules = c.rules-rules.result.now in
+    let parts = c.loop-head.parts in
+    let i = c.loop-head.head-index in
+    let st = c.loop-head.invariant.0 in
+    let held = c.loop-head.held.items in
+    let m = mid_none a rules growing lasting tables now st parts held c.heads-head-items.result.now i c.heads-head-items.ensures (omega (arith, c.loop-head-test.false)) c.loop-head.invariant.1 in
+    puts_out a rules growing lasting tables now st parts held m (outs_in a held) refl
 
 pub returns-clause-few : goal.returns-clause-few
 returns-clause-few c =
@@ -315,7 +329,7 @@ returns-clause-few c =
     let growing = c.args.parts.now.growing.items in
     let lasting = c.args.parts.now.lasting.items in
     let tables = tables_in a c.args.parts.now.rows.items in
-    let now = c.args.now.now in
+    let now = (arrived_in c.args.now.now) in
     let rules = c.rules-rules.result.now in
     let parts = c.loop-head.parts in
     let i = c.loop-head.head-index in

@@ -1,5 +1,6 @@
 -- the heads so far were taken
 use Rattle.std.proofs.Common.{drop}
+use Rattle.bloom_index.specs.Code.Arriving.{arrived_in}
 use Rattle.bloom_index.specs.Code.Kept.{tables_in}
 use Rattle.bloom_index.proofs.StepHeads.{IsStep}
 use Rattle.bloom_index.proofs.StepNext.{IsMid}
@@ -10,4 +11,4 @@ invariant-loop-head l =
     let growing = l.initial.parts.growing.items in
     let lasting = l.initial.parts.lasting.items in
     let tables = tables_in l.program l.initial.parts.rows.items in
-    (st : IsStep l.program l.rules growing lasting tables l.now) × IsMid l.program l.rules growing lasting tables l.now st l.parts l.held.items (drop l.head-index l.program.heads)
+    (st : IsStep l.program l.rules growing lasting tables (arrived_in l.now)) × IsMid l.program l.rules growing lasting tables (arrived_in l.now) st l.parts l.held.items (drop l.head-index l.program.heads)

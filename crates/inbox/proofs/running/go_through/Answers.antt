@@ -1,51 +1,41 @@
-use Rattle.std.proofs.Common.{◌∙◌, refl}
-use Rattle.inbox.proofs.Lists.Growing.{continues_itself, continues_on}
+use Rattle.std.proofs.Common.{◌<◌, ◌++◌, subst, sym}
+use Rattle.std.specs.List.{All}
+use Rattle.blz_pool.specs.Entries.{entries_with_ids}
+use Rattle.std.specs.Prelude.{Result, IfErr}
 use Rattle.messages.specs.Lists.{read_lists}
-use Rattle.messages.specs.declared.fault.EventFault.TheVariants.{TooManyRows, TooManyMessages}
-use Rattle.inbox.proofs.OutletsLemmas.{others_itself, others_stay_on}
-use Rattle.messages.proofs.FaultLemmas.{came_from}
-use Rattle.inbox.proofs.RunningLemmas.{goes_none, goes_one_more, goes_all, meets_rows, meets_messages}
-use Rattle.messages.proofs.ListsLemmas.{few_read}
+use Rattle.messages.specs.declared.fault.EventFault.{EventFault}
+use Rattle.messages.proofs.FaultLemmas.{handed_on}
+use Rattle.inbox.specs.Code.Running.{HasMet}
+use Rattle.inbox.specs.SetOffs.{going_entries, released_read}
+use Rattle.inbox.specs.Timesteps.{one_timestep}
+use Rattle.inbox.proofs.RunningLemmas.{met_soon}
+use Rattle.inbox.proofs.EntryTimesteps.{gone_then, met_then, arrive_then, arrive_left, arrive_right, given_to_on}
 use Rattle.inbox.proofs.running.go_through.Goals as goal
 
-pub returns-in_err-step_once-clause-rows : goal.returns-in_err-step_once-clause-rows
-returns-in_err-step_once-clause-rows g c e =
-    meets_rows ((goal.Component-dyn g (c.loop-now.shell.vtable, c.loop-now.shell.value)).program c.loop-now.shell.value) ((goal.Component-dyn g (c.args.shell.now.vtable, c.args.shell.now.value)).program c.args.shell.now.value) c.args.outlets.now ((goal.Component-dyn g (c.args.shell.now.vtable, c.args.shell.now.value)).kept c.args.shell.now.value) ((goal.Component-dyn g (c.loop-now.shell.vtable, c.loop-now.shell.value)).kept c.loop-now.shell.value) (read_lists c.args.lists.now) (read_lists c.loop-now.lists) c.args.steps.now c.loop-now.now-index c.now-item.result
-    c.loop-now.invariant.loaded c.loop-now-test.true c.now-item.is c.loop-now.invariant.goes
-    (c.step_once.ensures.rows (came_from c.from_residual.result c.step_once.result c.in_err-step_once.field-0.0 TooManyRows c.from_residual.ensures.1 c.in_err-step_once.was e))
+pub go_released-requires-clause-arrivals : goal.go_released-requires-clause-arrivals
+go_released-requires-clause-arrivals g c = arrive_left ((goal.Component-dyn g (c.args.shell.now.vtable, c.args.shell.now.value)).program c.args.shell.now.value) (released_read c.args.lists.now.records c.args.set.now.ports c.args.set.now.released) (one_timestep c.args.set.now.ports (entries_with_ids c.args.lists.now.records (going_entries c.args.set.now.going))) c.requires.arrivals
 
-pub returns-in_err-step_once-clause-messages : goal.returns-in_err-step_once-clause-messages
-returns-in_err-step_once-clause-messages g c e =
-    meets_messages ((goal.Component-dyn g (c.loop-now.shell.vtable, c.loop-now.shell.value)).program c.loop-now.shell.value) ((goal.Component-dyn g (c.args.shell.now.vtable, c.args.shell.now.value)).program c.args.shell.now.value) c.args.outlets.now ((goal.Component-dyn g (c.args.shell.now.vtable, c.args.shell.now.value)).kept c.args.shell.now.value) ((goal.Component-dyn g (c.loop-now.shell.vtable, c.loop-now.shell.value)).kept c.loop-now.shell.value) (read_lists c.args.lists.now) (read_lists c.loop-now.lists) c.args.steps.now c.loop-now.now-index c.now-item.result
-    c.loop-now.invariant.loaded c.loop-now-test.true c.now-item.is c.loop-now.invariant.goes
-    (c.step_once.ensures.messages (came_from c.from_residual.result c.step_once.result c.in_err-step_once.field-0.0 TooManyMessages c.from_residual.ensures.1 c.in_err-step_once.was e))
+pub returns-in_err-go_released-clause-fault : goal.returns-in_err-go_released-clause-fault
+returns-in_err-go_released-clause-fault g c =
+    handed_on (λ (answer : Result (Unit {0}) EventFault). IfErr answer (λ fault. HasMet fault ((goal.Component-dyn g (c.args.shell.now.vtable, c.args.shell.now.value)).program c.args.shell.now.value) c.args.outlets.now ((goal.Component-dyn g (c.args.shell.now.vtable, c.args.shell.now.value)).kept c.args.shell.now.value) (read_lists c.args.lists.now) ((released_read c.args.lists.now.records c.args.set.now.ports c.args.set.now.released) ++ (one_timestep c.args.set.now.ports (entries_with_ids c.args.lists.now.records (going_entries c.args.set.now.going)))))) c.from_residual.result c.in_err-go_released.field-0.0 c.from_residual.ensures.1
+    (met_soon c.in_err-go_released.field-0.0 ((goal.Component-dyn g (c.args.shell.now.vtable, c.args.shell.now.value)).program c.args.shell.now.value) c.args.outlets.now ((goal.Component-dyn g (c.args.shell.now.vtable, c.args.shell.now.value)).kept c.args.shell.now.value) (read_lists c.args.lists.now) (released_read c.args.lists.now.records c.args.set.now.ports c.args.set.now.released) (one_timestep c.args.set.now.ports (entries_with_ids c.args.lists.now.records (going_entries c.args.set.now.going))) c.in_err-go_released.ensures.fault)
 
-pub loop-now-preserved : goal.loop-now-preserved
-loop-now-preserved g c = record {
-  kind = c.in_ok-step_once.ensures.kind ∙ c.loop-now.invariant.kind;
-  loaded = c.in_ok-step_once.ensures.loaded ∙ c.loop-now.invariant.loaded;
-  goes =
-      goes_one_more ((goal.Component-dyn g (c.loop-now.shell.vtable, c.loop-now.shell.value)).program c.loop-now.shell.value) ((goal.Component-dyn g (c.args.shell.now.vtable, c.args.shell.now.value)).program c.args.shell.now.value) c.args.outlets.now ((goal.Component-dyn g (c.args.shell.now.vtable, c.args.shell.now.value)).kept c.args.shell.now.value) ((goal.Component-dyn g (c.loop-now.shell.vtable, c.loop-now.shell.value)).kept c.loop-now.shell.value) ((goal.Component-dyn g (c.step_once.new.shell.vtable, c.step_once.new.shell.value)).kept c.step_once.new.shell.value) (read_lists c.args.lists.now) (read_lists c.loop-now.lists) (read_lists c.step_once.new.lists) c.args.steps.now c.loop-now.now-index c.now-item.result
-      c.loop-now.invariant.loaded c.loop-now-test.true c.now-item.is c.loop-now.invariant.goes c.in_ok-step_once.ensures.ok (few_read c.step_once.new.lists c.in_ok-step_once.ensures.few);
-  others = others_stay_on c.args.outlets.now (read_lists c.args.lists.now) (read_lists c.loop-now.lists) (read_lists c.step_once.new.lists) c.loop-now.invariant.others c.in_ok-step_once.ensures.others;
-  records = continues_on c.args.lists.now.records c.loop-now.lists.records c.step_once.new.lists.records c.loop-now.invariant.records c.in_ok-step_once.ensures.records;
-  exact = c.in_ok-step_once.ensures.exact;
-  few = c.in_ok-step_once.ensures.few;
-  sizes = c.in_ok-step_once.ensures.count ∙ c.loop-now.invariant.sizes;
-}
+pub go_along-requires-clause-given : goal.go_along-requires-clause-given
+go_along-requires-clause-given g c = given_to_on c.args.lists.now.records c.go_released.new.lists.records c.args.set.now c.in_ok-go_released.ensures.ok.records c.requires.given
+
+pub go_along-requires-clause-arrivals : goal.go_along-requires-clause-arrivals
+go_along-requires-clause-arrivals g c = arrive_then (one_timestep c.args.set.now.ports) ((goal.Component-dyn g (c.go_released.new.shell.vtable, c.go_released.new.shell.value)).program c.go_released.new.shell.value) ((goal.Component-dyn g (c.args.shell.now.vtable, c.args.shell.now.value)).program c.args.shell.now.value) c.args.outlets.now ((goal.Component-dyn g (c.args.shell.now.vtable, c.args.shell.now.value)).kept c.args.shell.now.value) ((goal.Component-dyn g (c.go_released.new.shell.vtable, c.go_released.new.shell.value)).kept c.go_released.new.shell.value) c.args.lists.now c.go_released.new.lists (going_entries c.args.set.now.going) (released_read c.args.lists.now.records c.args.set.now.ports c.args.set.now.released) c.go_released.ensures.loaded c.in_ok-go_released.ensures.ok c.requires.given.going (arrive_right ((goal.Component-dyn g (c.args.shell.now.vtable, c.args.shell.now.value)).program c.args.shell.now.value) (released_read c.args.lists.now.records c.args.set.now.ports c.args.set.now.released) (one_timestep c.args.set.now.ports (entries_with_ids c.args.lists.now.records (going_entries c.args.set.now.going))) c.requires.arrivals)
+
+pub go_along-requires-clause-places : goal.go_along-requires-clause-places
+go_along-requires-clause-places g c = subst (λ n. All (λ o. o.place < n) c.args.outlets.now) (sym c.in_ok-go_released.ensures.ok.count) c.requires.places
+
+pub go_along-requires-clause-exact : goal.go_along-requires-clause-exact
+go_along-requires-clause-exact g c = c.in_ok-go_released.ensures.ok.exact
+
+pub returns-in_err-go_along-clause-fault : goal.returns-in_err-go_along-clause-fault
+returns-in_err-go_along-clause-fault g c =
+    handed_on (λ (answer : Result (Unit {0}) EventFault). IfErr answer (λ fault. HasMet fault ((goal.Component-dyn g (c.args.shell.now.vtable, c.args.shell.now.value)).program c.args.shell.now.value) c.args.outlets.now ((goal.Component-dyn g (c.args.shell.now.vtable, c.args.shell.now.value)).kept c.args.shell.now.value) (read_lists c.args.lists.now) ((released_read c.args.lists.now.records c.args.set.now.ports c.args.set.now.released) ++ (one_timestep c.args.set.now.ports (entries_with_ids c.args.lists.now.records (going_entries c.args.set.now.going)))))) c.from_residual-in_err-go_along.result c.in_err-go_along.field-0.0 c.from_residual-in_err-go_along.ensures.1
+    (met_then (one_timestep c.args.set.now.ports) ((goal.Component-dyn g (c.go_released.new.shell.vtable, c.go_released.new.shell.value)).program c.go_released.new.shell.value) ((goal.Component-dyn g (c.args.shell.now.vtable, c.args.shell.now.value)).program c.args.shell.now.value) c.args.outlets.now ((goal.Component-dyn g (c.args.shell.now.vtable, c.args.shell.now.value)).kept c.args.shell.now.value) ((goal.Component-dyn g (c.go_released.new.shell.vtable, c.go_released.new.shell.value)).kept c.go_released.new.shell.value) c.args.lists.now c.go_released.new.lists (going_entries c.args.set.now.going) (released_read c.args.lists.now.records c.args.set.now.ports c.args.set.now.released) c.go_released.ensures.loaded c.in_ok-go_released.ensures.ok c.requires.given.going c.in_err-go_along.field-0.0 c.in_err-go_along.ensures.fault)
 
 pub returns-clause-ok : goal.returns-clause-ok
-returns-clause-ok g c =
-    goes_all ((goal.Component-dyn g (c.args.shell.now.vtable, c.args.shell.now.value)).program c.args.shell.now.value) c.args.outlets.now ((goal.Component-dyn g (c.args.shell.now.vtable, c.args.shell.now.value)).kept c.args.shell.now.value) ((goal.Component-dyn g (c.loop-now.shell.vtable, c.loop-now.shell.value)).kept c.loop-now.shell.value) (read_lists c.args.lists.now) (read_lists c.loop-now.lists) c.args.steps.now c.loop-now.now-index c.loop-now-test.false c.loop-now.invariant.goes
-
-pub loop-now-init : goal.loop-now-init
-loop-now-init g c = record {
-  kind = refl;
-  loaded = refl;
-  goes = goes_none ((goal.Component-dyn g (c.args.shell.now.vtable, c.args.shell.now.value)).program c.args.shell.now.value) c.args.outlets.now ((goal.Component-dyn g (c.args.shell.now.vtable, c.args.shell.now.value)).kept c.args.shell.now.value) (read_lists c.args.lists.now);
-  others = others_itself c.args.outlets.now (read_lists c.args.lists.now);
-  records = continues_itself c.args.lists.now.records;
-  exact = c.requires.exact;
-  few = c.known.ensures.few;
-  sizes = refl;
-}
+returns-clause-ok g c = gone_then (one_timestep c.args.set.now.ports) ((goal.Component-dyn g (c.go_released.new.shell.vtable, c.go_released.new.shell.value)).program c.go_released.new.shell.value) ((goal.Component-dyn g (c.args.shell.now.vtable, c.args.shell.now.value)).program c.args.shell.now.value) c.args.outlets.now ((goal.Component-dyn g (c.args.shell.now.vtable, c.args.shell.now.value)).kept c.args.shell.now.value) ((goal.Component-dyn g (c.go_released.new.shell.vtable, c.go_released.new.shell.value)).kept c.go_released.new.shell.value) c.args.lists.now c.go_released.new.lists (going_entries c.args.set.now.going) (released_read c.args.lists.now.records c.args.set.now.ports c.args.set.now.released) c.go_released.ensures.loaded c.in_ok-go_released.ensures.ok c.requires.given.going ((goal.Component-dyn g (c.go_along.new.shell.vtable, c.go_along.new.shell.value)).kept c.go_along.new.shell.value) c.go_along.new.lists c.in_ok-go_along.ensures.ok

@@ -19,20 +19,20 @@ returns-in_err-outs-clause-too_many c = λ is.
 pub returns-in_err-outs-clause-wide : goal.returns-in_err-outs-clause-wide
 returns-in_err-outs-clause-wide c = kept_wide c.taken.new.self.program c.taken.new.self.parts c.taken.new.self.stands
 
-pub returns-in_err-step-clause-too_many : goal.returns-in_err-step-clause-too_many
-returns-in_err-step-clause-too_many c = λ is.
+pub returns-in_err-_held-clause-too_many : goal.returns-in_err-_held-clause-too_many
+returns-in_err-_held-clause-too_many c = λ is.
     let a = c.args.self.now.program in
     step_moved (λ (b : Accepted) (kept now : Sets). SomeIsOver (counted_sets b kept now)) a c.taken.new.self.program c.in_ok-parts.parts.rows.items (kept_tables a c.args.self.now.parts) c.args.now.now c.sets.result.now c.in_ok-parts.ensures.program c.in_ok-parts.ensures.tables c.sets.ensures
-    (c.in_err-step.ensures.too_many (step_handed _ _ c.from_residual-in_err-step.result (Err c.in_err-step.field-0.0) c.in_err-step.field-0.0 TooManyRows c.from_residual-in_err-step.ensures.1 is refl))
+    (c.in_err-_held.ensures.too_many (step_handed _ _ c.from_residual-in_err-_held.result (Err c.in_err-_held.field-0.0) c.in_err-_held.field-0.0 TooManyRows c.from_residual-in_err-_held.ensures.1 is refl))
 
-pub returns-in_err-step-clause-wide : goal.returns-in_err-step-clause-wide
-returns-in_err-step-clause-wide c = kept_wide c.taken.new.self.program c.taken.new.self.parts c.taken.new.self.stands
+pub returns-in_err-_held-clause-wide : goal.returns-in_err-_held-clause-wide
+returns-in_err-_held-clause-wide c = kept_wide c.taken.new.self.program c.taken.new.self.parts c.taken.new.self.stands
 
 pub returns-clause-kept : goal.returns-clause-kept
 returns-clause-kept c =
     let a = c.args.self.now.program in
     step_moved (λ (b : Accepted) (kept now : Sets). tables_in c.taken.new.self.program c.step.new.parts.rows.items ≡ tables_after b kept now) a c.taken.new.self.program c.in_ok-parts.parts.rows.items (kept_tables a c.args.self.now.parts) c.args.now.now c.sets.result.now c.in_ok-parts.ensures.program c.in_ok-parts.ensures.tables c.sets.ensures
-    c.in_ok-step.ensures.tables
+    c.in_ok-_held.ensures.tables
 
 pub returns-clause-outs : goal.returns-clause-outs
 returns-clause-outs c =
@@ -44,4 +44,4 @@ pub returns-clause-few : goal.returns-clause-few
 returns-clause-few c =
     let a = c.args.self.now.program in
     step_moved (λ (b : Accepted) (kept now : Sets). AllFit (counted_sets b kept now)) a c.taken.new.self.program c.in_ok-parts.parts.rows.items (kept_tables a c.args.self.now.parts) c.args.now.now c.sets.result.now c.in_ok-parts.ensures.program c.in_ok-parts.ensures.tables c.sets.ensures
-    c.in_ok-step.ensures.few
+    c.in_ok-_held.ensures.few

@@ -3,7 +3,8 @@ use Rattle.bloom_forms.specs.declared.module.Kind.TheVariants.{Table}
 use Rattle.bloom_forms.specs.Program.{columns_of_kind}
 use Rattle.bloom_forms.specs.Step.{Sets}
 use Rattle.bloom_forms.specs.Widths.{AreSetsOf}
-use Rattle.blz_boxes.proofs.Tables.{emptied_same, empties_wide}
+use Rattle.bloom_eval.proofs.EmptyTables.{empties_wide}
+use Rattle.blz_boxes.proofs.Tables.{emptied_same}
 use Rattle.blz_boxes.proofs.plain.PlainBody.clear.Goals as goal
 
 pub invariant_of-self : goal.invariant_of-self

@@ -5,7 +5,8 @@ use Rattle.bloom_forms.specs.Form.{Form, Accepted}
 use Rattle.bloom_forms.specs.Program.{columns_of_kind}
 use Rattle.bloom_forms.specs.Step.{Sets}
 use Rattle.bloom_forms.specs.Widths.{AreSetsOf}
-use Rattle.blz_boxes.proofs.Tables.{empties, empties_wide}
+use Rattle.bloom_eval.proofs.EmptyTables.{empties_wide}
+use Rattle.blz_boxes.proofs.Tables.{empties}
 use Rattle.blz_boxes.proofs.plain.PlainBody.new.Goals as goal
 
 pub invariant_of-result : goal.invariant_of-result

@@ -6,6 +6,6 @@ use Rattle.inbox.proofs.inbox.Inbox.parted.Given as goal
 
 abbrev pub invariant-loop-entry : goal.invariant-loop-entry
 invariant-loop-entry l = record {
-  own : l.own.items ≡ filter (λ entry. carries_in (feeds_view l.self.feeds) entry.0) (take l.entry-index l.entries);
-  others : l.others.items ≡ filter (λ entry. not (carries_in (feeds_view l.self.feeds) entry.0)) (take l.entry-index l.entries);
+  together : l.together.items ≡ filter (λ entry. carries_in (feeds_view l.self.feeds) entry.0) (take l.entry-index l.entries);
+  alone : l.alone.items ≡ filter (λ entry. not (carries_in (feeds_view l.self.feeds) entry.0)) (take l.entry-index l.entries);
 }

@@ -1,62 +1,38 @@
-use Rattle.std.proofs.Common.{◌<◌, ℕ, List, arith, length, subst, sym}
-use Rattle.blz_value.specs.Record.{Row}
-use Rattle.messages.specs.Feeds.{FeedsView, HearsRow}
+use Rattle.std.proofs.Common.{◌<◌, ℕ, arith, subst, sym}
+use Rattle.messages.specs.Feeds.{HearsRow}
 use Rattle.messages.specs.Views.{views_of, feed_view}
-use Rattle.messages.specs.Code.Tallies.{IsTallied, IsNumbered}
+use Rattle.messages.specs.Code.Tallies.{IsTallied}
 use Rattle.messages.proofs.FeedsLemmas.{on_ok, views-length}
-use Rattle.messages.proofs.TalliesLemmas.{numbered, seen-same}
 use Rattle.messages.proofs.HearingLemmas.{row_seen}
-use Rattle.messages.proofs.feeds.Feeds.hear_row.Goals.{In_ok-number}
+use Rattle.messages.proofs.PartitionNumbers.{number_at}
 use Rattle.messages.proofs.feeds.Feeds.hear_row.Goals as goal
 
-below : (c : In_ok-number) → c.args.feed < length c.args.self.now.feeds.items
-below c = subst (λ (n : ℕ). c.args.feed < n) (views-length (feed_view c.args.self.now.keys.keys) c.args.self.now.feeds.items) c.requires
-
-tallied : (c : In_ok-number) → IsTallied (length c.number_for.new.keys.keys) c.args.self.now.carrying c.args.self.now.feeds.items c.number_for.new.lacking.items
-tallied c =
-    let f = c.args.self.now in
-    numbered f.carrying f.keys.keys c.number_for.new.keys.keys f.lacking.items c.number_for.new.lacking.items c.args.key c.in_ok-number.number c.in_ok-number.ensures.number f.feeds.items f.tallied
-
 pub hear_row_at-requires-clause-feed : goal.hear_row_at-requires-clause-feed
-hear_row_at-requires-clause-feed c = below (goal.at.hear_row_at-requires-clause-feed c).In_ok-number
+hear_row_at-requires-clause-feed c = subst (λ (n : ℕ). c.args.feed < n) (views-length (feed_view c.args.self.now.keys.keys) c.args.self.now.feeds.items) c.requires.feed
 
 pub hear_row_at-requires-clause-number : goal.hear_row_at-requires-clause-number
 hear_row_at-requires-clause-number c =
-    let t = tallied (goal.at.hear_row_at-requires-clause-number c).In_ok-number in
-    let long = t.as_long in
-    let within = c.in_ok-number.ensures.number.within in
+    let long = c.args.self.now.tallied.as_long in
+    let within = c.requires.number in
     omega (arith, long, within)
 
 pub hear_row_at-requires-clause-lacks : goal.hear_row_at-requires-clause-lacks
-hear_row_at-requires-clause-lacks c = (tallied (goal.at.hear_row_at-requires-clause-lacks c).In_ok-number).each c.in_ok-number.number c.in_ok-number.ensures.number.within
+hear_row_at-requires-clause-lacks c = c.args.self.now.tallied.each c.args.number c.requires.number
 
 pub invariant_of-self : goal.invariant_of-self
 invariant_of-self c =
     let f = c.args.self.now in
     record {
       tallied =
-          subst (λ (keys : List Row). IsTallied (length keys) f.carrying f.feeds.items c.number_for.new.lacking.items) (sym c.in_err-number.ensures.keys)
-          (subst (λ (l : List ℕ). IsTallied (length f.keys.keys) f.carrying f.feeds.items l) (sym c.in_err-number.ensures.lacking) f.tallied);
+          subst (λ (n : ℕ). IsTallied n f.carrying c.hear_row_at.new.feeds.items c.hear_row_at.new.lacking.items) f.tallied.as_long
+          (c.hear_row_at.ensures.tallied f.carrying (subst (λ (n : ℕ). IsTallied n f.carrying f.feeds.items f.lacking.items) (sym f.tallied.as_long) f.tallied));
     }
 
-pub invariant_of-self-2 : goal.invariant_of-self-2
-invariant_of-self-2 c =
-    let t = tallied (goal.at.invariant_of-self-2 c).In_ok-number in
+pub returns-clause-heard : goal.returns-clause-heard
+returns-clause-heard c =
     let f = c.args.self.now in
-    record {
-      tallied =
-          subst (λ (n : ℕ). IsTallied n f.carrying c.hear_row_at.new.feeds.items c.hear_row_at.new.lacking.items) t.as_long
-          (c.hear_row_at.ensures.tallied f.carrying (subst (λ (n : ℕ). IsTallied n f.carrying f.feeds.items c.number_for.new.lacking.items) (sym t.as_long) t));
-    }
-
-pub returns : goal.returns
-returns c =
-    let at = (goal.at.returns c).In_ok-number in
-    let f = c.args.self.now in
-    let keys = c.number_for.new.keys.keys in
-    let numbers : IsNumbered f.carrying f.keys.keys keys f.lacking.items c.number_for.new.lacking.items c.args.key c.in_ok-number.number = c.in_ok-number.ensures.number in
-    on_ok c.hear_row_at.result (λ heard.
-    subst (λ (old : FeedsView). HearsRow old (views_of f.ports.items c.hear_row_at.new.feeds.items keys f.carrying) c.args.feed c.args.key c.args.id)
-    (seen-same f.carrying f.keys.keys keys f.lacking.items c.number_for.new.lacking.items c.args.key c.in_ok-number.number numbers f.feeds.items f.tallied f.ports.items)
-    (subst (λ (id : ℕ). HearsRow (views_of f.ports.items f.feeds.items keys f.carrying) (views_of f.ports.items c.hear_row_at.new.feeds.items keys f.carrying) c.args.feed c.args.key id) c.number.ensures
-    (row_seen keys c.args.key c.in_ok-number.number numbers.found f.ports.items f.feeds.items c.hear_row_at.new.feeds.items f.carrying c.args.feed (below at) c.number.result heard))) c.hear_row_at.ensures.heard
+    let keys = f.keys.keys in
+    on_ok c.hear_row_at.result (λ heard key has.
+    subst (λ (id : ℕ). HearsRow (views_of f.ports.items f.feeds.items keys f.carrying) (views_of f.ports.items c.hear_row_at.new.feeds.items keys f.carrying) c.args.feed key id) c.number.ensures
+    (row_seen keys key c.args.number (number_at keys key c.args.number c.len-count.ensures.unique has) f.ports.items f.feeds.items c.hear_row_at.new.feeds.items f.carrying c.args.feed (subst (λ (n : ℕ). c.args.feed < n) (views-length (feed_view keys) f.feeds.items) c.requires.feed) c.number.result heard))
+    c.hear_row_at.ensures.heard

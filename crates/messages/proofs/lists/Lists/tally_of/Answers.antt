@@ -1,7 +1,7 @@
-use Rattle.std.proofs.Common.{◌≡◌, ◌<◌, ◌+◌, ◌∙◌, ap, subst, arith, length, List, ℕ}
+use Rattle.std.proofs.Common.{◌<◌, ◌+◌, ◌∙◌, ap, subst, arith, length, List, ℕ}
 use Rattle.std.specs.Prelude.{if◌then◌else◌}
 use Rattle.messages.specs.declared.message.Message.{Message as IdMessage}
-use Rattle.messages.specs.Lists.{message_limit, list_at}
+use Rattle.messages.specs.Lists.{message_limit}
 use Rattle.messages.specs.EmittedCounts.{count_of}
 use Rattle.messages.specs.EmittedIds.{counts_row}
 use Rattle.messages.proofs.LentLists.{row_given}

@@ -1,5 +1,5 @@
 use Rattle.std.proofs.Common.{List, [], ℕ, sym, subst}
-use Rattle.messages.specs.Log.{EntryId}
+use Rattle.blz_pool.specs.Entries.{EntryId}
 use Rattle.messages.specs.Known.{IsKept}
 use Rattle.messages.proofs.LogLemmas.{none-kept}
 use Rattle.messages.proofs.log.Log.clear.Goals as goal

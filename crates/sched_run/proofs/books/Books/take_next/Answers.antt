@@ -56,10 +56,10 @@ pub returns-clause-answer : goal.returns-clause-answer
 returns-clause-answer g c =
     answers_done c.args.valid.now.view (map (λ b. (goal.Component-dyn g (b.vtable, b.value)).program b.value) c.args.shells.now.items) (map (λ b. (goal.Component-dyn g (b.vtable, b.value)).kept b.value) c.args.shells.now.items) c.args.self.now c.args.component c.args.replica c.instance-place.result c.port_count.result c.in-Some.entry c.as_slice.result.now
     (record { valid = c.known.ensures; takes = sym c.takes_itself.ensures ∙ c.if-not-takes_itself.false; place_is = c.instance-place.ensures; found = c.next_entry.result; next = c.next_entry.ensures.next; is = c.in-Some.is; ports_are = c.port_count.ensures; seat = c.index.result.now; at = c.index.ensures; outlets_are = c.as_slice.ensures })
-    (map (λ b. (goal.Component-dyn g (b.vtable, b.value)).kept b.value) c.emit_entry.new.shells.items) (record { places = c.args.self.now.places; lists = c.emit_entry.new.lists; logs = c.args.self.now.logs; seats = c.take_at.new.seats; ended = c.args.self.now.ended }) c.in_ok-emit_entry.ensures.ok
+    (map (λ b. (goal.Component-dyn g (b.vtable, b.value)).kept b.value) c.emit_entry.new.shells.items) (record { places = c.args.self.now.places; lists = c.emit_entry.new.lists; logs = c.args.self.now.logs; seats = c.take_at.new.seats; puts = c.emit_entry.new.puts; ended = c.args.self.now.ended }) c.in_ok-emit_entry.ensures.ok
 
 pub returns-clause-leaves : goal.returns-clause-leaves
 returns-clause-leaves g c =
     leaves_done c.args.valid.now.view (map (λ b. (goal.Component-dyn g (b.vtable, b.value)).program b.value) c.args.shells.now.items) (map (λ b. (goal.Component-dyn g (b.vtable, b.value)).kept b.value) c.args.shells.now.items) c.args.self.now c.args.component c.args.replica c.instance-place.result c.port_count.result c.in-Some.entry c.as_slice.result.now
     (record { valid = c.known.ensures; takes = sym c.takes_itself.ensures ∙ c.if-not-takes_itself.false; place_is = c.instance-place.ensures; found = c.next_entry.result; next = c.next_entry.ensures.next; is = c.in-Some.is; ports_are = c.port_count.ensures; seat = c.index.result.now; at = c.index.ensures; outlets_are = c.as_slice.ensures })
-    (map (λ b. (goal.Component-dyn g (b.vtable, b.value)).kept b.value) c.emit_entry.new.shells.items) (record { places = c.args.self.now.places; lists = c.emit_entry.new.lists; logs = c.args.self.now.logs; seats = c.take_at.new.seats; ended = c.args.self.now.ended }) c.in_ok-emit_entry.ensures.ok c.in_ok-emit_entry.ensures.records c.in_ok-emit_entry.ensures.pool c.in_ok-emit_entry.ensures.exact c.in_ok-emit_entry.ensures.others c.take_at.ensures refl refl refl
+    (map (λ b. (goal.Component-dyn g (b.vtable, b.value)).kept b.value) c.emit_entry.new.shells.items) (record { places = c.args.self.now.places; lists = c.emit_entry.new.lists; logs = c.args.self.now.logs; seats = c.take_at.new.seats; puts = c.emit_entry.new.puts; ended = c.args.self.now.ended }) c.in_ok-emit_entry.ensures.ok c.in_ok-emit_entry.ensures.records c.in_ok-emit_entry.ensures.pool c.in_ok-emit_entry.ensures.exact c.in_ok-emit_entry.ensures.others c.take_at.ensures refl refl refl

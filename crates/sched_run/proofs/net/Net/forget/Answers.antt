@@ -18,4 +18,4 @@ returns-clause-answer g c = answers_forgotten c.args.self.now.valid.now.view (ma
 
 pub returns-clause-leaves : goal.returns-clause-leaves
 returns-clause-leaves g c =
-    leaves_forgotten c.args.self.now.valid.now.view (map (λ b. (goal.Component-dyn g (b.vtable, b.value)).program b.value) c.args.self.now.shells.items) (map (λ b. (goal.Component-dyn g (b.vtable, b.value)).kept b.value) c.args.self.now.shells.items) (map (λ b. (goal.Component-dyn g (b.vtable, b.value)).kept b.value) c.clear_at.new.shells.items) c.args.self.now.books (record { places = c.args.self.now.books.places; lists = c.args.self.now.books.lists; logs = c.args.self.now.books.logs; seats = c.forget_at.new.seats; ended = c.args.self.now.books.ended }) c.component_of-number.result (component_number c.args.self.now.valid.now.view c.args.component.now) c.args.replica c.instance-place.result c.known.ensures c.component_of-number.ensures (sym c.is_there.ensures ∙ c.if-not-is_there.false) c.instance-place.ensures c.known-2.ensures.pool c.clear_at.ensures.kept c.forget_at.ensures refl refl refl refl
+    leaves_forgotten c.args.self.now.valid.now.view (map (λ b. (goal.Component-dyn g (b.vtable, b.value)).program b.value) c.args.self.now.shells.items) (map (λ b. (goal.Component-dyn g (b.vtable, b.value)).kept b.value) c.args.self.now.shells.items) (map (λ b. (goal.Component-dyn g (b.vtable, b.value)).kept b.value) c.clear_at.new.shells.items) c.args.self.now.books (record { places = c.args.self.now.books.places; lists = c.args.self.now.books.lists; logs = c.args.self.now.books.logs; seats = c.forget_at.new.seats; puts = c.args.self.now.books.puts; ended = c.args.self.now.books.ended }) c.component_of-number.result (component_number c.args.self.now.valid.now.view c.args.component.now) c.args.replica c.instance-place.result c.known.ensures c.component_of-number.ensures (sym c.is_there.ensures ∙ c.if-not-is_there.false) c.instance-place.ensures c.known-2.ensures.pool c.clear_at.ensures.kept c.forget_at.ensures refl refl refl refl

@@ -1,0 +1,4 @@
+pub mod Made
+pub mod Naming
+pub mod Making
+pub mod Code

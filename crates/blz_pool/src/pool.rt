@@ -114,11 +114,10 @@ impl Pool {
         ensures full { (result ≡ Err PoolFault.Full) ↔ ((length self.old ≡ record_limit) × ¬ Has row self.old) }
         ensures err { OnErr result (self.new ≡ self.old) }
     {
-        match self.find(&row) {
-            Some(id) => Ok(id),
-            None if self.is_full() => Err(PoolFault::Full),
-            None => self.add(row),
+        if self.is_full() {
+            return self.find(&row).ok_or(PoolFault::Full);
         }
+        self.add(row)
     }
 
     // The id of a record that is held.
@@ -141,20 +140,21 @@ impl Pool {
         self.records.len() == MAX_RECORDS
     }
 
-    // Puts a new record behind the others.
+    // Puts a record behind the others where it is new. It is hashed once.
     fn add(&mut self, row: Record) -> Result<Id, PoolFault>
-        requires room { length self.old < record_limit }
-        requires new { number_of self.old row ≡ None }
+        requires { length self.old < record_limit }
         ensures record { IfOk result (λ id. slice_get self.new id ≡ Some row) }
         ensures number { IfOk result (λ id. number_of self.new row ≡ Some id) }
         ensures within { IfOk result (λ id. id < length self.new) }
-        ensures list { OnOk result (self.new ≡ self.old ++ row ∷ []) }
+        ensures list { OnOk result (self.new ≡ with_record self.old row) }
+        ensures kept { Has row self.old → self.new ≡ self.old }
+        ensures last { ¬ Has row self.old → OnOk result (self.new ≡ self.old ++ row ∷ []) }
+        ensures held { Has row self.old → IsOk result }
         ensures memory { result ≢ Err PoolFault.Full }
         ensures err { OnErr result (self.new ≡ self.old) }
     {
-        let number = self.records.len() as u32;
-        self.records.insert(row)?;
-        Ok(Id::new(number))
+        let (number, _) = self.records.insert_full(row)?;
+        Ok(Id::new(number as u32))
     }
 
     /// Forgets all records, so that ids are given from 0 again. It takes no memory.

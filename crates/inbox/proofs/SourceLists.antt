@@ -1,12 +1,13 @@
 -- Source by source the lists get what the sources emit, and there is room for all of it.
-use Rattle.std.proofs.Common.{◌≡◌, ◌≢◌, ◌<◌, ◌≤◌, ◌+◌, ◌*◌, ℕ, List, [], length, map, replicate, take, set, ap, ◌∙◌, sym, subst, inl, inr, arith}
+use Rattle.std.proofs.Common.{◌≡◌, ◌≢◌, ◌<◌, ◌≤◌, ◌+◌, ◌*◌, ◌++◌, ℕ, List, [], ◌∷◌, length, map, replicate, take, set, get_or, ap, ◌∙◌, sym, subst, inl, inr, arith, length-append}
 use Rattle.std.specs.List.{sum_by}
+use Rattle.std.proofs.Math.Seq.{get_or-append_seam}
 use Rattle.std.proofs.lemmas.Bool.{cases_eq, cases_lt}
 use Rattle.std.proofs.lemmas.List.{length-set, length-replicate, get_or-replicate, get_or_past, get_or-set_same, get_or-set_other, set-set}
 use Rattle.std.proofs.lemmas.List.Folds.{sum_by-replicate}
-use Rattle.std.proofs.lemmas.List.Sums.{sum_by-set, sum_by_more}
+use Rattle.std.proofs.lemmas.List.Sums.{sum_by-set, sum_by_more, sum_by_more_le}
 use Rattle.blz_value.specs.Record.{Row}
-use Rattle.topo_forms.specs.Data.{Data, IsData, no_data, source_data}
+use Rattle.topo_forms.specs.Data.{Data, IsData, SourceData, no_data, source_data}
 use Rattle.topo_forms.specs.Messages.{Message, row, distinct_rows, emitted_of_source}
 use Rattle.topo_forms.specs.Valid.{IsValid}
 use Rattle.topo_forms.specs.View.{View, senders_of, source_count, stream_at, stream_replicas}
@@ -32,6 +33,9 @@ module _ (old new : Listed) (place : ℕ) (list : List Message) (within : place 
   pub grown : list_at (read_lists old) place ≡ [] → total new.lists ≡ total old.lists + length list
   grown empty = omega (arith, total-read old, total-read new, ap total becomes.lists, sum_by-set length (read_lists old) place list [] there, ap length empty)
 
+  pub list_then : list_at (read_lists new) place ≡ list
+  list_then = ap (λ l. list_at l place) becomes.lists ∙ get_or-set_same (read_lists old) place list [] there
+
 -- records of a source don't pass the limit where there is room for them
 pub no_overflow : (l : Listed) (place : ℕ) (rows : List Row) → place < length l.lists → list_at (read_lists l) place ≡ [] → total l.lists + length rows ≤ message_limit
     → message_limit < total (set (read_lists l) place (with_rows (list_at (read_lists l) place) rows)) → ⊥
@@ -46,6 +50,28 @@ becomes_then old mid new place first second one other = record {
   records = continues_on old.records mid.records new.records one.records other.records;
   lists = other.lists ∙ ap (λ l. set l place second) one.lists ∙ set-set (read_lists old) place first second;
 }
+
+-- ---- lists that are taken over
+
+-- an element stands behind those that came before it
+module _ {X : Type 0} (came : List X) (x : X) (left all : List X) (are : came ++ x ∷ left ≡ all) where
+  pub comes_within : length came < length all
+  comes_within = omega (arith, ap length are, length-append came (x ∷ left))
+
+  pub comes_at : (d : X) → get_or all (length came) d ≡ x
+  comes_at d = ap (λ l. get_or l (length came) d) (sym are) ∙ get_or-append_seam came x left d
+
+-- the source that comes next, and what it holds
+
+pub below_sources : {left later : Data} {held : SourceData} (v : View) (given : Data) (source : ℕ) (came : Data)
+    → IsData v given → source ≡ length came → came ++ left ≡ given → left ≡ held ∷ later → source < source_count v
+below_sources {later = later} {held = held} v given source came fits number all next =
+    omega (arith, number, fits.each, comes_within came held later given (ap (λ l. came ++ l) (sym next) ∙ all))
+
+pub source_held : {left later : Data} {held : SourceData} (given : Data) (source : ℕ) (came : Data)
+    → source ≡ length came → came ++ left ≡ given → left ≡ held ∷ later → source_data given source ≡ held
+source_held {later = later} {held = held} given source came number all next =
+    ap (source_data given) number ∙ comes_at came held later given (ap (λ l. came ++ l) (sym next) ∙ all) no_data
 
 -- ---- all sources
 
@@ -73,7 +99,7 @@ module _ (v : View) (valid : IsValid v) (given : Data) (s : ℕ) (below : s < so
   here = omega (arith, below, source_stream v)
 
   -- a source has one emitted list
-  one_sender : 0 < stream_replicas v s
+  pub one_sender : 0 < stream_replicas v s
   one_sender = subst (λ o. 0 < senders_of v o) (sym ((valid.numbered.sources s here).1 below)) (omega arith)
 
   pub place_there : (l : Listed) → SourcesEmitted v given s (read_lists l) → list_place v s 0 < length l.lists
@@ -116,6 +142,9 @@ module _ (v : View) (valid : IsValid v) (given : Data) (s : ℕ) (below : s < so
   module _ (fits : IsData v given) (few : AreFew given) where
     data_more : sum_by count_of (take (s + 1) given) ≡ sum_by count_of (take s given) + count_of (source_data given s)
     data_more = sum_by_more count_of given s no_data (omega (arith, below, fits.each))
+
+    pub room_left : (l : Listed) → total l.lists ≤ 2 * sum_by count_of (take s given) → total l.lists + 2 * count_of (source_data given s) ≤ message_limit
+    room_left l held = omega (arith, held, few, sum_by_more_le count_of given s no_data (omega (arith, below, fits.each)))
 
     pub room_more : (old new : Listed) → SourcesEmitted v given s (read_lists old) → total old.lists ≤ 2 * sum_by count_of (take s given)
         → OneListBecomes old new (list_place v s 0) (emitted_of_source v given s) → total new.lists ≤ 2 * sum_by count_of (take (s + 1) given)

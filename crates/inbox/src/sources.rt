@@ -4,8 +4,8 @@ ghost use Rattle.blz_value.specs.Operators.{cells};
 ghost use Rattle.blz_value.specs.Record.{Row};
 ghost use Rattle.blz_value.specs.Sets.{set_of};
 ghost use Rattle.topo_forms.specs.DataCounts.{count_of};
-ghost use Rattle.topo_forms.specs.Data.{IsData, source_data};
-ghost use Rattle.topo_forms.specs.Messages.{row, distinct_rows, emitted_of_source};
+ghost use Rattle.topo_forms.specs.Data.{IsData};
+ghost use Rattle.topo_forms.specs.Messages.{row, distinct_rows, source_messages};
 ghost use Rattle.topo_forms.specs.View.{source_count, stream_at};
 ghost use Rattle.messages.specs.Lists.{message_limit};
 ghost use Rattle.messages.specs.Lists.{OneListBecomes, IsExact, read_lists, list_at, total};
@@ -19,7 +19,7 @@ use blz_value::{Attrs, Record};
 use messages::{EventFault, Lists, key_of};
 use std::alloc::{AllocError, Global};
 use std::collections::BTreeSet;
-use topo_forms::{Data, Valid, carries};
+use topo_forms::{Data, SourceLists, Valid, carries};
 
 // ---- partitions
 
@@ -60,45 +60,48 @@ fn partitions_of(
 
 // ---- one source
 
-// Emits the records of a source, each once, where there is room.
-fn emit_records(lists: &mut Lists, place: usize, rows: &[Record]) -> Result<(), AllocError>
+// Emits the records of a source, which are taken over, each once, where there is room.
+fn emit_records(lists: &mut Lists, place: usize, rows: Vec<Record>) -> Result<(), AllocError>
     requires place { place < length lists.old.lists }
     requires exact { IsExact lists.old }
     requires empty { list_at (read_lists lists.old) place ≡ [] }
-    requires room { total lists.old.lists + length rows.now ≤ message_limit }
-    ensures ok { OnOk result (OneListBecomes lists.old lists.new place (map row (distinct_rows rows.now))) }
+    requires room { total lists.old.lists + length rows.items ≤ message_limit }
+    ensures ok { OnOk result (OneListBecomes lists.old lists.new place (map row (distinct_rows rows.items))) }
     ensures exact { OnOk result (IsExact lists.new) }
 {
-    match lists.emit_rows(place, rows) {
-        Ok(()) => Ok(()),
-        Err(EventFault::TooManyMessages) => unreachable!(),
-        // Nothing else comes than want of memory.
-        Err(_) => Err(AllocError),
+    for row in rows {
+        match lists.emit_own(place, row) {
+            Ok(()) => {}
+            Err(EventFault::TooManyMessages) => unreachable!(),
+            // Nothing else comes than want of memory.
+            Err(_) => return Err(AllocError),
+        }
     }
+    Ok(())
 }
 
-// Emits the seals of a source with this key behind its records, where there is room.
-fn emit_partitions(
+// Emits what a source with this key holds, where there is room for twice its records and partitions.
+fn emit_keyed(
     alloc: Global,
     valid: &Valid,
-    given: &Data,
+    held: SourceLists,
     source: u32,
     key: Attrs,
     place: usize,
     lists: &mut Lists,
 ) -> Result<(), AllocError>
-    requires data { IsData valid.now.view given.now }
     requires source { source < source_count valid.now.view }
     requires place { place < length lists.old.lists }
     requires exact { IsExact lists.old }
-    requires records { list_at (read_lists lists.old) place ≡ map row (distinct_rows (source_data given.now source).rows) }
-    requires room { total lists.old.lists + count_of (source_data given.now source) ≤ message_limit }
+    requires empty { list_at (read_lists lists.old) place ≡ [] }
+    requires room { total lists.old.lists + 2 * count_of held ≤ message_limit }
     requires key { (stream_at valid.now.view source).key ≡ Some key }
-    ensures ok { OnOk result (OneListBecomes lists.old lists.new place (emitted_of_source valid.now.view given.now source)) }
+    ensures ok { OnOk result (OneListBecomes lists.old lists.new place (source_messages (stream_at valid.now.view source) held)) }
     ensures exact { OnOk result (IsExact lists.new) }
 {
     let columns = key_columns(alloc, valid, source, key)?;
-    let keys = partitions_of(alloc, &columns, given.rows(source), given.parts(source))?;
+    let keys = partitions_of(alloc, &columns, &held.rows, &held.parts)?;
+    emit_records(lists, place, held.rows)?;
     lists.seal_partitions(place, &columns, &keys)?;
     Ok(())
 }
@@ -116,48 +119,47 @@ fn source_key(valid: &Valid, source: u32) -> Option<Attrs>
 fn emit_source(
     alloc: Global,
     valid: &Valid,
-    given: &Data,
+    held: SourceLists,
     source: u32,
     place: usize,
     lists: &mut Lists,
 ) -> Result<(), AllocError>
-    requires data { IsData valid.now.view given.now }
     requires source { source < source_count valid.now.view }
     requires place { place < length lists.old.lists }
     requires exact { IsExact lists.old }
     requires empty { list_at (read_lists lists.old) place ≡ [] }
-    requires room { total lists.old.lists + 2 * count_of (source_data given.now source) ≤ message_limit }
-    ensures ok { OnOk result (OneListBecomes lists.old lists.new place (emitted_of_source valid.now.view given.now source)) }
+    requires room { total lists.old.lists + 2 * count_of held ≤ message_limit }
+    ensures ok { OnOk result (OneListBecomes lists.old lists.new place (source_messages (stream_at valid.now.view source) held)) }
     ensures exact { OnOk result (IsExact lists.new) }
 {
-    emit_records(lists, place, given.rows(source))?;
-    if let Some(key) = source_key(valid, source) {
-        emit_partitions(alloc, valid, given, source, key, place, lists)?;
+    match source_key(valid, source) {
+        Some(key) => emit_keyed(alloc, valid, held, source, key, place, lists),
+        None => emit_records(lists, place, held.rows),
     }
-    Ok(())
 }
 
 // ---- all sources
 
 /// The emitted lists when nothing is heard yet: those of sources have what these hold, and all others
-/// are empty. The error is want of memory.
+/// are empty. The records are taken over, and each is hashed once. The error is want of memory.
 pub fn first_lists(
     alloc: Global,
     valid: &Valid,
     places: &Places,
-    given: &Data,
+    given: Data,
 ) -> Result<Lists, AllocError>
     requires places { ArePlaces valid.now.view places.now }
-    requires data { IsData valid.now.view given.now }
-    ensures sources { IfOk result (λ lists. SourcesEmitted valid.now.view given.now (source_count valid.now.view) (read_lists lists)) }
+    requires data { IsData valid.now.view given }
+    ensures sources { IfOk result (λ lists. SourcesEmitted valid.now.view given (source_count valid.now.view) (read_lists lists)) }
     ensures exact { IfOk result IsExact }
 {
     valid.known();
-    given.known();
     let mut lists = Lists::new(alloc, list_count(valid))?;
-    for source in 0..valid.source_count() {
+    let mut source = 0;
+    for held in given.into_sources() {
         let place = places.list(valid, source, 0);
-        emit_source(alloc, valid, given, source, place, &mut lists)?;
+        emit_source(alloc, valid, held, source, place, &mut lists)?;
+        source += 1;
     }
     Ok(lists)
 }

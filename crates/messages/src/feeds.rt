@@ -2,6 +2,7 @@
 //! number, and by it the count of the feeds that lack something of it.
 ghost use Rattle.std.specs.Prelude.{◌≡◌, ◌<◌, ◌≤◌, ◌^◌, ◌+◌, ℕ, Some, map, length, slice_get, slice_index, if◌then◌else◌, IfOk, IfSome, OnOk, OnErr};
 ghost use Rattle.std.specs.List.{count_by};
+ghost use Rattle.blz_pool.specs.Pool.{with_record};
 ghost use Rattle.blz_value.specs.Record.{Row};
 ghost use Rattle.messages.specs.Ports.{port_keys};
 ghost use Rattle.messages.specs.Feeds.{feed_count, port_count, port_in, key_in, carries_in, is_whole_in, is_due_in, HearsRow, HearsSeal, IsFresh, IsCleared};
@@ -212,6 +213,10 @@ impl Feeds {
         ensures view { feeds_view self.new ≡ feeds_view self.old }
         ensures kept { KeepNumbers (partitions self.old) (partitions self.new) }
         ensures number { IfOk result (λ number. HasNumber (partitions self.new) key.now number) }
+
+        // A new one goes last, and no other is made.
+        ensures next { OnOk result (partitions self.new ≡ with_record (partitions self.old) key.now) }
+        ensures err { OnErr result (partitions self.new ≡ partitions self.old) }
     {
         number_for(&mut self.keys, &mut self.lacking, self.carrying, key)
     }

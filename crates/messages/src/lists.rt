@@ -136,6 +136,26 @@ impl Lists {
         }
     }
 
+    // The id of a record that is taken over, as `id_of` gives it.
+    fn id_of_own(&mut self, row: Record) -> Result<Id, EventFault>
+        ensures lists { self.new.lists ≡ self.old.lists }
+        ensures records { OnOk result (self.new.records ≡ with_record self.old.records row) }
+        ensures within { IfOk result (λ id. id < length self.new.records) }
+        ensures record { IfOk result (λ id. slice_get self.new.records id ≡ Some row) }
+        ensures one { IfOk result (λ id. (other : ℕ) → slice_get self.new.records other ≡ Some row → other ≡ id) }
+        ensures full { result ≡ Err TooManyMessages → (length self.old.records ≡ record_limit) × ¬ Has row self.old.records }
+        ensures legal { IsLimit result }
+    {
+        match self.pool.place(row) {
+            Ok(id) => {
+                let _ = self.pool.get(id);
+                Ok(id)
+            }
+            Err(PoolFault::Full) => Err(EventFault::TooManyMessages),
+            Err(PoolFault::NoMemory) => Err(EventFault::NoMemory),
+        }
+    }
+
     // Ok where the record with an id stands in a list, and else there are too many messages.
     fn known_id(&self, place: usize, id: Id) -> Result<(), EventFault>
         requires place { place < length self.now.lists }
@@ -185,6 +205,23 @@ impl Lists {
     {
         self.known();
         let id = self.id_of(row)?;
+        self.put_id(place, id)?;
+        self.known();
+        Ok(())
+    }
+
+    /// Emits a record that is taken over, as `emit_row` does. A new one is hashed once and not copied.
+    pub fn emit_own(&mut self, place: usize, row: Record) -> Result<(), EventFault>
+        requires place { place < length self.old.lists }
+        requires exact { IsExact self.old }
+        ensures ok { OnOk result (OneListBecomes self.old self.new place (with_row (list_at (read_lists self.old) place) row)) }
+        ensures exact { OnOk result (IsExact self.new) }
+        ensures few { OnOk result (total self.new.lists ≤ message_limit) }
+        ensures too_many { result ≡ Err TooManyMessages → message_limit < total (slice_set (read_lists self.old) place (with_row (list_at (read_lists self.old) place) row)) }
+        ensures legal { IsLimit result }
+    {
+        self.known();
+        let id = self.id_of_own(row)?;
         self.put_id(place, id)?;
         self.known();
         Ok(())

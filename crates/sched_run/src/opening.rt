@@ -30,9 +30,9 @@ fn first_logs(alloc: Global, count: u32) -> Result<Vec<Log>, AllocError>
 }
 
 // The books of a net that made no step.
-fn first_books(alloc: Global, valid: &Valid, given: &Data) -> Result<Books, AllocError>
-    requires { IsData valid.now.view given.now }
-    ensures { IfOk result (StandFirst valid.now.view given.now) }
+fn first_books(alloc: Global, valid: &Valid, given: Data) -> Result<Books, AllocError>
+    requires { IsData valid.now.view given }
+    ensures { IfOk result (StandFirst valid.now.view given) }
 {
     valid.known();
     let places = Places::of(alloc, valid)?;
@@ -50,8 +50,8 @@ fn first_books(alloc: Global, valid: &Valid, given: &Data) -> Result<Books, Allo
 }
 
 impl<'a> Net<'a> {
-    /// Opens a net over the data of its sources. It takes a shell of the bench for each instance, in
-    /// component and replica order, each the first that fits and is left.
+    /// Opens a net over the data of its sources, whose records it takes over. It takes a shell of the
+    /// bench for each instance, in component and replica order, each the first that fits and is left.
     ///
     /// NoBody comes for the first component without a body, and else NoShell for the first instance for
     /// which the bench has no shell left; both leave the bench as it was. After want of memory it holds
@@ -79,7 +79,7 @@ impl<'a> Net<'a> {
         ensures err { OnErr result (IsPermutation (map (λ b. kind b) bench.old.items) (map (λ b. kind b) bench.new.items)) }
     {
         valid.known();
-        let books = first_books(alloc, valid, &given)?;
+        let books = first_books(alloc, valid, given)?;
         let shells = open_shells(alloc, valid, bench)?;
         Ok(Net {
             alloc,

@@ -59,6 +59,14 @@ impl Data {
         self.sources[source as usize].parts.as_slice()
     }
 
+    /// The lists of the sources, in their order, to be taken over.
+    pub fn into_sources(self) -> Vec<SourceLists>
+        ensures lists { result.items ≡ self }
+        ensures few { AreFew self }
+    {
+        self.sources
+    }
+
     /// Equal data of their own. Takes the time and the memory of all records.
     pub fn copy(&self) -> Result<Data, AllocError>
         ensures { IfOk result (λ same. same ≡ self.now) }

@@ -1,5 +1,5 @@
 -- The new rows of a join of parts that grow.
-use Rattle.std.proofs.Common.{◌≡◌, ◌<◌, ◌≤◌, List, [], ◌++◌, length, Result, Ok, Err, ap, ◌∙◌, sym, subst, arith}
+use Rattle.std.proofs.Common.{◌≡◌, ◌<◌, ◌≤◌, List, [], ◌++◌, length, Ok, Err, ◌∙◌, subst, arith}
 use Rattle.blz_value.specs.Operators.{Pairs, join_rows}
 use Rattle.blz_value.specs.Record.{Row}
 use Rattle.blz_value.specs.Sets.{set_of}

@@ -1,7 +1,7 @@
 -- An index that rows enter and leave, with one row more or less.
-use Rattle.std.proofs.Common.{◌≡◌, ℕ, ◌+◌, ◌<◌, Bool, true, false, cond, List, [], ◌∷◌, ◌++◌, length, get_or, take, Option, None, Some, unwrap_or, Result, Ok, Err, OnOk, refl, ap, ◌∙◌, sym, subst, inl, inr}
+use Rattle.std.proofs.Common.{◌≡◌, ℕ, ◌+◌, ◌<◌, Bool, true, false, cond, List, [], ◌∷◌, ◌++◌, length, get_or, take, Option, unwrap_or, Result, Ok, Err, OnOk, refl, ap, ◌∙◌, sym, subst, inl, inr}
 use Rattle.std.proofs.lemmas.List.{take_more}
-use Rattle.std.specs.BTreeMap.{BTreeMap, IsEmpty, get, is_at}
+use Rattle.std.specs.BTreeMap.{BTreeMap, is_at}
 use Rattle.std.specs.Ordering.{eq_by_cmp}
 use Rattle.blz_value.specs.Groups.{with_key}
 use Rattle.blz_value.specs.Members.{Has}

@@ -1,4 +1,5 @@
 pub mod GrowSets
+pub mod GrowOne
 pub mod SidesLemmas
 pub mod PartnersLemmas
 pub mod Extending

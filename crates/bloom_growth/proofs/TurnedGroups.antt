@@ -1,10 +1,11 @@
 -- The rows of a group and of an atleast where rows of the part come and go: only keys that are touched change.
-use Rattle.std.proofs.Common.{◌≡◌, ◌⊎◌, ℕ, zero, suc, ◌+◌, ◌<◌, ◌≤◌, Bool, true, false, cond, Option, Some, List, [], ◌∷◌, ◌++◌, length, map, filter, take, drop, get_or, take-append-drop, length-drop, Result, Ok, Err, refl, ap, ◌∙◌, sym, subst, inl, inr, arith, append_assoc}
+use Rattle.std.proofs.Common.{◌≡◌, ◌⊎◌, BuildHasherDefault, ℕ, ◌+◌, ◌<◌, ◌≤◌, Bool, true, false, cond, Option, Some, List, [], ◌∷◌, ◌++◌, length, map, filter, take, drop, get_or, take-append-drop, length-drop, Result, Ok, Err, refl, ap, ◌∙◌, sym, subst, inl, inr, arith, append_assoc}
 use Rattle.std.proofs.lemmas.List.{length-map, drop_more}
 use Rattle.std.specs.Prelude.{nat_le, ◌&&◌}
-use Rattle.std.specs.BTreeMap.{BTreeMap}
+use Rattle.indexmap.specs.IndexMap.{IndexMap}
 use Rattle.std.specs.List.Sorted.{IsStrictlySortedBy}
 use Rattle.std.specs.Ordering.{eq_by_cmp}
+use Rattle.std.specs.declared.hash.DefaultHasher.{DefaultHasher}
 use Rattle.blz_value.specs.declared.aggregate.Agg.{Agg}
 use Rattle.blz_value.specs.declared.value.Value.{Value}
 use Rattle.blz_value.specs.Groups.{aggregate, with_key, group_rows, at_least_rows}
@@ -34,22 +35,12 @@ use Rattle.bloom_growth.specs.Turned.{Turned, TurnsInto}
 use Rattle.bloom_growth.specs.Code.Aggregates.{grouped, rows_of}
 use Rattle.bloom_growth.specs.Code.Tallies.{GoesOn, IsStep, value_of}
 use Rattle.bloom_growth.specs.TurningGroups.{AreTallied, TalliesStand, GroupsTurn}
-use Rattle.bloom_growth.proofs.GrowSets.{set_more, missing_sorted}
+use Rattle.bloom_growth.proofs.GrowSets.{set_more, missing_sorted, not_before}
 use Rattle.bloom_growth.proofs.AggregateLemmas.{length_more}
 use Rattle.bloom_growth.proofs.TurnedLemmas.{is_missing, in_missing, from_missing, held_or_not, came, comes, goes, stays, only_all, only_lacks}
 use Rattle.bloom_growth.proofs.TurningLemmas.{some_value, tallied_more}
 
 -- ---- rows one by one
-
--- a row of a sorted list is not among those before it
-pub not_before : (xs : List Row) (i : ℕ) (row : Row) → IsRowSet xs → i < length xs → row ≡ get_or xs i row → ¬ Has row (take i xs)
-unfolding IsStrictlySortedBy
-not_before [] i row sorted lt is h = absurd (omega arith)
-not_before (x ∷ xs) zero row sorted lt is h = h
-not_before (x ∷ xs) (suc i) row sorted lt is h = elim h [
-  | inl e ↦ below_not_in record_cmp record_cmp_total x xs sorted.0 (subst (λ (r : Row). Has r xs) (sym (e ∙ is)) (Has-get_or xs i row (omega arith)))
-  | inr m ↦ not_before xs i row sorted.1 (omega arith) is m
-]
 
 module _ (rows more : List Row) (i : ℕ) (row : Row) (set : IsRowSet more) (few : length (set_of (rows ++ more)) ≤ row_limit) (apart : (q : Row) → Has q more → ¬ Has q rows) (lt : i < length more) (is : row ≡ get_or more i row) where
   -- a further row of some that are new is new
@@ -67,11 +58,11 @@ module _ (rows more : List Row) (i : ℕ) (row : Row) (set : IsRowSet more) (few
       omega (arith, one, next, whole, few, length-set_of-append_left (rows ++ take (i + 1) more) (drop (i + 1) more))
 
 -- aggregates by keys that are equal
-pub tallied_as : (columns own : List ℕ) (agg by : Agg) (rows : List Row) (m : BTreeMap Row Tally) → own ≡ columns → by ≡ agg → AreTallied own by rows m → AreTallied columns agg rows m
+pub tallied_as : {S : Type 0} (columns own : List ℕ) (agg by : Agg) (rows : List Row) (m : IndexMap Row Tally S) → own ≡ columns → by ≡ agg → AreTallied own by rows m → AreTallied columns agg rows m
 tallied_as columns own agg by rows m same kind are = subst (λ (cs : List ℕ). AreTallied cs agg rows m) same (subst (λ (a : Agg). AreTallied own a rows m) kind are)
 
 -- one row more of a list
-pub tallied_at : (columns own : List ℕ) (agg by : Agg) (rows more : List Row) (old new : BTreeMap Row Tally) (i : ℕ) (row : Row) → own ≡ columns → by ≡ agg → IsRowSet more → length (set_of (rows ++ more)) ≤ row_limit → ((q : Row) → Has q more → ¬ Has q rows)
+pub tallied_at : {S : Type 0} (columns own : List ℕ) (agg by : Agg) (rows more : List Row) (old new : IndexMap Row Tally S) (i : ℕ) (row : Row) → own ≡ columns → by ≡ agg → IsRowSet more → length (set_of (rows ++ more)) ≤ row_limit → ((q : Row) → Has q more → ¬ Has q rows)
     → i < length more → row ≡ get_or more i row → AreTallied columns agg (set_of (rows ++ take i more)) old
     → ((all : List Row) → IsRowSet all → length all < row_limit → ¬ Has row all → AreTallied own by all old → AreTallied own by (set_of (row ∷ all)) new)
     → AreTallied columns agg (set_of (rows ++ take (i + 1) more)) new
@@ -135,7 +126,7 @@ module _ (rows gone : List Row) (i : ℕ) (row : Row) (set : IsRowSet gone) (few
       omega (arith, more, ap (length {A = Row}) one_more, within, few)
 
   -- one row less of a list
-  pub tallied_off : (columns own : List ℕ) (agg by : Agg) (old new : BTreeMap Row Tally) → own ≡ columns → by ≡ agg → AreTallied columns agg (set_of (rows ++ drop i gone)) old
+  pub tallied_off : {S : Type 0} (columns own : List ℕ) (agg by : Agg) (old new : IndexMap Row Tally S) → own ≡ columns → by ≡ agg → AreTallied columns agg (set_of (rows ++ drop i gone)) old
       → ((all : List Row) → IsRowSet all → length all < row_limit → ¬ Has row all → AreTallied own by (set_of (row ∷ all)) old → AreTallied own by all new)
       → AreTallied columns agg (set_of (rows ++ drop (i + 1) gone)) new
   tallied_off columns own agg by old new same kind are step =
@@ -416,7 +407,7 @@ turn_as keys agg old new more gone others less groups m n g =
     subst (λ (l : List Row). GroupsTurn keys agg old new l less groups) m (subst (λ (l : List Row). GroupsTurn keys agg old new more l groups) n g)
 
 module _ (keys : List ℕ) (agg : Agg) (old new : List Row) (row : Row) (before : TurningGroups) (g : GroupsTurn keys agg old new (row ∷ []) [] before) (key : Row) (same : key ≡ cells before.keys.items row)
-    (next : BTreeMap Row Tally) (on : GoesOn before.agg key row before.tallies next) where
+    (next : IndexMap Row Tally (BuildHasherDefault DefaultHasher)) (on : GoesOn before.agg key row before.tallies next) where
   few_before : length old < row_limit
   few_before = omega (arith, g.few_new, ap (length {A = Row}) (only_all old new row g.turned), length_more row old g.turned.old_sorted (only_lacks old new row g.turned))
 

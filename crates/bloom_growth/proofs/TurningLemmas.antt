@@ -1,7 +1,7 @@
 -- Aggregates by keys, where rows come and go, and the rows that they make.
 use Rattle.std.proofs.Common.{◌≡◌, ℕ, ◌<◌, Bool, IsTrue, ◌↔◌, true, false, cond, List, [], ◌∷◌, length, Option, Some, None, Result, Ok, Err, IfOk, OnOk, refl, ap, ◌∙◌, sym, subst, inl, inr, arith}
 use Rattle.std.proofs.lemmas.Bool.{cases_Bool}
-use Rattle.std.specs.BTreeMap.{BTreeMap, get, is_at}
+use Rattle.indexmap.specs.IndexMap.{IndexMap}
 use Rattle.std.specs.BTreeSet.{insert_key}
 use Rattle.std.specs.Ordering.{eq_by_cmp}
 use Rattle.blz_value.specs.declared.aggregate.Agg.{Agg}
@@ -26,7 +26,7 @@ use Rattle.bloom_growth.specs.declared.tally.Kept.{Kept}
 use Rattle.bloom_growth.specs.declared.tally.Kept.TheVariants.{Nothing, Sum, Values}
 use Rattle.bloom_growth.specs.declared.tally.Tally.{Tally}
 use Rattle.bloom_growth.specs.Tallies.{IsKept, IsTally}
-use Rattle.bloom_growth.specs.TurningGroups.{IsTalliedAt, AreTallied}
+use Rattle.bloom_growth.specs.TurningGroups.{IsTalliedAt, AreTallied, tally_at}
 use Rattle.bloom_growth.specs.Code.Counts.{times, given}
 use Rattle.bloom_growth.specs.Code.Tallies.{KeepsOthers, GoesOn, GoesBack, IsLeft, IsStep, LeavesAt, value_of}
 use Rattle.bloom_growth.proofs.CountsLemmas.{count_insert}
@@ -89,7 +89,7 @@ module _ (row : Row) (run : List Row) (sorted : IsRowSet run) (lacks : ¬ Has ro
 
 -- ---- one row more and one row less
 
-module _ (columns : List ℕ) (agg : Agg) (row : Row) (rows : List Row) (sorted : IsRowSet rows) (few : length rows < row_limit) (lacks : ¬ Has row rows) (key : Row) (same : key ≡ cells columns row) (old new : BTreeMap Row Tally) where
+module _ {S : Type 0} (columns : List ℕ) (agg : Agg) (row : Row) (rows : List Row) (sorted : IsRowSet rows) (few : length rows < row_limit) (lacks : ¬ Has row rows) (key : Row) (same : key ≡ cells columns row) (old new : IndexMap Row Tally S) where
   run_sorted : IsRowSet (with_key columns key rows)
   run_sorted = sorted_filter (λ (r : Row). eq_by_cmp record_cmp (cells columns r) key) rows sorted
 
@@ -112,22 +112,22 @@ module _ (columns : List ℕ) (agg : Agg) (row : Row) (rows : List Row) (sorted 
   tallied_more goes are q = elim (cases_Bool (eq_by_cmp record_cmp key q)) [
     | inl e ↦
         let made = goes.at_key (with_key columns key rows) run_few (are key) in
-        let ordered = tallied_alike agg (row ∷ with_key columns key rows) (set_of (row ∷ with_key columns key rows)) (get record_cmp new key) (in_order row (with_key columns key rows) run_sorted run_lacks) made in
-        subst (λ (k : Row). IsTalliedAt agg (with_key columns k (set_of (row ∷ rows))) (get record_cmp new k)) (same_row key q e) (subst (λ (l : List Row). IsTalliedAt agg l (get record_cmp new key)) whole ordered)
+        let ordered = tallied_alike agg (row ∷ with_key columns key rows) (set_of (row ∷ with_key columns key rows)) (tally_at new key) (in_order row (with_key columns key rows) run_sorted run_lacks) made in
+        subst (λ (k : Row). IsTalliedAt agg (with_key columns k (set_of (row ∷ rows))) (tally_at new k)) (same_row key q e) (subst (λ (l : List Row). IsTalliedAt agg l (tally_at new key)) whole ordered)
     | inr e ↦
         subst (λ (o : Option Tally). IsTalliedAt agg (with_key columns q (set_of (row ∷ rows))) o) (sym (goes.others q (different q e)))
-        (subst (λ (l : List Row). IsTalliedAt agg l (get record_cmp old q)) (with_other_key columns row rows sorted q (λ p. different q e (p ∙ sym same))) (are q))
+        (subst (λ (l : List Row). IsTalliedAt agg l (tally_at old q)) (with_other_key columns row rows sorted q (λ p. different q e (p ∙ sym same))) (are q))
   ]
 
   pub tallied_less : GoesBack agg key row old new → AreTallied columns agg (set_of (row ∷ rows)) old → AreTallied columns agg rows new
   tallied_less goes are q = elim (cases_Bool (eq_by_cmp record_cmp key q)) [
     | inl e ↦
-        let ordered = subst (λ (l : List Row). IsTalliedAt agg l (get record_cmp old key)) (sym whole) (are key) in
-        let plain = tallied_alike agg (set_of (row ∷ with_key columns key rows)) (row ∷ with_key columns key rows) (get record_cmp old key) (out_of_order row (with_key columns key rows) run_sorted run_lacks) ordered in
-        subst (λ (k : Row). IsTalliedAt agg (with_key columns k rows) (get record_cmp new k)) (same_row key q e) (goes.at_key (with_key columns key rows) run_few plain)
+        let ordered = subst (λ (l : List Row). IsTalliedAt agg l (tally_at old key)) (sym whole) (are key) in
+        let plain = tallied_alike agg (set_of (row ∷ with_key columns key rows)) (row ∷ with_key columns key rows) (tally_at old key) (out_of_order row (with_key columns key rows) run_sorted run_lacks) ordered in
+        subst (λ (k : Row). IsTalliedAt agg (with_key columns k rows) (tally_at new k)) (same_row key q e) (goes.at_key (with_key columns key rows) run_few plain)
     | inr e ↦
         subst (λ (o : Option Tally). IsTalliedAt agg (with_key columns q rows) o) (sym (goes.others q (different q e)))
-        (subst (λ (l : List Row). IsTalliedAt agg l (get record_cmp old q)) (sym (with_other_key columns row rows sorted q (λ p. different q e (p ∙ sym same)))) (are q))
+        (subst (λ (l : List Row). IsTalliedAt agg l (tally_at old q)) (sym (with_other_key columns row rows sorted q (λ p. different q e (p ∙ sym same)))) (are q))
   ]
 
 -- ---- what functions of one row give
@@ -149,16 +149,16 @@ pub some_value : (agg : Agg) (run : List Row) (value : Value) → value ≡ aggr
 some_value agg [] value is some = absurd (omega arith)
 some_value agg (row ∷ run) value is some = ap (λ (v : Value). Some v) is
 
-module _ (agg : Agg) (key row : Row) (old new : BTreeMap Row Tally) where
+module _ {S : Type 0} (agg : Agg) (key row : Row) (old new : IndexMap Row Tally S) where
   -- what an update leaves at the key and at others
-  at_own : (w : Option Tally) → ((q : Row) → get record_cmp new q ≡ cond (is_at (record_cmp key) q) w (get record_cmp old q)) → get record_cmp new key ≡ w
-  at_own w updates = updates key ∙ ap (λ (b : Bool). cond b w (get record_cmp old key)) (own_key key)
+  at_own : (w : Option Tally) → ((q : Row) → tally_at new q ≡ cond (eq_by_cmp record_cmp key q) w (tally_at old q)) → tally_at new key ≡ w
+  at_own w updates = updates key ∙ ap (λ (b : Bool). cond b w (tally_at old key)) (own_key key)
 
-  at_others : (w : Option Tally) → ((q : Row) → get record_cmp new q ≡ cond (is_at (record_cmp key) q) w (get record_cmp old q)) → KeepsOthers key old new
-  at_others w updates other different = updates other ∙ ap (λ (b : Bool). cond b w (get record_cmp old other)) (apart key other different)
+  at_others : (w : Option Tally) → ((q : Row) → tally_at new q ≡ cond (eq_by_cmp record_cmp key q) w (tally_at old q)) → KeepsOthers key old new
+  at_others w updates other different = updates other ∙ ap (λ (b : Bool). cond b w (tally_at old other)) (apart key other different)
 
   -- a tally that goes on
-  pub on_at : (tally next : Tally) → Some tally ≡ get record_cmp old key → ((q : Row) → get record_cmp new q ≡ cond (is_at (record_cmp key) q) (Some next) (get record_cmp old q))
+  pub on_at : (tally next : Tally) → Some tally ≡ tally_at old key → ((q : Row) → tally_at new q ≡ cond (eq_by_cmp record_cmp key q) (Some next) (tally_at old q))
       → ((rows : List Row) → length rows < row_limit → IsTally agg rows tally → IsTally agg (row ∷ rows) next) → GoesOn agg key row old new
   on_at tally next found updates step = record {
     at_key = λ run few at.
@@ -168,7 +168,7 @@ module _ (agg : Agg) (key row : Row) (old new : BTreeMap Row Tally) where
   }
 
   -- the tally of a first row
-  pub first_at : (one : Tally) → get record_cmp old key ≡ None → ((q : Row) → get record_cmp new q ≡ cond (is_at (record_cmp key) q) (Some one) (get record_cmp old q)) → IsTally agg (row ∷ []) one → GoesOn agg key row old new
+  pub first_at : (one : Tally) → tally_at old key ≡ None → ((q : Row) → tally_at new q ≡ cond (eq_by_cmp record_cmp key q) (Some one) (tally_at old q)) → IsTally agg (row ∷ []) one → GoesOn agg key row old new
   first_at one none updates is = record {
     at_key = λ run few at.
         let empty : run ≡ [] = subst (λ (o : Option Tally). IsTalliedAt agg run o) none at in
@@ -177,7 +177,7 @@ module _ (agg : Agg) (key row : Row) (old new : BTreeMap Row Tally) where
   }
 
   -- what a tally that goes on was and is
-  pub steps_at : (tally next : Tally) (before after : Value) → Some tally ≡ get record_cmp old key → ((q : Row) → get record_cmp new q ≡ cond (is_at (record_cmp key) q) (Some next) (get record_cmp old q))
+  pub steps_at : (tally next : Tally) (before after : Value) → Some tally ≡ tally_at old key → ((q : Row) → tally_at new q ≡ cond (eq_by_cmp record_cmp key q) (Some next) (tally_at old q))
       → ((rows : List Row) → IsTally agg rows tally → before ≡ aggregate agg rows) → ((rows : List Row) → IsTally agg rows next → after ≡ aggregate agg rows) → IsStep agg key old new (record { before = Some before; after = after })
   steps_at tally next before after found updates was is = record {
     was = λ run at.
@@ -189,7 +189,7 @@ module _ (agg : Agg) (key row : Row) (old new : BTreeMap Row Tally) where
   }
 
   -- a tally that goes back
-  pub left_at : (last : Bool) (tally next : Tally) → Some tally ≡ get record_cmp old key → ((q : Row) → get record_cmp new q ≡ cond (is_at (record_cmp key) q) (Some next) (get record_cmp old q))
+  pub left_at : (last : Bool) (tally next : Tally) → Some tally ≡ tally_at old key → ((q : Row) → tally_at new q ≡ cond (eq_by_cmp record_cmp key q) (Some next) (tally_at old q))
       → ((rows : List Row) → length rows < row_limit → IsTally agg (row ∷ rows) tally → IsTally agg rows next) → ((rows : List Row) → IsTally agg (row ∷ rows) tally → IsTrue last ↔ (length rows ≡ 0)) → LeavesAt last agg key row old new
   left_at last tally next found updates step ends = record {
     at_key = λ run few at.
@@ -199,9 +199,9 @@ module _ (agg : Agg) (key row : Row) (old new : BTreeMap Row Tally) where
   }
 
 -- a tally without rows that goes
-pub off_at : (agg : Agg) (key row : Row) (old middle new : BTreeMap Row Tally) → LeavesAt true agg key row old middle → ((q : Row) → get record_cmp new q ≡ cond (is_at (record_cmp key) q) None (get record_cmp middle q)) → GoesBack agg key row old new
+pub off_at : {S : Type 0} (agg : Agg) (key row : Row) (old middle new : IndexMap Row Tally S) → LeavesAt true agg key row old middle → ((q : Row) → tally_at new q ≡ cond (eq_by_cmp record_cmp key q) None (tally_at middle q)) → GoesBack agg key row old new
 off_at agg key row old middle new leaves updates = record {
-  at_key = λ run few at. subst (λ (o : Option Tally). IsTalliedAt agg run o) (sym (at_own agg key row middle new None updates)) (nothing run (get record_cmp middle key) (leaves.at_key run few at));
+  at_key = λ run few at. subst (λ (o : Option Tally). IsTalliedAt agg run o) (sym (at_own agg key row middle new None updates)) (nothing run (tally_at middle key) (leaves.at_key run few at));
   others = λ other different. at_others agg key row middle new None updates other different ∙ leaves.others other different;
 }
   where

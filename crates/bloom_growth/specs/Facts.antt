@@ -1,6 +1,7 @@
 -- That aggregates and bags stand for rows is a fact.
 use Rattle.std.specs.Prelude.{ℕ, Option, None, Some, List}
-use Rattle.std.specs.BTreeMap.{BTreeMap, get}
+use Rattle.std.specs.BTreeMap.{BTreeMap}
+use Rattle.indexmap.specs.IndexMap.{IndexMap}
 use Rattle.std.specs.Coded.{Π_prop}
 use Rattle.std.proofs.Props.{props}
 use Rattle.blz_value.specs.declared.aggregate.Agg.{Agg}
@@ -17,7 +18,7 @@ use Rattle.bloom_growth.specs.declared.tally.Tally.{Tally}
 use Rattle.bloom_growth.specs.declared.turning_groups.TurningGroups.{TurningGroups}
 use Rattle.bloom_growth.specs.Bags.{IsBag}
 use Rattle.bloom_growth.specs.Tallies.{IsKept}
-use Rattle.bloom_growth.specs.TurningGroups.{IsTalliedAt, AreTallied, TalliesStand}
+use Rattle.bloom_growth.specs.TurningGroups.{IsTalliedAt, AreTallied, TalliesStand, tally_at}
 use Rattle.bloom_growth.specs.Code.Counts.{AreCounted}
 
 AreCounted-prop : {K : Type 0} (cmp : K → K → Ordering) (keys : List K) (counts : BTreeMap K ℕ) → IsProp (AreCounted cmp keys counts)
@@ -37,8 +38,8 @@ IsTalliedAt-prop : (agg : Agg) (rows : List Row) (tally : Option Tally) → IsPr
 IsTalliedAt-prop agg rows None = hlevel props
 IsTalliedAt-prop agg rows (Some tally) = let kept = IsKept-prop agg rows tally.kept in hlevel (kept, props)
 
-AreTallied-prop : (keys : List ℕ) (agg : Agg) (rows : List Row) (tallies : BTreeMap Row Tally) → IsProp (AreTallied keys agg rows tallies)
-AreTallied-prop keys agg rows tallies = Π_prop (λ key. IsTalliedAt-prop agg (with_key keys key rows) (get record_cmp tallies key))
+AreTallied-prop : {S : Type 0} (keys : List ℕ) (agg : Agg) (rows : List Row) (tallies : IndexMap Row Tally S) → IsProp (AreTallied keys agg rows tallies)
+AreTallied-prop keys agg rows tallies = Π_prop (λ key. IsTalliedAt-prop agg (with_key keys key rows) (tally_at tallies key))
 
 pub TalliesStand-prop : (keys : List ℕ) (agg : Agg) (rows : List Row) (groups : TurningGroups) → IsProp (TalliesStand keys agg rows groups)
 TalliesStand-prop keys agg rows groups = let tallied = AreTallied-prop keys agg rows groups.tallies in hlevel (tallied, props)

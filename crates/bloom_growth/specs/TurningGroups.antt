@@ -1,6 +1,7 @@
 -- The aggregates of the rows of a part that rows enter and leave, by keys.
 use Rattle.std.specs.Prelude.{ℕ, ◌≡◌, ◌<◌, ◌≤◌, Option, None, Some, List, [], length}
-use Rattle.std.specs.BTreeMap.{BTreeMap, IsEmpty, get}
+use Rattle.std.specs.Ordering.{eq_by_cmp}
+use Rattle.indexmap.specs.IndexMap.{IndexMap, IsEmpty, get}
 use Rattle.blz_value.specs.declared.aggregate.Agg.{Agg}
 use Rattle.blz_value.specs.Groups.{with_key}
 use Rattle.blz_value.specs.Record.{Row, record_cmp}
@@ -15,9 +16,13 @@ abbrev pub IsTalliedAt : Agg → List Row → Option Tally → Type 0
 IsTalliedAt agg rows None = rows ≡ []
 IsTalliedAt agg rows (Some tally) = IsTally agg rows tally × (0 < length rows)
 
+-- the aggregate at a key
+abbrev pub tally_at : {S : Type 0} → IndexMap Row Tally S → Row → Option Tally
+tally_at tallies key = get (eq_by_cmp record_cmp) tallies key
+
 -- at each key that occurs among the rows stands the aggregate of those that have it
-abbrev pub AreTallied : List ℕ → Agg → List Row → BTreeMap Row Tally → Type 0
-AreTallied keys agg rows tallies = (key : Row) → IsTalliedAt agg (with_key keys key rows) (get record_cmp tallies key)
+abbrev pub AreTallied : {S : Type 0} → List ℕ → Agg → List Row → IndexMap Row Tally S → Type 0
+AreTallied keys agg rows tallies = (key : Row) → IsTalliedAt agg (with_key keys key rows) (tally_at tallies key)
 
 -- the aggregates by these keys, without rows
 pub record AreFreshTallies (keys : List ℕ) (agg : Agg) (groups : TurningGroups) : Type 0 where

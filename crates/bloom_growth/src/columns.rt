@@ -21,18 +21,18 @@ pub(crate) fn copy_cell(row: &Record, column: u32) -> Result<Value, AllocError>
 pub(crate) fn copy_cells(alloc: Global, row: &Record, columns: &[u32]) -> Result<Record, AllocError>
     ensures { IfOk result (λ key. key ≡ cells columns.now row.now) }
 {
-    let mut values = Vec::new(alloc);
+    let mut values = Vec::with_capacity(alloc, columns.len())?;
     for column in columns {
         values.push(copy_cell(row, *column)?)?;
     }
     Ok(Record::from_values(values))
 }
 
-// Copies of the values of a record.
+// Copies of the values of a record, with room for one more.
 fn copies(alloc: Global, key: &Record) -> Result<Vec<Value>, AllocError>
     ensures { IfOk result (λ values. values.items ≡ key.now) }
 {
-    let mut values = Vec::new(alloc);
+    let mut values = Vec::with_capacity(alloc, key.values().len() + 1)?;
     for other in key.values() {
         values.push(other.copy()?)?;
     }

@@ -1,61 +1,45 @@
-//! A set of records that only grows, kept in a tree, so that a new row moves no other.
-ghost use Rattle.std.specs.Prelude.{◌≡◌, ◌≤◌, ◌+◌, ◌++◌, [], length, IfOk, OnOk};
-ghost use Rattle.std.specs.BTreeSet.{IsOrdered, btree_set_len};
-ghost use Rattle.blz_value.specs.Record.{record_cmp};
-ghost use Rattle.blz_value.specs.Sets.{set_of};
-ghost use Rattle.blz_set.specs.Answers.{Gives};
-ghost use Rattle.blz_set.specs.Code.Missing.{missing_from};
+//! A set of records that only grows, whose rows are found by their hash, so that a new row moves no other.
+ghost use Rattle.std.specs.Prelude.{◌≡◌, [], IfOk};
 ghost use Rattle.blz_set.specs.RecordSet.{IsRecordSet};
-ghost use Rattle.bloom_growth.specs.Growth.{Takes};
+ghost use Rattle.bloom_growth.specs.Growth.{Takes, TakesRow};
 
 use blz_set::{RecordSet, SetFault};
 use blz_value::Record;
+use indexmap::IndexSet;
 use std::alloc::{AllocError, Global};
-use std::collections::BTreeSet;
+use std::hash::{BuildHasherDefault, DefaultHasher};
 use std::marker::Model;
 
 /// The most rows of a set.
 pub(crate) const ROW_LIMIT: usize = 262_144;
 
-/// At most 262,144 records, each once, in record order.
+/// At most 262,144 records, each once.
 #[derive(Drop)]
 pub struct GrowSet {
-    rows: BTreeSet<Record>,
+    // Files of strangers give the rows, so they are hashed by SipHash.
+    rows: IndexSet<Record, BuildHasherDefault<DefaultHasher>>,
 }
 
 impl Model for GrowSet {
     ghost use Rattle.std.specs.Prelude.{List};
     ghost use Rattle.blz_value.specs.Record.{Row};
-    ghost use Rattle.blz_set.specs.RecordSet.{IsRecordSet};
+    ghost use Rattle.blz_value.specs.Sets.{set_of};
+    ghost use Rattle.bloom_growth.specs.Growth.{IsRowOrder};
 
     ghost Value = { List Row };
 
-    ghost view = { λ set. set.rows.keys };
+    ghost view = { λ set. set_of set.rows.keys };
 
-    ghost invariant = { λ set. IsRecordSet set.rows.keys };
-}
-
-// Adds rows to a tree.
-fn put_all(set: &mut BTreeSet<Record>, rows: &[Record]) -> Result<(), AllocError>
-    requires { IsOrdered record_cmp set.old }
-    ensures ordered { IsOrdered record_cmp set.new }
-    ensures few { btree_set_len set.new ≤ btree_set_len set.old + length rows.now }
-    ensures all { OnOk result (set.new.keys ≡ set_of (set.old.keys ++ rows.now)) }
-{
-    for row in rows {
-        let _ = set.insert(row.copy()?)?;
-    }
-    Ok(())
+    ghost invariant = { λ set. IsRowOrder set.rows.keys };
 }
 
 impl GrowSet {
     /// The empty set.
-    #[tactic(auto, using(blz_set::proofs::RecordSets::none_is_set))]
     pub fn new(alloc: Global) -> GrowSet
         ensures { result ≡ [] }
     {
         GrowSet {
-            rows: BTreeSet::new(alloc),
+            rows: IndexSet::with_hasher(alloc, BuildHasherDefault::new()),
         }
     }
 
@@ -66,32 +50,31 @@ impl GrowSet {
         let _ = &self.rows;
     }
 
-    // Those of some rows that aren't there.
-    fn missing(&self, alloc: Global, rows: &RecordSet) -> Result<RecordSet, SetFault>
-        ensures missing { Gives (set_of (missing_from self.now rows.now)) result }
-        ensures set { IsRecordSet rows.now }
-        ensures own { IsRecordSet self.now }
+    /// Adds rows, and answers with those that were new. After a fault it has some of them.
+    pub fn take(&mut self, alloc: Global, rows: &RecordSet) -> Result<RecordSet, SetFault>
+        ensures { Takes self.old rows.now self.new result }
     {
+        // for the proof alone: what holds of each such set
+        self.known();
         let mut fresh = Vec::new(alloc);
         for row in rows.rows() {
-            if !self.rows.contains(row) {
+            if self.take_one(row)? {
                 fresh.push(row.copy()?)?;
             }
         }
         RecordSet::from_rows(fresh)
     }
 
-    /// Adds rows, and answers with those that were new. After want of memory it has some of them.
-    pub fn take(&mut self, alloc: Global, rows: &RecordSet) -> Result<RecordSet, SetFault>
-        ensures { Takes self.old rows.now self.new result }
+    /// Adds a row, and answers whether it was new. After a fault it hasn't got it.
+    pub fn take_one(&mut self, row: &Record) -> Result<bool, SetFault>
+        ensures { TakesRow self.old row.now self.new result }
     {
-        let fresh = self.missing(alloc, rows)?;
-        let room = ROW_LIMIT - self.rows.len();
-        if fresh.len() > room {
+        // for the proof alone: what holds of each such set
+        self.known();
+        if self.rows.len() >= ROW_LIMIT && !self.rows.contains(row) {
             return Err(SetFault::TooManyRows);
         }
-        put_all(&mut self.rows, fresh.rows())?;
-        Ok(fresh)
+        Ok(self.rows.insert(row.copy()?)?)
     }
 
     /// The rows as a set of its own.
@@ -99,8 +82,10 @@ impl GrowSet {
         ensures rows { IfOk result (λ set. set ≡ self.now) }
         ensures set { IsRecordSet self.now }
     {
-        let mut rows = Vec::new(alloc);
-        for row in &self.rows {
+        // for the proof alone: what holds of each such set
+        self.known();
+        let mut rows = Vec::with_capacity(alloc, self.rows.len())?;
+        for row in self.rows.as_slice() {
             rows.push(row.copy()?)?;
         }
         match RecordSet::from_rows(rows) {

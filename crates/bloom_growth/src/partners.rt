@@ -59,7 +59,8 @@ fn joined_row(
 ) -> Result<Record, AllocError>
     ensures { IfOk result (λ row. row ≡ joined pairs.now left.now right.now) }
 {
-    let mut values = Vec::new(alloc);
+    let most = left.values().len() + right.values().len();
+    let mut values = Vec::with_capacity(alloc, most)?;
     push_values(&mut values, left)?;
     push_unpaired(&mut values, right, pairs)?;
     Ok(Record::from_values(values))

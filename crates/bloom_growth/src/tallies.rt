@@ -4,8 +4,12 @@ ghost use Rattle.bloom_growth.specs.Code.Tallies.{GoesOn, GoesBack, IsStep, Leav
 
 use crate::tally::Tally;
 use blz_value::{Agg, Record, Value};
+use indexmap::IndexMap;
 use std::alloc::{AllocError, Global};
-use std::collections::BTreeMap;
+use std::hash::{BuildHasherDefault, DefaultHasher};
+
+/// Aggregates by keys, in no order. Files of strangers give the keys, so they are hashed by SipHash.
+pub(crate) type Tallies = IndexMap<Record, Tally, BuildHasherDefault<DefaultHasher>>;
 
 /// What the aggregate at a key was, where it was there, and what it is.
 #[derive(Drop)]
@@ -16,7 +20,7 @@ pub(crate) struct Step {
 
 // Goes on with a row more at a key, where it is there.
 fn step_at(
-    tallies: &mut BTreeMap<Record, Tally>,
+    tallies: &mut Tallies,
     agg: Agg,
     key: &Record,
     row: &Record,
@@ -39,7 +43,7 @@ fn step_at(
 
 /// Goes on with a row more at a key.
 pub(crate) fn put_row(
-    tallies: &mut BTreeMap<Record, Tally>,
+    tallies: &mut Tallies,
     alloc: Global,
     agg: Agg,
     key: &Record,
@@ -64,12 +68,7 @@ pub(crate) fn put_row(
 }
 
 // Goes on with a row less at a key, and answers whether it was the last.
-fn take_at(
-    tallies: &mut BTreeMap<Record, Tally>,
-    agg: Agg,
-    key: &Record,
-    row: &Record,
-) -> Result<bool, AllocError>
+fn take_at(tallies: &mut Tallies, agg: Agg, key: &Record, row: &Record) -> Result<bool, AllocError>
     ensures { IfOk result (λ last. LeavesAt last agg key.now row.now tallies.old tallies.new) }
 {
     match tallies.get_mut(key) {
@@ -80,7 +79,7 @@ fn take_at(
 
 /// Goes on with a row less at a key, which goes with its last row.
 pub(crate) fn take_row(
-    tallies: &mut BTreeMap<Record, Tally>,
+    tallies: &mut Tallies,
     agg: Agg,
     key: &Record,
     row: &Record,
@@ -88,7 +87,7 @@ pub(crate) fn take_row(
     ensures { OnOk result (GoesBack agg key.now row.now tallies.old tallies.new) }
 {
     if take_at(tallies, agg, key, row)? {
-        let _ = tallies.remove(key);
+        let _ = tallies.swap_remove(key);
     }
     Ok(())
 }

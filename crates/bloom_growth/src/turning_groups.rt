@@ -15,13 +15,14 @@ ghost use Rattle.bloom_growth.specs.Tallies.{IsTally};
 ghost use Rattle.bloom_growth.specs.Turned.{TurnsInto};
 
 use crate::columns::{copy_cells, with_value};
-use crate::tallies::{Step, put_row, take_row};
+use crate::tallies::{Step, Tallies, put_row, take_row};
 use crate::tally::Tally;
 use crate::turn::{Turn, Turning, differ, exchange, one_row, only_row};
 use blz_set::{RecordSet, SetFault};
 use blz_value::{Agg, Record};
+use indexmap::IndexMap;
 use std::alloc::{AllocError, Global};
-use std::collections::BTreeMap;
+use std::hash::BuildHasherDefault;
 
 /// The aggregate of the rows with each key.
 #[derive(Drop)]
@@ -29,7 +30,7 @@ pub struct TurningGroups {
     alloc: Global,
     keys: Vec<u32>,
     agg: Agg,
-    tallies: BTreeMap<Record, Tally>,
+    tallies: Tallies,
 }
 
 impl TurningGroups {
@@ -43,7 +44,7 @@ impl TurningGroups {
             alloc,
             keys,
             agg,
-            tallies: BTreeMap::new(alloc),
+            tallies: IndexMap::with_hasher(alloc, BuildHasherDefault::new()),
         }
     }
 

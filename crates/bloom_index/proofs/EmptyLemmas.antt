@@ -27,12 +27,12 @@ use Rattle.bloom_growth.specs.declared.bag.Bag.{Bag}
 use Rattle.bloom_growth.specs.Bags.{IsBag}
 use Rattle.bloom_index.specs.declared.memo.Memo.{Memo}
 use Rattle.bloom_index.specs.declared.step.Parts.{Parts}
-use Rattle.bloom_index.specs.Code.Emptiness.{AreEmpty, IsFresh, AreNoBags}
+use Rattle.bloom_index.specs.Code.Emptiness.{IsFresh, AreNoBags}
 use Rattle.bloom_index.specs.Code.Growth.{AreGrowing}
 use Rattle.bloom_index.specs.Code.Heads.{kept_rules}
 use Rattle.bloom_index.specs.Code.Kept.{tables_in, held_over, PartsStand}
 use Rattle.bloom_index.specs.Code.Lasting.{AreLasting}
-use Rattle.bloom_index.proofs.FreshLemmas.{all_fresh, none_given, ends_empty, no_tables, no_ports, nothing_held}
+use Rattle.bloom_index.proofs.FreshLemmas.{AreEmpty, all_fresh, none_given, ends_empty, no_tables, no_ports, nothing_held}
 use Rattle.bloom_index.proofs.Renumbering.{renumbered}
 
 -- ---- rules

@@ -15,16 +15,16 @@ use Rattle.bloom_forms.specs.Step.{Sets}
 use Rattle.bloom_eval.specs.Code.NumberedRows.{numbered_rows, numbered_sets, TestsFit}
 use Rattle.bloom_eval.specs.StepAnswers.{AllFit, SomeIsOver}
 use Rattle.bloom_growth.proofs.TurnedLemmas.{came, went}
-use Rattle.bloom_index.specs.declared.change.Change.{Change}
+use Rattle.bloom_parts.specs.declared.change.Change.{Change}
+use Rattle.bloom_parts.specs.KeptParts.{PartChanges}
+use Rattle.bloom_parts.specs.Turns.{rows_in, HasTurned, Turns, TurnsTo}
+use Rattle.bloom_parts.proofs.Turning.{flagged, none_lost, turned_of}
 use Rattle.bloom_index.specs.declared.memo.Memo.{Memo}
 use Rattle.bloom_index.specs.declared.memo.Memo as memo
 use Rattle.bloom_index.specs.Code.Evaluation.{Stands, HaveGrown, JoinsFit, IsReady, Evaluates}
 use Rattle.bloom_index.specs.Code.Growth.{grows}
 use Rattle.bloom_index.specs.Code.Lasting.{lasts, KeepsEnough}
-use Rattle.bloom_index.specs.Code.Memos.{PartChanges}
-use Rattle.bloom_index.specs.Code.Turns.{rows_in, HasTurned, Turns, TurnsTo}
 use Rattle.bloom_index.proofs.Monotone.{grown}
-use Rattle.bloom_index.proofs.Turning.{flagged, none_lost, turned_of}
 
 -- ---- readiness
 
@@ -116,15 +116,6 @@ pub part_changes : (growing : List Bool) (old new : Sets) → HaveGrown growing 
 part_changes growing old new have e part t = record {
   turned = t;
   none_gone = λ g is. none_lost (numbered_rows old e) (numbered_rows new e) (rows_in part.rows) (rows_in part.gone) (turned_of (numbered_rows old e) (numbered_rows new e) part t is).0 (grown growing old new have e g).within;
-}
-
--- a change that is lent on
-pub lent_turns : (old new : List Row) (change lent : Change) → lent.kept ≡ change.kept → rows_in lent.rows ≡ rows_in change.rows → rows_in lent.gone ≡ rows_in change.gone → Turns old new change → Turns old new lent
-lent_turns old new change lent e r g t = record {
-  sorted = t.sorted;
-  few = t.few;
-  rows = subst (λ (b : Bool). HasTurned b old new (rows_in lent.rows) (rows_in lent.gone)) (sym e)
-      (subst (λ (l : List Row). HasTurned change.kept old new l (rows_in lent.gone)) (sym r) (subst (λ (l : List Row). HasTurned change.kept old new (rows_in change.rows) l) (sym g) t.rows));
 }
 
 -- of a base nothing is kept, and of nothing else that stands for one

@@ -36,15 +36,16 @@ use Rattle.bloom_growth.specs.Bags.{IsBag}
 use Rattle.bloom_growth.specs.Kept.{Kept}
 use Rattle.bloom_growth.proofs.Fresh.{none_found, tallies_of_none}
 use Rattle.bloom_growth.proofs.KeyedLemmas.{keyed_of_none}
+use Rattle.bloom_parts.specs.declared.part_rows.PartRows.{PartRows}
+use Rattle.bloom_parts.specs.FreshParts.{IsFreshPart, IsFreshJoin, IsFreshNotIn}
+use Rattle.bloom_parts.specs.KeptParts.{PartStands, JoinStands, NotInStands}
+use Rattle.bloom_parts.specs.PartForms.{kept_of}
 use Rattle.bloom_index.specs.declared.memo.Memo.{Memo}
 use Rattle.bloom_index.specs.declared.memo.Memo as memo
-use Rattle.bloom_index.specs.declared.part_rows.PartRows.{PartRows}
 use Rattle.bloom_index.specs.Code.Evaluation.{Stands}
-use Rattle.bloom_index.specs.Code.Emptiness.{AreEmpty, IsFreshPart, IsFreshJoin, IsFreshNotIn, IsFresh}
+use Rattle.bloom_index.specs.Code.Emptiness.{IsFresh}
 use Rattle.bloom_index.specs.Code.Heads.{rows_given}
 use Rattle.bloom_index.specs.Code.Kept.{held_over}
-use Rattle.bloom_index.specs.Code.Memos.{PartStands, JoinStands, NotInStands}
-use Rattle.bloom_index.specs.Code.PartForms.{kept_of}
 use Rattle.bloom_index.specs.Sides.{module_sides, part_side, side_rows, SidePart}
 
 -- ---- what is kept
@@ -76,6 +77,10 @@ module _ (pairs : Pairs) (lefts rights : List Row) (none : lefts ≡ []) (also :
   }
 
 -- ---- where no collection holds a row
+
+-- no collection holds a row
+abbrev pub AreEmpty : Sets → Type 0
+AreEmpty sets = (number : ℕ) → set_at sets number ≡ []
 
 module _ (sets : Sets) (empty : AreEmpty sets) where
   pub no_rows : (e : NumberedExpr) → numbered_rows sets e ≡ []

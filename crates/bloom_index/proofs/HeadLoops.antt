@@ -14,12 +14,12 @@ use Rattle.bloom_forms.specs.declared.numbered.NumberedRule.{NumberedRule}
 use Rattle.bloom_forms.specs.Lookup.{declared}
 use Rattle.bloom_forms.specs.Step.{rows_named, rules_at}
 use Rattle.bloom_eval.specs.Code.Counted.{Adds}
-use Rattle.bloom_index.specs.declared.change.Change.{Change}
+use Rattle.bloom_parts.specs.declared.change.Change.{Change}
+use Rattle.bloom_parts.specs.Turns.{rows_in}
 use Rattle.bloom_index.specs.declared.memo.Memo.{Memo}
 use Rattle.bloom_growth.specs.Growth.{Extends}
 use Rattle.bloom_index.specs.Code.HeadRules.{AreReady, HasOldHead, AreTurned, GrowsHead}
 use Rattle.bloom_index.specs.Code.Heads.{HasOldRows, GrowsBy}
-use Rattle.bloom_index.specs.Code.Turns.{rows_in}
 use Rattle.bloom_growth.proofs.BagsLemmas.{extends_none}
 use Rattle.bloom_growth.proofs.Extending.{sorted_new, old_is_in}
 use Rattle.bloom_index.proofs.HeadRulesLemmas.{own_adds, other_adds, own_fault, none_adds, ready_at, none_turned, own_turned, other_turned, all_turned, grown_fault}

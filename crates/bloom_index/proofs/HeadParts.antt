@@ -32,14 +32,15 @@ use Rattle.bloom_forms.specs.Step.{Sets, rows_named, rules_at, ruled_at, union_o
 use Rattle.bloom_eval.specs.Code.NumberedRows.{numbered_rows, numbered_sets}
 use Rattle.bloom_eval.specs.StepAnswers.{AllFit, part_sets, rule_sets}
 use Rattle.bloom_eval.proofs.ByNumbers.{same_rows, same_sets}
-use Rattle.bloom_index.specs.declared.change.Change.{Change}
+use Rattle.bloom_parts.specs.declared.change.Change.{Change}
+use Rattle.bloom_parts.specs.Bodies.{BodyRows, BodyTurns}
+use Rattle.bloom_parts.specs.Turns.{rows_in, HasTurned, Turns}
 use Rattle.bloom_index.specs.declared.heads.HeadParts.{HeadParts}
 use Rattle.bloom_index.specs.declared.memo.Memo.{Memo}
 use Rattle.bloom_index.specs.Code.Evaluation.{Evaluates}
 use Rattle.bloom_index.specs.Code.HeadRules.{AreReady, AddsRule, AreTurned, MakesParts}
-use Rattle.bloom_index.specs.Code.Heads.{BodyRows, BodyTurns, body_of, bodies_of, kept_rules, passing_rules, rows_given}
+use Rattle.bloom_index.specs.Code.Heads.{body_of, bodies_of, kept_rules, passing_rules, rows_given}
 use Rattle.bloom_index.specs.Code.Lasting.{lasts}
-use Rattle.bloom_index.specs.Code.Turns.{rows_in, HasTurned, Turns}
 use Rattle.bloom_index.proofs.HeadRulesLemmas.{ready_at, none_turned, own_turned, other_turned, all_turned}
 
 -- ---- the rules of a head by numbers

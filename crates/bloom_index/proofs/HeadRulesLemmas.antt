@@ -29,12 +29,12 @@ use Rattle.bloom_eval.specs.StepAnswers.{AllFit}
 use Rattle.bloom_eval.proofs.ByNumbers.{same_rows, tests_fit}
 use Rattle.bloom_eval.proofs.Rules.{adds_none, adds_one, first_refused, IsFormAt, form_at, own_rule, other_rule, none_from, adds_named}
 use Rattle.bloom_eval.proofs.Widths.{wide_named}
-use Rattle.bloom_index.specs.declared.change.Change.{Change}
+use Rattle.bloom_parts.specs.declared.change.Change.{Change}
+use Rattle.bloom_parts.specs.KeptParts.{IsWide}
 use Rattle.bloom_index.specs.declared.memo.Memo.{Memo}
 use Rattle.bloom_index.specs.Code.Evaluation.{IsReady, JoinsFit, Stands}
 use Rattle.bloom_index.specs.Code.HeadRules.{AreReady, AreTurned}
 use Rattle.bloom_index.specs.Code.Heads.{GrowsBy}
-use Rattle.bloom_index.specs.Code.Memos.{IsWide}
 
 -- ---- places
 

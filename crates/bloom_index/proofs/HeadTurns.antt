@@ -25,16 +25,17 @@ use Rattle.bloom_growth.specs.declared.turn.Turn.{Turn}
 use Rattle.bloom_growth.specs.Bags.{IsBag}
 use Rattle.bloom_growth.specs.Turned.{TurnsInto}
 use Rattle.bloom_growth.proofs.TurnedLemmas.{came, comes}
-use Rattle.bloom_index.specs.declared.change.Change.{Change}
+use Rattle.bloom_parts.specs.declared.change.Change.{Change}
+use Rattle.bloom_parts.specs.Bodies.{AddsGiven, BodyRows, olds_of, news_of}
+use Rattle.bloom_parts.specs.Turns.{rows_in}
+use Rattle.bloom_parts.proofs.BodiesLemmas.{few_olds, many_bodies}
+use Rattle.bloom_parts.proofs.Turning.{turned_into}
 use Rattle.bloom_index.specs.declared.heads.HeadParts.{HeadParts}
 use Rattle.bloom_index.specs.declared.memo.Memo.{Memo}
 use Rattle.bloom_index.specs.Code.HeadRules.{AreReady, HasGiven, AllLast, MakesParts, TurnsHead, MakesHead, IsHeadMade, needs_bag, head_sets}
-use Rattle.bloom_index.specs.Code.Heads.{AddsGiven, BodyRows, body_of, bodies_of, kept_rules, passing_rules, olds_of, news_of, rows_given}
+use Rattle.bloom_index.specs.Code.Heads.{body_of, bodies_of, kept_rules, passing_rules, rows_given}
 use Rattle.bloom_index.specs.Code.Lasting.{lasts_at, lasts}
-use Rattle.bloom_index.specs.Code.Turns.{rows_in}
-use Rattle.bloom_index.proofs.HeadBags.{few_olds, many_bodies}
 use Rattle.bloom_index.proofs.HeadParts.{own_rules, ruled, passing_in, kept_in, ruled_cases}
-use Rattle.bloom_index.proofs.Turning.{turned_into}
 
 -- nothing comes and nothing goes
 abbrev no_turn : Turn

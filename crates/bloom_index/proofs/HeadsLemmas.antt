@@ -15,15 +15,15 @@ use Rattle.blz_set.proofs.Unions.{handed_on}
 use Rattle.bloom_forms.specs.declared.numbered.NumberedExpr.{NumberedExpr}
 use Rattle.bloom_eval.specs.Code.NumberedRows.{numbered_rows, numbered_sets}
 use Rattle.bloom_eval.specs.StepAnswers.{AllFit}
-use Rattle.bloom_index.specs.declared.change.Change.{Change}
+use Rattle.bloom_parts.specs.declared.change.Change.{Change}
+use Rattle.bloom_parts.specs.Turns.{HasTurned}
+use Rattle.bloom_parts.proofs.Turning.{gets}
 use Rattle.bloom_index.specs.declared.memo.Memo.{Memo}
 use Rattle.bloom_growth.specs.Growth.{Extends, Takes}
 use Rattle.bloom_growth.proofs.Extending.{sorted_new, old_is_in, fresh_is_in, old_or_fresh}
 use Rattle.bloom_growth.proofs.TurnedLemmas.{held_or_not, came}
 use Rattle.bloom_index.specs.Code.Evaluation.{Stands, IsReady, Evaluates}
 use Rattle.bloom_index.specs.Code.Heads.{GrowsBy}
-use Rattle.bloom_index.specs.Code.Turns.{HasTurned}
-use Rattle.bloom_index.proofs.Turning.{gets}
 
 -- a change added to rows that have the old ones is the whole added
 pub gets_all : (kept : Bool) (old new turned gone set rows : List Row) → HasTurned kept old new turned gone → (IsTrue kept → IsWithin old rows) → set ≡ turned → set_of (rows ++ set) ≡ set_of (rows ++ new)

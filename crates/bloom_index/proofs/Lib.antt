@@ -1,11 +1,5 @@
-pub mod Putting
-pub mod Turning
-pub mod PartTurns
 pub mod Evaluating
-pub mod Settling
-pub mod Selecting
 pub mod OperatorAnswers
-pub mod HeadBags
 pub mod HeadsLemmas
 pub mod HeadRulesLemmas
 pub mod HeadLoops

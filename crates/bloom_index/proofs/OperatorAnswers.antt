@@ -23,15 +23,15 @@ use Rattle.bloom_growth.specs.declared.turning_groups.TurningGroups.{TurningGrou
 use Rattle.bloom_growth.specs.Bags.{IsBag}
 use Rattle.bloom_growth.specs.TurningGroups.{TalliesStand}
 use Rattle.bloom_growth.proofs.BagRows.{on_ok}
-use Rattle.bloom_index.specs.declared.change.Change.{Change}
+use Rattle.bloom_parts.specs.declared.change.Change.{Change}
+use Rattle.bloom_parts.specs.declared.part_rows.PartRows.{PartRows}
+use Rattle.bloom_parts.specs.KeptParts.{JoinStands, NotInStands, JoinChanges, NotInChanges}
+use Rattle.bloom_parts.specs.Turns.{Turns, TurnsTo}
 use Rattle.bloom_index.specs.declared.memo.Memo.{Memo}
 use Rattle.bloom_index.specs.declared.memo.Memo as memo
-use Rattle.bloom_index.specs.declared.part_rows.PartRows.{PartRows}
 use Rattle.bloom_index.specs.Code.Evaluation.{IsReady, Evaluates}
 use Rattle.bloom_index.specs.Code.Growth.{grows}
 use Rattle.bloom_index.specs.Code.Lasting.{lasts}
-use Rattle.bloom_index.specs.Code.Memos.{JoinStands, NotInStands, JoinChanges, NotInChanges}
-use Rattle.bloom_index.specs.Code.Turns.{Turns, TurnsTo}
 use Rattle.bloom_index.proofs.Evaluating.{part_of, answered, both_fit, part_changes}
 
 -- ---- one part

@@ -23,6 +23,7 @@ use Rattle.bloom_eval.proofs.ByNumbers.{same_rows}
 use Rattle.bloom_growth.specs.declared.bag.Bag.{Bag}
 use Rattle.bloom_growth.specs.Bags.{IsBag}
 use Rattle.bloom_growth.specs.TurningGroups.{TalliesStand}
+use Rattle.bloom_parts.specs.KeptParts.{JoinStands, NotInStands}
 use Rattle.bloom_index.specs.declared.memo.Memo.{Memo}
 use Rattle.bloom_index.specs.declared.memo.Memo as memo
 use Rattle.bloom_index.specs.Code.Evaluation.{Stands}
@@ -31,7 +32,6 @@ use Rattle.bloom_index.specs.Code.HeadRules.{HasGiven, needs_bag}
 use Rattle.bloom_index.specs.Code.Heads.{kept_rules, rows_given}
 use Rattle.bloom_index.specs.Code.Kept.{MemosStand, BagsStand}
 use Rattle.bloom_index.specs.Code.Lasting.{lasts, lasts_at}
-use Rattle.bloom_index.specs.Code.Memos.{JoinStands, NotInStands}
 
 -- ---- an expression, by names
 

@@ -10,18 +10,19 @@ use Rattle.bloom_forms.specs.declared.numbered.NumberedExpr.{NumberedExpr}
 use Rattle.bloom_forms.specs.declared.numbered.NumberedExpr as expr
 use Rattle.bloom_forms.specs.declared.numbered.NumberedRule.{NumberedRule}
 use Rattle.bloom_forms.specs.Step.{Sets}
+use Rattle.bloom_parts.specs.declared.part_rows.PartRows.{PartRows}
+use Rattle.bloom_parts.specs.declared.part_rows.PartRows.TheVariants.{Growing, Keyed}
+use Rattle.bloom_parts.specs.KeptParts.{PartStands}
+use Rattle.bloom_parts.specs.PartForms.{kept_of}
 use Rattle.bloom_index.specs.declared.memo.Memo.{Memo}
 use Rattle.bloom_index.specs.declared.memo.Memo as shape
-use Rattle.bloom_index.specs.declared.part_rows.PartRows.{PartRows}
-use Rattle.bloom_index.specs.declared.part_rows.PartRows.TheVariants.{Growing, Keyed}
 use Rattle.bloom_growth.specs.declared.side.Side.{Side}
 use Rattle.bloom_eval.specs.Code.NumberedRows.{numbered_rows}
 use Rattle.bloom_index.specs.Code.Evaluation.{Stands}
 use Rattle.bloom_index.specs.Code.Growth.{grows}
 use Rattle.bloom_growth.specs.Sides.{IsSideOf}
 use Rattle.bloom_index.specs.Code.Lasting.{lasts, GrowLast}
-use Rattle.bloom_index.specs.Code.Memos.{PartStands, part_kept}
-use Rattle.bloom_index.specs.Code.PartForms.{kept_of}
+use Rattle.bloom_index.specs.Code.Memos.{part_kept}
 use Rattle.bloom_index.specs.Code.SideParts.{NumberedSide, grown_side, numbered_sides, rules_sides, IsKept, AreKept, HasRowsOf, IsSideAt, FindsOwn, Finds}
 use Rattle.bloom_index.proofs.LastsLemmas.{grow_lasts}
 

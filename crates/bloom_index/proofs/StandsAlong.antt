@@ -31,16 +31,16 @@ use Rattle.bloom_growth.specs.Code.ByKey.{AreByKey}
 use Rattle.bloom_growth.specs.Kept.{Kept}
 use Rattle.bloom_growth.specs.Keyed.{IsKeyedBy}
 use Rattle.bloom_growth.specs.TurningGroups.{TalliesStand}
+use Rattle.bloom_parts.specs.declared.part_rows.PartRows.{PartRows}
+use Rattle.bloom_parts.specs.KeptParts.{PartStands, JoinStands, NotInStands}
+use Rattle.bloom_parts.specs.PartForms.{kept_of}
 use Rattle.bloom_index.specs.declared.memo.Memo.{Memo}
 use Rattle.bloom_index.specs.declared.memo.Memo as memo
-use Rattle.bloom_index.specs.declared.part_rows.PartRows.{PartRows}
 use Rattle.bloom_index.specs.Code.Evaluation.{Stands}
 use Rattle.bloom_index.specs.Code.Growth.{grows}
 use Rattle.bloom_index.specs.Code.HeadRules.{HasGiven}
 use Rattle.bloom_index.specs.Code.Heads.{kept_rules, rows_given}
 use Rattle.bloom_index.specs.Code.Lasting.{lasts_at, lasts}
-use Rattle.bloom_index.specs.Code.Memos.{PartStands, JoinStands, NotInStands}
-use Rattle.bloom_index.specs.Code.PartForms.{kept_of}
 
 -- the sets hold the same of each collection that is kept and stands in the expression
 abbrev pub AgreeOn : List Bool → (xs ys : Sets) → NumberedExpr → Type 0

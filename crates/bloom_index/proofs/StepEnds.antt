@@ -32,16 +32,16 @@ use Rattle.bloom_eval.proofs.Runnable.{runnable}
 use Rattle.bloom_eval.proofs.Taking.{at_first, at_last}
 use Rattle.bloom_eval.proofs.Widths.{columns_at, wide_at, all_wide, are_begun}
 use Rattle.bloom_growth.proofs.BagsLemmas.{extends_none}
-use Rattle.bloom_index.specs.declared.change.Change.{Change}
+use Rattle.bloom_parts.specs.declared.change.Change.{Change}
+use Rattle.bloom_parts.specs.Turns.{HasTurnedAt, rows_in, HasTurned, Turns}
 use Rattle.bloom_index.specs.declared.memo.Memo.{Memo}
 use Rattle.bloom_index.specs.declared.step.Parts.{Parts}
-use Rattle.bloom_index.specs.Code.Evaluation.{HasTurnedAt, Stands}
+use Rattle.bloom_index.specs.Code.Evaluation.{Stands}
 use Rattle.bloom_index.specs.Code.Growth.{grows_at, kind_grows, rules_grow, IsGrown}
 use Rattle.bloom_index.specs.Code.Heads.{AreNew}
 use Rattle.bloom_index.specs.Code.Kept.{tables_in, held_over, MemosStand, BagsStand, PartsStand, PutsOut}
 use Rattle.bloom_index.specs.Code.Lasting.{lasts_at, rules_last}
 use Rattle.bloom_index.specs.Code.StepSets.{held_sets, IsBegunAt, AreBegunAt}
-use Rattle.bloom_index.specs.Code.Turns.{rows_in, HasTurned, Turns}
 use Rattle.bloom_index.proofs.KeptLemmas.{still_ends, quiet_wide}
 use Rattle.bloom_index.proofs.Renumbering.{renumbered, bags_renumbered}
 use Rattle.bloom_index.proofs.StandsAfter.{memos_begin, bags_begin, AreEnded, tables_ended, parts_ended}

@@ -20,7 +20,7 @@ use Rattle.bloom_forms.proofs.Ends.Equated.{starts}
 use Rattle.bloom_eval.specs.declared.fault.StepFault.{StepFault}
 use Rattle.bloom_eval.specs.declared.fault.StepFault.TheVariants.{TooManyRows, NoMemory}
 use Rattle.bloom_eval.specs.StepAnswers.{step_fault}
-use Rattle.bloom_index.specs.declared.change.Change.{Change}
+use Rattle.bloom_parts.specs.declared.change.Change.{Change}
 use Rattle.bloom_index.specs.Code.StepSets.{IsBegunAt, AreBegunAt}
 use Rattle.bloom_index.proofs.HeadRulesLemmas.{got_set}
 

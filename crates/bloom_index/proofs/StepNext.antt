@@ -32,23 +32,23 @@ use Rattle.bloom_growth.specs.Turned.{Turned}
 use Rattle.bloom_growth.proofs.BagsLemmas.{extends_none}
 use Rattle.bloom_growth.proofs.Extending.{sorted_new, old_is_in}
 use Rattle.bloom_growth.proofs.TurnedLemmas.{came, comes, turned_by}
-use Rattle.bloom_index.specs.declared.change.Change.{Change}
+use Rattle.bloom_parts.specs.declared.change.Change.{Change}
+use Rattle.bloom_parts.specs.Turns.{HasTurnedAt, rows_in, HasTurned, Turns}
+use Rattle.bloom_parts.proofs.Turning.{turned_of, turns_from}
 use Rattle.bloom_index.specs.declared.memo.Memo.{Memo}
 use Rattle.bloom_index.specs.declared.step.Parts.{Parts}
-use Rattle.bloom_index.specs.Code.Evaluation.{HasTurnedAt, HaveTurned, Stands}
+use Rattle.bloom_index.specs.Code.Evaluation.{HaveTurned, Stands}
 use Rattle.bloom_index.specs.Code.Growth.{grows_at, IsGrown}
 use Rattle.bloom_index.specs.Code.HeadRules.{AreReady, AreTurned, AllLast, HasOldHead, HasGiven, GrowsHead, TurnsHead, MakesHead, head_sets}
 use Rattle.bloom_index.specs.Code.Heads.{AreNew}
 use Rattle.bloom_index.specs.Code.Lasting.{lasts_at}
 use Rattle.bloom_index.specs.Code.StepSets.{held_sets}
-use Rattle.bloom_index.specs.Code.Turns.{rows_in, HasTurned, Turns}
 use Rattle.bloom_index.proofs.HeadRulesLemmas.{got_set, got_other}
 use Rattle.bloom_index.proofs.KeptLemmas.{quiet_wide}
 use Rattle.bloom_index.proofs.LastsLemmas.{all_last}
 use Rattle.bloom_index.proofs.StandsAlong.{AgreeOn, stands_along, given_along}
 use Rattle.bloom_index.proofs.StepHeads.{IsStep, quiet, IsView, no_table, few_rules, keeps_enough, both, within, taken, own_form, agree, takes, takes_none, old_head, grown_head, past_head}
 use Rattle.bloom_index.proofs.StepLoops.{one_left}
-use Rattle.bloom_index.proofs.Turning.{turned_of, turns_from}
 
 -- a set that grows turns, and nothing goes
 pub grown_turns : (before made : List Row) (change : Change) → IsTrue change.kept → Extends before made (rows_in change.rows) → rows_in change.gone ≡ [] → length made ≤ row_limit → Turns before made change

@@ -1,9 +1,8 @@
 -- What private functions give.
-pub mod Turns
-pub mod PartForms
 pub mod Memos
 pub mod Growth
 pub mod Lasting
+pub mod Operators
 pub mod Evaluation
 pub mod Emptiness
 pub mod Heads

@@ -2,9 +2,9 @@
 ghost use Rattle.std.specs.Prelude.{◌≡◌, ◌<◌, ◌∷◌, [], length};
 ghost use Rattle.bloom_forms.specs.Step.{set_at};
 ghost use Rattle.bloom_eval.specs.Arrivals.{timestep_of};
-ghost use Rattle.bloom_index.specs.Code.Turns.{rows_in};
+ghost use Rattle.bloom_parts.specs.Turns.{rows_in};
 
-use crate::change::Rows;
+use bloom_parts::Rows;
 use blz_set::RecordSet;
 use blz_value::Record;
 use std::alloc::Global;

@@ -94,17 +94,24 @@ fn copied_tables(
     Ok(Kept::from_sets(tables))
 }
 
+// The number of sides of a module.
+fn sides_of(alloc: Global, program: &Checked) -> Result<u32, AllocError>
+    ensures { IfOk result (λ sides. sides ≡ length (module_sides program.now.form)) }
+{
+    // For the proof: the module has no fault.
+    let _written = program.module();
+    let growing = growing_heads(alloc, program)?;
+    side_count(program.rules(), &growing)
+}
+
 impl IndexBody {
     /// A module with nothing kept.
     pub(crate) fn new(alloc: Global, program: &Checked) -> Result<IndexBody, AllocError>
         ensures program { IfOk result (λ body. body.program ≡ program.now) }
         ensures kept { IfOk result (λ body. kept_tables body.program body.parts ≡ empty_tables (ModuleProgram program.now)) }
     {
+        let sides = sides_of(alloc, program)?;
         let program = program.copy(alloc)?;
-        let growing = growing_heads(alloc, &program)?;
-        let sides = side_count(program.rules(), &growing)?;
-        // For the proof: the module has no fault.
-        let _written = program.module();
         Ok(IndexBody {
             alloc,
             program,

@@ -2,19 +2,18 @@
 ghost use Rattle.std.specs.Prelude.{◌≡◌, false, List, IsTrue};
 ghost use Rattle.blz_value.specs.Record.{Row};
 ghost use Rattle.bloom_growth.specs.Growth.{Extends, Takes};
+ghost use Rattle.bloom_parts.specs.Turns.{rows_in};
 ghost use Rattle.bloom_index.specs.Code.Evaluation.{IsReady};
 ghost use Rattle.bloom_index.specs.Code.Growth.{grows_at};
 ghost use Rattle.bloom_index.specs.Code.HeadRules.{AreReady, HasOldHead, HasGiven, AllLast, AddsRule, GrowsHead, MakesParts, TurnsHead, MakesHead};
 ghost use Rattle.bloom_index.specs.Code.Heads.{HasOldRows, GrowsBy};
 ghost use Rattle.bloom_index.specs.Code.Lasting.{lasts_at};
-ghost use Rattle.bloom_index.specs.Code.Turns.{rows_in};
 
-use crate::bags::{turn_bag, turn_bodies, with_bag};
-use crate::change::{Change, Rows, one_row};
 use crate::evaluate::evaluate;
 use crate::memo::Memo;
 use bloom_forms::NumberedRule;
 use bloom_growth::{Bag, GrowSet};
+use bloom_parts::{Change, Rows, one_row, turn_bag, turn_bodies, with_bag};
 use blz_set::{RecordSet, SetFault};
 use std::alloc::Global;
 
@@ -33,8 +32,11 @@ fn taken(alloc: Global, rows: &mut GrowSet, more: &Rows<'_, '_>) -> Result<Recor
         Rows::Lent(set) => rows.take(alloc, *set),
         Rows::Own(set) => rows.take(alloc, set),
         Rows::One(row) => {
-            let set = one_row(alloc, *row)?;
-            rows.take(alloc, &set)
+            if rows.take_one(*row)? {
+                Ok(one_row(alloc, *row)?)
+            } else {
+                Ok(RecordSet::new(alloc))
+            }
         }
     }
 }

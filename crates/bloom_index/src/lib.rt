@@ -2,19 +2,12 @@
 #![tactic(auto)]
 
 mod arrived;
-mod bags;
 mod body;
-mod change;
 mod empty;
 mod evaluate;
-mod grouping;
 mod grows;
 mod heads;
-mod joins;
 mod memo;
-mod nots;
-mod part_rows;
-mod parts;
 mod puts;
 mod shell;
 mod sides;

@@ -1,14 +1,13 @@
 //! What is kept of an expression and its parts from step to step.
 ghost use Rattle.std.specs.Prelude.{◌≡◌, IfOk};
 ghost use Rattle.bloom_growth.specs.TurningGroups.{AreFreshTallies};
-ghost use Rattle.bloom_index.specs.Code.Emptiness.{IsFreshJoin, IsFreshNotIn, IsFresh};
+ghost use Rattle.bloom_index.specs.Code.Emptiness.{IsFresh};
+ghost use Rattle.bloom_index.specs.Code.Operators.{IsJoin, IsNotIn};
 
 use crate::grows::grows;
-use crate::part_rows::{PartRows, part_rows};
 use bloom_forms::NumberedExpr;
-use bloom_growth::{
-    Bag, KeptJoin, KeptNotIn, KeyedRows, TurningGroups, left_columns, right_columns,
-};
+use bloom_growth::{Bag, KeptJoin, KeptNotIn, TurningGroups};
+use bloom_parts::{PartRows, fresh_join, fresh_not_in};
 use blz_value::Agg;
 use std::alloc::{AllocError, Global};
 
@@ -46,34 +45,6 @@ impl Memo {
     }
 }
 
-fn join_memo(
-    alloc: Global,
-    pairs: &[(u32, u32)],
-    left_grows: bool,
-    right_grows: bool,
-) -> Result<KeptJoin<PartRows, PartRows>, AllocError>
-    ensures { IfOk result (IsFreshJoin pairs.now left_grows right_grows) }
-{
-    Ok(KeptJoin {
-        left: part_rows(alloc, left_grows, left_columns(alloc, pairs)?),
-        right: part_rows(alloc, right_grows, right_columns(alloc, pairs)?),
-        count: 0,
-    })
-}
-
-fn not_in_memo(
-    alloc: Global,
-    pairs: &[(u32, u32)],
-    right_grows: bool,
-) -> Result<KeptNotIn<PartRows>, AllocError>
-    ensures { IfOk result (IsFreshNotIn pairs.now right_grows) }
-{
-    Ok(KeptNotIn {
-        left: KeyedRows::new(alloc, left_columns(alloc, pairs)?),
-        right: part_rows(alloc, right_grows, right_columns(alloc, pairs)?),
-    })
-}
-
 fn groups(alloc: Global, keys: &[u32], agg: Agg) -> Result<TurningGroups, AllocError>
     ensures { IfOk result (AreFreshTallies keys.now agg) }
 {
@@ -86,7 +57,43 @@ fn boxed(alloc: Global, memo: Memo) -> Result<Box<Memo>, AllocError>
     Ok(Box::new(alloc, memo)?)
 }
 
+// What is kept of a join before the first step.
+#[cycle(part_memo)]
+fn join_memo(alloc: Global, expr: &NumberedExpr, growing: &[bool]) -> Result<Box<Memo>, AllocError>
+    requires { IsJoin expr.now }
+    ensures { IfOk result (λ memo. IsFresh growing.now expr.now memo.value) }
+{
+    let NumberedExpr::Join(left, right, pairs) = expr else {
+        unreachable!()
+    };
+    let (left_grows, right_grows) = (grows(left, growing), grows(right, growing));
+    let kept = fresh_join(alloc, pairs.as_slice(), left_grows, right_grows)?;
+    let left = part_memo(alloc, left, growing)?;
+    let right = part_memo(alloc, right, growing)?;
+    boxed(alloc, Memo::Join(left, right, kept))
+}
+
+// What is kept of a notin before the first step.
+#[cycle(part_memo)]
+fn not_in_memo(
+    alloc: Global,
+    expr: &NumberedExpr,
+    growing: &[bool],
+) -> Result<Box<Memo>, AllocError>
+    requires { IsNotIn expr.now }
+    ensures { IfOk result (λ memo. IsFresh growing.now expr.now memo.value) }
+{
+    let NumberedExpr::NotIn(left, right, pairs) = expr else {
+        unreachable!()
+    };
+    let kept = fresh_not_in(alloc, pairs.as_slice(), grows(right, growing))?;
+    let left = part_memo(alloc, left, growing)?;
+    let right = part_memo(alloc, right, growing)?;
+    boxed(alloc, Memo::NotIn(left, right, kept))
+}
+
 // What is kept of a part before the first step.
+#[cycle(part_memo)]
 fn part_memo(alloc: Global, expr: &NumberedExpr, growing: &[bool]) -> Result<Box<Memo>, AllocError>
     ensures { IfOk result (λ memo. IsFresh growing.now expr.now memo.value) }
 {
@@ -100,23 +107,8 @@ fn part_memo(alloc: Global, expr: &NumberedExpr, growing: &[bool]) -> Result<Box
             let part = part_memo(alloc, part, growing)?;
             boxed(alloc, Memo::Project(part, Bag::new(alloc)))
         }
-        NumberedExpr::Join(left, right, pairs) => {
-            let memo = join_memo(
-                alloc,
-                pairs.as_slice(),
-                grows(left, growing),
-                grows(right, growing),
-            )?;
-            let left = part_memo(alloc, left, growing)?;
-            let right = part_memo(alloc, right, growing)?;
-            boxed(alloc, Memo::Join(left, right, memo))
-        }
-        NumberedExpr::NotIn(left, right, pairs) => {
-            let memo = not_in_memo(alloc, pairs.as_slice(), grows(right, growing))?;
-            let left = part_memo(alloc, left, growing)?;
-            let right = part_memo(alloc, right, growing)?;
-            boxed(alloc, Memo::NotIn(left, right, memo))
-        }
+        NumberedExpr::Join(_, _, _) => join_memo(alloc, expr, growing),
+        NumberedExpr::NotIn(_, _, _) => not_in_memo(alloc, expr, growing),
         NumberedExpr::Group(part, keys, agg) => {
             let part = part_memo(alloc, part, growing)?;
             let groups = groups(alloc, keys.as_slice(), *agg)?;

@@ -6,12 +6,12 @@ ghost use Rattle.bloom_forms.specs.declared.module.Kind.TheVariants.{Output};
 ghost use Rattle.bloom_forms.specs.Step.{set_at, sets_of_kind};
 ghost use Rattle.bloom_eval.specs.Code.Finish.{placed};
 ghost use Rattle.bloom_eval.specs.Puts.{put_rows, puts_in, IsPutFrom, ArePutFrom};
+ghost use Rattle.bloom_parts.specs.Turns.{rows_in};
 ghost use Rattle.bloom_index.specs.Code.StepSets.{held_sets};
-ghost use Rattle.bloom_index.specs.Code.Turns.{rows_in};
 
-use crate::change::{Change, Rows};
 use bloom_eval::{Put, Puts};
 use bloom_forms::{Collection, Kind};
+use bloom_parts::{Change, Rows};
 use blz_pool::{Id, Pool};
 use blz_set::RecordSet;
 use std::alloc::{AllocError, Global};

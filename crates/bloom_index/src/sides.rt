@@ -4,9 +4,9 @@ ghost use Rattle.bloom_index.specs.Code.SideParts.{grown_side, numbered_sides, r
 
 use crate::grows::grows;
 use crate::memo::Memo;
-use crate::part_rows::PartRows;
 use bloom_forms::{NumberedExpr, NumberedRule};
 use bloom_growth::Side;
+use bloom_parts::PartRows;
 use std::alloc::AllocError;
 use std::ops::ControlFlow;
 

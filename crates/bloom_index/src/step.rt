@@ -9,6 +9,7 @@ ghost use Rattle.bloom_forms.specs.Widths.{AreSetsOf};
 ghost use Rattle.bloom_eval.specs.Code.Begin.{place_after};
 ghost use Rattle.bloom_eval.specs.declared.fault.StepFault.TheVariants.{TooManyRows};
 ghost use Rattle.bloom_eval.specs.StepAnswers.{AllFit, SomeIsOver, counted_sets};
+ghost use Rattle.bloom_parts.specs.Turns.{rows_in};
 ghost use Rattle.bloom_index.specs.Code.Growth.{grows_at};
 ghost use Rattle.bloom_growth.specs.declared.bag.Bag.{Bag as TheBag};
 ghost use Rattle.bloom_index.specs.Code.HeadRules.{AreReady, HasOldHead, HasGiven, AllLast, GrowsHead, TurnsHead, MakesHead};
@@ -16,15 +17,14 @@ ghost use Rattle.bloom_index.specs.Code.Lasting.{lasts_at};
 ghost use Rattle.bloom_index.specs.Code.Kept.{tables_in, PartsStand, PutsOut};
 ghost use Rattle.bloom_index.specs.Code.Arriving.{arrived_in};
 ghost use Rattle.bloom_index.specs.Code.StepSets.{AreBegunAt, outs_in};
-ghost use Rattle.bloom_index.specs.Code.Turns.{rows_in};
 
 use crate::arrived::Arrived;
-use crate::change::{Change, Rows};
 use crate::heads::{grow_head, make_head, turn_head};
 use crate::memo::Memo;
 use bloom_eval::StepFault;
 use bloom_forms::{Checked, Collection, Kind, NumberedRule};
 use bloom_growth::{Bag, GrowSet};
+use bloom_parts::{Change, Rows};
 use blz_set::{RecordSet, SetFault};
 use std::alloc::{AllocError, Global};
 

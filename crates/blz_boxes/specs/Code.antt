@@ -2,4 +2,3 @@
 pub mod KeptRecords
 pub mod Numbers
 pub mod Texts
-pub mod KeptSets

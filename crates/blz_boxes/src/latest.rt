@@ -7,12 +7,11 @@ ghost use Rattle.bloom_forms.specs.StockSteps.{keys_in_order};
 ghost use Rattle.bloom_forms.specs.Program.{table_columns};
 ghost use Rattle.bloom_forms.specs.ProgramStep.{tables_after_step, outputs_of_step};
 ghost use Rattle.bloom_forms.specs.Step.{set_at};
-ghost use Rattle.bloom_forms.specs.Widths.{AreWide, AreSetsOf};
+ghost use Rattle.bloom_forms.specs.Widths.{AreWide, AreSetsOf, AreSetsOf-prop};
 ghost use Rattle.bloom_eval.specs.StepAnswers.{AllFit, SomeIsOver};
 ghost use Rattle.bloom_eval.specs.declared.fault.StepFault.TheVariants.{TooManyRows};
 ghost use Rattle.bloom_eval.specs.declared.kind.ProgramKind.TheVariants.{Latest as LatestKind};
 ghost use Rattle.blz_boxes.specs.Code.KeptRecords.{records_of};
-ghost use Rattle.blz_boxes.specs.Code.KeptSets.{AreSetsOf-prop};
 ghost use Rattle.bloom_eval.specs.Step.{counted};
 
 use crate::latest_table::LatestTable;

@@ -6,9 +6,8 @@ ghost use Rattle.bloom_forms.specs.declared.program.Program.TheVariants.{Module 
 ghost use Rattle.bloom_forms.specs.Program.{columns_of_kind};
 ghost use Rattle.bloom_forms.specs.ProgramStep.{tables_after_step, outputs_of_step};
 ghost use Rattle.bloom_eval.specs.StepAnswers.{AllFit, SomeIsOver};
-ghost use Rattle.bloom_forms.specs.Widths.{AreSetsOf};
+ghost use Rattle.bloom_forms.specs.Widths.{AreSetsOf, AreSetsOf-prop};
 ghost use Rattle.bloom_eval.specs.declared.fault.StepFault.TheVariants.{TooManyRows};
-ghost use Rattle.blz_boxes.specs.Code.KeptSets.{AreSetsOf-prop};
 ghost use Rattle.bloom_eval.specs.Step.{counted};
 ghost use Rattle.bloom_eval.specs.declared.kind.ProgramKind.TheVariants.{Module as ModuleKind};
 

@@ -1,8 +1,7 @@
 -- What the evaluation of an expression in a step asks and answers, by what is kept of it.
-use Rattle.std.specs.Prelude.{ℕ, ◌≡◌, Bool, false, IsTrue, Option, None, Some, Result, Ok, Err, List, [], slice_get}
+use Rattle.std.specs.Prelude.{ℕ, Bool, IsTrue, Result, Ok, Err, List, slice_get}
 use Rattle.blz_value.specs.declared.aggregate.Agg.TheVariants.{Count}
 use Rattle.blz_value.specs.Operators.{project_rows}
-use Rattle.blz_value.specs.Record.{Row}
 use Rattle.blz_set.specs.declared.fault.SetFault.{SetFault}
 use Rattle.blz_set.specs.declared.fault.SetFault.TheVariants.{TooManyRows, NoMemory}
 use Rattle.bloom_forms.specs.declared.numbered.NumberedExpr.{NumberedExpr}
@@ -12,13 +11,13 @@ use Rattle.bloom_eval.specs.Code.NumberedRows.{numbered_rows, numbered_sets, Tes
 use Rattle.bloom_eval.specs.StepAnswers.{AllFit, SomeIsOver}
 use Rattle.bloom_growth.specs.Bags.{IsBag}
 use Rattle.bloom_growth.specs.TurningGroups.{TalliesStand}
-use Rattle.bloom_index.specs.declared.change.Change.{Change}
+use Rattle.bloom_parts.specs.declared.change.Change.{Change}
+use Rattle.bloom_parts.specs.KeptParts.{JoinStands, NotInStands, IsWide}
+use Rattle.bloom_parts.specs.Turns.{HasTurnedAt, TurnsTo}
 use Rattle.bloom_index.specs.declared.memo.Memo.{Memo}
 use Rattle.bloom_index.specs.declared.memo.Memo as memo
 use Rattle.bloom_index.specs.Code.Growth.{grows_at, grows, IsGrown}
 use Rattle.bloom_index.specs.Code.Lasting.{lasts_at, lasts, KeepsEnough}
-use Rattle.bloom_index.specs.Code.Memos.{JoinStands, NotInStands, IsWide}
-use Rattle.bloom_index.specs.Code.Turns.{Turns, TurnsTo}
 
 -- what is kept of an expression is that over these sets of the collections: each kept part is the rows of the part
 abbrev pub Stands : (growing lasting : List Bool) → Sets → NumberedExpr → Memo → Type 0
@@ -33,12 +32,7 @@ Stands growing lasting sets (expr.Group' p e keys agg) (memo.Group' q m groups) 
 Stands growing lasting sets (expr.AtLeast' p e keys bound) (memo.AtLeast' q m groups) = Stands growing lasting sets e m × (IsTrue (lasts lasting e) → TalliesStand keys Count (numbered_rows sets e) groups)
 Stands growing lasting sets e m = ⊥
 
--- what a collection has in a step, which held old rows and holds new ones; one that there isn't holds none
-abbrev pub HasTurnedAt : (last : Bool) → (old new : List Row) → Option Change → Type 0
-HasTurnedAt last old new None = (new ≡ []) × (last ≡ false)
-HasTurnedAt last old new (Some change) = (change.kept ≡ last) × Turns old new change
-
--- the same of all collections
+-- all collections turned, those that are kept and the others
 abbrev pub HaveTurned : List Bool → (old new : Sets) → List Change → Type 0
 HaveTurned lasting old new held = (number : ℕ) → HasTurnedAt (lasts_at lasting number) (set_at old number) (set_at new number) (slice_get held number)
 

@@ -17,13 +17,14 @@ use Rattle.bloom_eval.specs.StepAnswers.{AllFit, SomeIsOver, rule_sets}
 use Rattle.bloom_growth.specs.declared.bag.Bag.{Bag}
 use Rattle.bloom_growth.specs.Bags.{IsBag}
 use Rattle.bloom_growth.specs.Growth.{Extends}
-use Rattle.bloom_index.specs.declared.change.Change.{Change}
+use Rattle.bloom_parts.specs.declared.change.Change.{Change}
+use Rattle.bloom_parts.specs.Bodies.{BodiesTurn}
+use Rattle.bloom_parts.specs.Turns.{rows_in, TurnsTo}
 use Rattle.bloom_index.specs.declared.heads.HeadParts.{HeadParts}
 use Rattle.bloom_index.specs.declared.memo.Memo.{Memo}
 use Rattle.bloom_index.specs.Code.Evaluation.{HaveTurned, HaveGrown, Stands}
-use Rattle.bloom_index.specs.Code.Heads.{kept_rules, passing_rules, rows_given, bodies_of, BodiesTurn, AreNew}
+use Rattle.bloom_index.specs.Code.Heads.{kept_rules, passing_rules, rows_given, bodies_of, AreNew}
 use Rattle.bloom_index.specs.Code.Lasting.{lasts_at, lasts, KeepsEnough}
-use Rattle.bloom_index.specs.Code.Turns.{rows_in, TurnsTo}
 
 -- the rules of a head can be evaluated: the collections turned from old sets, over which what is kept of its rules stands, to new ones, both of their widths
 pub record AreReady (rules : List NumberedRule) (head : ℕ) (memos : List Memo) (held : List Change) : Type 0 where

@@ -1,10 +1,9 @@
 -- What the rules of a head give to it in a step.
-use Rattle.std.specs.Prelude.{ℕ, ◌≡◌, ◌≤◌, ◌<◌, ◌==◌, ◌&&◌, not, Bool, true, false, IsTrue, Result, Ok, Err, List, ◌∷◌, ◌++◌, length, map, filter}
-use Rattle.std.specs.List.{AllZip, flat_map}
+use Rattle.std.specs.Prelude.{ℕ, ◌≡◌, ◌==◌, ◌&&◌, not, Bool, IsTrue, Result, Ok, Err, List, ◌∷◌, ◌++◌, map, filter}
+use Rattle.std.specs.List.{flat_map}
 use Rattle.blz_value.specs.Members.{Has, IsWithin}
 use Rattle.blz_value.specs.Record.{Row}
 use Rattle.blz_value.specs.Sets.{set_of}
-use Rattle.blz_set.specs.RecordSet.{row_limit}
 use Rattle.blz_set.specs.declared.fault.SetFault.{SetFault}
 use Rattle.blz_set.specs.declared.fault.SetFault.TheVariants.{TooManyRows, NoMemory}
 use Rattle.bloom_forms.specs.declared.numbered.NumberedExpr.{NumberedExpr}
@@ -13,11 +12,11 @@ use Rattle.bloom_forms.specs.Step.{Sets}
 use Rattle.bloom_eval.specs.Code.NumberedRows.{numbered_rows, numbered_sets}
 use Rattle.bloom_eval.specs.StepAnswers.{AllFit, SomeIsOver}
 use Rattle.bloom_growth.specs.Growth.{Extends}
-use Rattle.bloom_index.specs.declared.change.Change.{Change}
+use Rattle.bloom_parts.specs.declared.change.Change.{Change}
+use Rattle.bloom_parts.specs.Bodies.{BodyRows}
 use Rattle.bloom_index.specs.declared.memo.Memo.{Memo}
 use Rattle.bloom_index.specs.Code.Evaluation.{Stands, IsReady}
 use Rattle.bloom_index.specs.Code.Lasting.{lasts}
-use Rattle.bloom_index.specs.Code.Turns.{rows_in, Turns}
 
 -- ---- one rule
 
@@ -51,46 +50,9 @@ passing_rules lasting rules head = filter (λ rule. rule.head == head && not (la
 abbrev pub rows_given : Sets → List NumberedRule → List Row
 rows_given sets rules = flat_map (λ rule. numbered_rows sets rule.body) rules
 
--- the rows of a body before and after
-pub record BodyRows : Type 0 where
-  pub old : List Row
-  pub new : List Row
-
--- that of a rule
+-- the rows of a rule's body before and after
 abbrev pub body_of : (old new : Sets) → NumberedRule → BodyRows
 body_of old new rule = record { old = numbered_rows old rule.body; new = numbered_rows new rule.body }
 
 abbrev pub bodies_of : (old new : Sets) → List NumberedRule → List BodyRows
 bodies_of old new rules = map (body_of old new) rules
-
-abbrev pub olds_of : List BodyRows → List Row
-olds_of bodies = flat_map (λ body. body.old) bodies
-
-abbrev pub news_of : List BodyRows → List Row
-news_of bodies = flat_map (λ body. body.new) bodies
-
--- a body that is kept turned
-pub record BodyTurns (body : BodyRows) (change : Change) : Type 0 where
-  pub kept : IsTrue change.kept
-  pub turned : Turns body.old body.new change
-
--- each change is that of a body that is kept, and they are few
-pub record BodiesTurn (bodies : List BodyRows) (changes : List Change) : Type 0 where
-  pub few : length changes ≤ 64
-  pub each : AllZip BodyTurns bodies changes
-
--- what goes of some bodies, and what comes
-abbrev pub gone_of : List Change → List Row
-gone_of changes = flat_map (λ change. rows_in change.gone) changes
-
-abbrev pub more_of : List Change → List Row
-more_of changes = flat_map (λ change. rows_in change.rows) changes
-
--- ---- what a bag has beside a set
-
--- the answer is the set with all given rows, or with those that came; TooManyRows comes exactly where the set with all is too large
-abbrev pub AddsGiven : (whole : Bool) → (rows given more : List Row) → Result (List Row) SetFault → Type 0
-AddsGiven true rows given more (Ok set) = (set ≡ set_of (rows ++ given)) × (length set ≤ row_limit)
-AddsGiven false rows given more (Ok set) = (set ≡ set_of (rows ++ more)) × (length (set_of (rows ++ given)) ≤ row_limit)
-AddsGiven whole rows given more (Err TooManyRows) = row_limit < length (set_of (rows ++ given))
-AddsGiven whole rows given more (Err NoMemory) = Unit {0}

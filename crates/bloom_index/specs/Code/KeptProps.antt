@@ -11,9 +11,8 @@ use Rattle.bloom_forms.specs.declared.numbered.NumberedExpr as expr
 use Rattle.bloom_forms.specs.declared.numbered.NumberedRule.{NumberedRule}
 use Rattle.bloom_forms.specs.Form.{Accepted}
 use Rattle.bloom_forms.specs.Program.{columns_of_kind}
-use Rattle.bloom_forms.specs.Query.{Name}
 use Rattle.bloom_forms.specs.Step.{Sets}
-use Rattle.bloom_forms.specs.Widths.{AreSetsOf}
+use Rattle.bloom_forms.specs.Widths.{AreSetsOf-prop}
 use Rattle.bloom_eval.specs.Code.NumberedRows.{numbered_rows}
 use Rattle.bloom_growth.specs.declared.bag.Bag.{Bag}
 use Rattle.bloom_growth.specs.Facts.{IsBag-prop, TalliesStand-prop}
@@ -23,12 +22,6 @@ use Rattle.bloom_index.specs.declared.step.Parts.{Parts}
 use Rattle.bloom_index.specs.Code.Evaluation.{Stands}
 use Rattle.bloom_index.specs.Code.Heads.{kept_rules, rows_given}
 use Rattle.bloom_index.specs.Code.Kept.{tables_in, held_over, MemosStand, BagsStand, PartsStand, KeptStands}
-
-AreSetsOf-prop : (columns : List (List Name)) (sets : Sets) → IsProp (AreSetsOf columns sets)
-AreSetsOf-prop [] [] = hlevel
-AreSetsOf-prop [] (rows ∷ sets) = hlevel
-AreSetsOf-prop (names ∷ columns) [] = hlevel
-AreSetsOf-prop (names ∷ columns) (rows ∷ sets) = let others = AreSetsOf-prop columns sets in hlevel (others, props)
 
 Stands-prop : (growing lasting : List Bool) (sets : Sets) (e : NumberedExpr) (m : Memo) → IsProp (Stands growing lasting sets e m)
 Stands-prop growing lasting sets (expr.Base number) memo.Base = hlevel

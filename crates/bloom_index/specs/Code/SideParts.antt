@@ -9,9 +9,9 @@ use Rattle.bloom_forms.specs.declared.numbered.NumberedExpr.{NumberedExpr, Base,
 use Rattle.bloom_forms.specs.declared.numbered.NumberedRule.{NumberedRule}
 use Rattle.bloom_forms.specs.Step.{Sets}
 use Rattle.bloom_eval.specs.Code.NumberedRows.{numbered_rows}
+use Rattle.bloom_parts.specs.declared.part_rows.PartRows.{PartRows}
+use Rattle.bloom_parts.specs.declared.part_rows.PartRows.TheVariants.{Growing, Keyed}
 use Rattle.bloom_index.specs.declared.memo.Memo.{Memo}
-use Rattle.bloom_index.specs.declared.part_rows.PartRows.{PartRows}
-use Rattle.bloom_index.specs.declared.part_rows.PartRows.TheVariants.{Growing, Keyed}
 use Rattle.bloom_growth.specs.declared.side.Side.{Side}
 use Rattle.bloom_index.specs.Code.Evaluation.{Stands}
 use Rattle.bloom_index.specs.Code.Growth.{grows}

@@ -5,9 +5,9 @@ use Rattle.bloom_forms.specs.declared.module.Collection.{Collection}
 use Rattle.bloom_forms.specs.declared.module.Kind.TheVariants.{Output}
 use Rattle.bloom_forms.specs.Form.{Accepted}
 use Rattle.bloom_forms.specs.Step.{Sets, set_at, sets_of_kind, at_start}
-use Rattle.bloom_index.specs.declared.change.Change.{Change}
+use Rattle.bloom_parts.specs.declared.change.Change.{Change}
+use Rattle.bloom_parts.specs.Turns.{rows_in}
 use Rattle.bloom_index.specs.Code.Lasting.{lasts_at}
-use Rattle.bloom_index.specs.Code.Turns.{rows_in}
 
 -- the rows of the change of each collection
 abbrev pub held_sets : List Change → Sets

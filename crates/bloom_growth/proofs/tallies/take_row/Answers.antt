@@ -11,4 +11,4 @@ returns-then-branch c =
     let old = c.args.tallies.now in
     let middle = c.take_at.new.tallies in
     let yes : c.in_ok-take_at.field-0 ≡ true = search rules in
-    off_at agg key row old middle c.remove.new.self (subst (λ (last : Bool). LeavesAt last agg key row old middle) yes c.in_ok-take_at.ensures) c.remove.ensures.updates.0
+    off_at agg key row old middle c.swap_remove.new.self (subst (λ (last : Bool). LeavesAt last agg key row old middle) yes c.in_ok-take_at.ensures) c.swap_remove.ensures.updates.0

@@ -1,7 +1,7 @@
 use Rattle.std.proofs.Common.{◌≡◌, ◌<◌, ◌∙◌, Some, length, ap, refl, arith}
 use Rattle.std.specs.Prelude.{slice_get}
 use Rattle.std.proofs.lemmas.List.{length-set}
-use Rattle.bloom_index.specs.Code.Turns.{rows_in}
+use Rattle.bloom_parts.specs.Turns.{rows_in}
 use Rattle.bloom_index.proofs.HeadLoops.{grow_begins, grow_other, has_old, grow_own, grow_refused, grow_ends}
 use Rattle.bloom_index.proofs.HeadRulesLemmas.{ready_at, kept_at, later_set, later_same}
 use Rattle.bloom_index.proofs.heads.grow_head.Goals as goal

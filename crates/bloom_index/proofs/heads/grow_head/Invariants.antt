@@ -1,8 +1,8 @@
 -- the rules so far gave their rows, and what is kept of the others is as it was
 use Rattle.std.proofs.Common.{◌≡◌, ◌≤◌, ℕ, IsTrue, length}
 use Rattle.std.specs.Prelude.{slice_get}
+use Rattle.bloom_parts.specs.Turns.{rows_in}
 use Rattle.bloom_index.specs.Code.Growth.{grows_at}
-use Rattle.bloom_index.specs.Code.Turns.{rows_in}
 use Rattle.bloom_index.specs.Code.HeadRules.{AreReady, HasOldHead}
 use Rattle.bloom_index.proofs.HeadLoops.{IsGrowingAt}
 use Rattle.bloom_index.proofs.heads.grow_head.Given as goal

@@ -1,7 +1,7 @@
 use Rattle.std.proofs.Common.{◌≡◌, ◌<◌, ◌∙◌, Some, length, ap, refl, arith}
 use Rattle.std.specs.Prelude.{slice_get}
 use Rattle.std.proofs.lemmas.List.{length-set}
-use Rattle.bloom_index.specs.declared.change.Rows.TheVariants.{Own}
+use Rattle.bloom_parts.specs.declared.change.Rows.TheVariants.{Own}
 use Rattle.bloom_index.proofs.HeadParts.{parts_begin, parts_other, parts_own, parts_refused, parts_over, parts_end}
 use Rattle.bloom_index.proofs.HeadRulesLemmas.{ready_at, kept_at, later_set, later_same}
 use Rattle.bloom_index.proofs.heads.head_parts.Goals as goal

@@ -1,8 +1,8 @@
 use Rattle.std.proofs.Common.{◌≡◌, ◌∙◌, List, Ok, length, sym, subst, vec_len, arith}
 use Rattle.std.proofs.lemmas.Bool.{eqb-true}
 use Rattle.blz_value.specs.Record.{Row}
-use Rattle.bloom_index.specs.declared.change.Change.{Change}
-use Rattle.bloom_index.specs.Code.Heads.{BodiesTurn, news_of, AddsGiven}
+use Rattle.bloom_parts.specs.declared.change.Change.{Change}
+use Rattle.bloom_parts.specs.Bodies.{BodiesTurn, news_of, AddsGiven}
 use Rattle.bloom_index.proofs.HeadTurns.{Bodies, bag_standing, more_within, head_made, head_passing, head_make_refused, head_kept_over, head_made_over}
 use Rattle.bloom_index.proofs.heads.make_head.Goals as goal
 

@@ -1,7 +1,7 @@
 use Rattle.std.proofs.Common.{◌≤◌, ◌<◌, ◌∙◌, length, sym, arith}
 use Rattle.std.proofs.lemmas.Map.Views.{tells_apart}
 use Rattle.blz_value.specs.RecordOrder.{record_cmp_exact}
-use Rattle.bloom_index.specs.Code.Turns.{rows_in}
+use Rattle.bloom_parts.specs.Turns.{rows_in}
 use Rattle.bloom_index.proofs.Arriving.{row_got, is_lone}
 use Rattle.bloom_index.proofs.puts.is_arrived.Goals as goal
 

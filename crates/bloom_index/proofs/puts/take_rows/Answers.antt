@@ -1,9 +1,9 @@
 use Rattle.std.proofs.Common.{◌∙◌, List, slice_set, ap}
 use Rattle.std.proofs.lemmas.List.{map-set}
 use Rattle.blz_value.specs.Record.{Row}
-use Rattle.bloom_index.specs.declared.change.Change.{Change}
+use Rattle.bloom_parts.specs.declared.change.Change.{Change}
+use Rattle.bloom_parts.specs.Turns.{rows_in}
 use Rattle.bloom_index.specs.Code.StepSets.{held_sets}
-use Rattle.bloom_index.specs.Code.Turns.{rows_in}
 use Rattle.bloom_index.proofs.puts.take_rows.Goals as goal
 
 pub returns-clause-left : goal.returns-clause-left

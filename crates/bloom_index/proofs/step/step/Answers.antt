@@ -10,7 +10,7 @@ use Rattle.bloom_forms.specs.Form.{Form}
 use Rattle.bloom_forms.specs.Kinds.{of_kind, kind_at}
 use Rattle.bloom_forms.specs.Program.{columns_of_kind}
 use Rattle.bloom_eval.proofs.Widths.{length-sets_of}
-use Rattle.bloom_index.specs.declared.change.Change.{Change}
+use Rattle.bloom_parts.specs.declared.change.Change.{Change}
 use Rattle.bloom_index.specs.Code.Growth.{grows_at}
 use Rattle.bloom_index.specs.Code.Kept.{tables_in}
 use Rattle.bloom_index.specs.Code.Lasting.{lasts_at}

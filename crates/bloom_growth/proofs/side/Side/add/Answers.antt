@@ -1,6 +1,5 @@
 use Rattle.std.proofs.Common.{◌≡◌, ◌∙◌, ◌∷◌, ℕ, Bool, true, false, List, sym, ap, subst, rules}
 use Rattle.blz_value.specs.Operators.{cells}
-use Rattle.blz_value.specs.Record.{Row}
 use Rattle.blz_value.specs.Sets.{set_of}
 use Rattle.blz_set.proofs.Unions.{handed_on}
 use Rattle.bloom_growth.specs.Code.ByKey.{AddsAt, MakesByKey}

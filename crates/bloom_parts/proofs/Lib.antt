@@ -1,0 +1,6 @@
+pub mod Putting
+pub mod Turning
+pub mod PartTurns
+pub mod Settling
+pub mod Selecting
+pub mod BodiesLemmas

@@ -1,0 +1,14 @@
+use Rattle.std.proofs.Common.{◌∙◌}
+use Rattle.std.proofs.lemmas.Result.{on_ok_weaker}
+use Rattle.bloom_parts.proofs.Settling.{turns_settled}
+use Rattle.bloom_parts.proofs.grouping.at_least.Goals as goal
+
+pub at_least_sets-requires-clause-kept : goal.at_least_sets-requires-clause-kept
+at_least_sets-requires-clause-kept c = c.in_ok-part.ensures.kept ∙ c.requires
+
+pub returns-clause-turned : goal.returns-clause-turned
+returns-clause-turned c = λ keys old new turns stands. c.at_least_sets.ensures.turned keys old new (turns_settled c.args.part c.in_ok-part.part c.in_ok-part.ensures old new turns) stands
+
+pub returns-clause-kept : goal.returns-clause-kept
+returns-clause-kept c =
+    on_ok_weaker c.at_least_sets.result (λ k keys old new turns stands. k keys old new (turns_settled c.args.part c.in_ok-part.part c.in_ok-part.ensures old new turns) stands) c.at_least_sets.ensures.kept

@@ -1,0 +1,3 @@
+-- What private functions give.
+pub mod Settled
+pub mod Passing

@@ -15,6 +15,7 @@ pub mod PartsLemmas
 pub mod WorksLemmas
 pub mod SameBooks
 pub mod Untouched
+pub mod TablesLemmas
 pub mod WatchLemmas
 pub mod TurnsLemmas
 pub mod FrontsLemmas

@@ -23,6 +23,19 @@ use Rattle.sched_make.proofs.WorksLemmas.{total_is}
 
 -- ---- no turn yet
 
+-- a net that stands for no step has turned not once
+pub turned_first : (v : View) (given : Data) (seed : ℕ) (loaded : List (Option Program)) (tables : List Sets) (b : Books) (m : Making)
+    → Stands v given [] loaded tables b → m.draws ≡ seed → m.made ≡ [] → HasTurned v given seed loaded tables b m
+turned_first v given seed loaded tables b m stands draws made = record {
+  run = record {
+    stands = subst (λ (events : List Event). Stands v given (map event events) loaded tables b) (sym made) stands;
+    unmet = λ place below. absurd (omega (arith, below, ap (length {A = Event}) made));
+  };
+  turns = 0;
+  course = λ i. record { state = sym draws i; events = sym made i };
+  few = omega (arith);
+}
+
 -- ---- turns of the same topology
 
 -- whatever data the net stood for at first, it has turned

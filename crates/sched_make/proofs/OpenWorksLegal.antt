@@ -2,7 +2,7 @@
 --
 -- A work of a lane is of a message that stands in the lane's list, and the lane's feed is one of the instance or log to which
 -- it comes. Lists only grow, so the message stands there after the event too.
-use Rattle.std.proofs.Common.{◌≡◌, ◌<◌, ◌+◌, ◌==◌, ◌&&◌, not, nat_lt, ℕ, suc, Bool, true, false, cond, None, Some, List, [], ◌∷◌, length, take, get_or, slice_get, refl, ap, ◌∙◌, sym, subst, inl, inr, arith}
+use Rattle.std.proofs.Common.{◌≡◌, ◌<◌, ◌+◌, ◌==◌, ◌&&◌, not, nat_lt, ℕ, suc, Bool, true, false, cond, None, Some, List, [], ◌∷◌, length, get_or, slice_get, refl, ap, ◌∙◌, sym, subst, inl, inr, arith}
 use Rattle.std.specs.Prelude.{Ok, Err, if◌then◌else◌}
 use Rattle.std.specs.List.{flat_map, position, position_or_len, range_with_len}
 use Rattle.std.proofs.lemmas.Bool.{and_from, eq-eqb, lt-ltb}

@@ -1,7 +1,7 @@
 -- After the event of a work what was open on a lane is open still, but for what the work makes stale there.
 --
 -- An instance hears one pair more, of the feed and the message of the work: an index of another feed isn't that of a pair of
--- this one, and one index of a list is that of a message. A log gets an entry more, and no other log does.
+-- this one, and one index of a list is that of a message. A log gets an entry more at a port, and no other log does.
 use Rattle.std.proofs.Common.{◌≡◌, ◌<◌, ◌==◌, ◌&&◌, ◌||◌, not, ℕ, Bool, true, false, Option, None, Some, List, [], ◌∷◌, ◌++◌, length, slice_get, refl, ap, ◌∙◌, sym, subst, append-nil, arith}
 use Rattle.std.specs.Prelude.{Ok, if◌then◌else◌}
 use Rattle.std.specs.List.{list_any, range_with_len}
@@ -10,6 +10,8 @@ use Rattle.std.proofs.lemmas.Bool.{and_from, and_parts, eq-eqb, eqb-true, false_
 use Rattle.std.proofs.lemmas.List.Folds.{list_any-append}
 use Rattle.std.proofs.lemmas.Option.{get_or_from_slice_get}
 use Rattle.blz_value.specs.Members.{Has}
+use Rattle.blz_value.specs.Record.{Row}
+use Rattle.blz_value.specs.Message.{is_same_row}
 use Rattle.blz_value.proofs.Membership.{Has-from_filter}
 use Rattle.blz_value.proofs.Ranges.{Has-from_below as below_is}
 use Rattle.inbox.proofs.TimestepLemmas.UnderSeal.{all_pairs-more as pairs_with}
@@ -17,7 +19,7 @@ use Rattle.topo_forms.specs.Data.{Data}
 use Rattle.topo_forms.specs.Feeds.{Feed, no_feed}
 use Rattle.topo_forms.specs.Messages.{Message, row, seal, row_in}
 use Rattle.topo_forms.specs.View.{is_order_mode}
-use Rattle.messages.specs.Messages.{Batch, Pair, Entry, all_pairs, is_same_entry, is_same_pair}
+use Rattle.messages.specs.Messages.{Batch, Pair, Entry, all_pairs, is_same_entry, is_same_pair, with_new}
 use Rattle.inbox.specs.Wiring.{Wiring, instance_at, is_sequencer, is_there}
 use Rattle.inbox.specs.Lives.{Lives, hear_batch, take_entry}
 use Rattle.inbox.specs.Events.{Step, event, no_instance, nothing_to_take}
@@ -53,6 +55,10 @@ none_more : (a b : Bool) → b ≡ false → not a ≡ true → not (a || b) ≡
 none_more true b is e = e
 none_more false b is e = ap not is
 
+none_added : (a b : Bool) → b ≡ false → (a || (b || false)) ≡ a
+none_added true b e = refl
+none_added false b e = ap (λ z. z || false) e
+
 -- a message that wasn't heard and isn't among the new pairs
 undelivered_still : (known new later : List Pair) (n : ℕ) (list longer : List Message) (index : ℕ) → known ++ new ≡ later → Continues list longer → index < length list
     → ((m : Message) → slice_get list index ≡ Some m → list_any (is_same_pair (n, m)) new ≡ false) → is_undelivered known n list index ≡ true → is_undelivered later n longer index ≡ true
@@ -64,12 +70,11 @@ undelivered_still known new later n list longer index becomes on within apart is
     ∙ none_more (list_any (is_same_pair (n, m)) known) (list_any (is_same_pair (n, m)) new) (apart m at) none)
     is_open
 
--- a record that a log hasn't, which stays as it was
-unordered_still : (log later : List Entry) (port : ℕ) (list longer : List Message) (index : ℕ) → later ≡ log → Continues list longer → index < length list → is_unordered log port list index ≡ true → is_unordered later port longer index ≡ true
+-- a record that a log hasn't at a port, where it has what it had
+unordered_still : (log later : List Entry) (port : ℕ) (list longer : List Message) (index : ℕ) → ((r : Row) → list_any (is_same_entry (port, r)) later ≡ list_any (is_same_entry (port, r)) log) → Continues list longer → index < length list → is_unordered log port list index ≡ true → is_unordered later port longer index ≡ true
 unordered_still log later port list longer index same on within is_open =
-    ap (λ (l : List Entry). is_unordered l port longer index) same
-    ∙ ap (λ o. option_map_or (λ r. not (list_any (is_same_entry (port, r)) log)) (option_and_then row_in o) false) (front_get list longer index on within)
-    ∙ is_open
+    ap (λ o. option_map_or (λ r. not (list_any (is_same_entry (port, r)) later)) (option_and_then row_in o) false) (front_get list longer index on within)
+    ∙ still_open (option_and_then row_in (slice_get list index)) (λ r. not (list_any (is_same_entry (port, r)) log)) (λ r. not (list_any (is_same_entry (port, r)) later)) (λ r at none. ap not (same r) ∙ none) is_open
 
 -- ---- one lane
 
@@ -94,10 +99,14 @@ module _ (w : Wiring) (given : Data) (x y : Execution) (grows : IsExtendedBy w g
       undelivered_still (all_pairs (heard x c r)) [] (all_pairs (heard y c r)) n (lane_list w given x (Deliver c r n feed)) (lane_list w given y (Deliver c r n feed)) index
       (append-nil (all_pairs (heard x c r)) ∙ ap all_pairs (sym same)) (grows.lists feed.stream feed.sender) within (λ m at. refl) is_open
 
+  -- a log that has at the port of a lane what it had
+  logged_alike : (c : ℕ) (feed : Feed) (stale : Stale) → ((r : Row) → list_any (is_same_entry (feed.port, r)) (y.logs c) ≡ list_any (is_same_entry (feed.port, r)) (x.logs c)) → StaysOpen w given x y (Order c feed) stale
+  logged_alike c feed stale same index within fresh is_open =
+      unordered_still (x.logs c) (y.logs c) feed.port (lane_list w given x (Order c feed)) (lane_list w given y (Order c feed)) index same (grows.lists feed.stream feed.sender) within is_open
+
   -- a log that got nothing more
   logged_same : (c : ℕ) (feed : Feed) (stale : Stale) → y.logs c ≡ x.logs c → StaysOpen w given x y (Order c feed) stale
-  logged_same c feed stale same index within fresh is_open =
-      unordered_still (x.logs c) (y.logs c) feed.port (lane_list w given x (Order c feed)) (lane_list w given y (Order c feed)) index same (grows.lists feed.stream feed.sender) within is_open
+  logged_same c feed stale same = logged_alike c feed stale (λ r. ap (list_any (is_same_entry (feed.port, r))) same)
 
   -- ---- a message is heard
 
@@ -159,14 +168,37 @@ module _ (w : Wiring) (given : Data) (x y : Execution) (grows : IsExtendedBy w g
     logs_apart c' (row r) e = rw e
     logs_apart c' (seal k count) e = refl
 
+    -- the log has at another port what it had
+    port_apart : (c' port : ℕ) (m : Message) (r : Row) → (port == feed.port) ≡ false → list_any (is_same_entry (port, r)) ((with_logged c feed.port m x).logs c') ≡ list_any (is_same_entry (port, r)) (x.logs c')
+    port_apart c' port (seal k count) r e = refl
+    port_apart c' port (row own) r e = by_log (c' == c)
+      where
+        other_entry : is_same_entry (port, r) (feed.port, own) ≡ false
+        other_entry = ap (λ (b : Bool). b && is_same_row r own) e
+
+        with_one : (b : Bool) → list_any (is_same_entry (port, r)) (if b then x.logs c' else x.logs c' ++ (feed.port, own) ∷ []) ≡ list_any (is_same_entry (port, r)) (x.logs c')
+        with_one true = refl
+        with_one false = list_any-append (is_same_entry (port, r)) (x.logs c') ((feed.port, own) ∷ []) ∙ none_added (list_any (is_same_entry (port, r)) (x.logs c')) (is_same_entry (port, r) (feed.port, own)) other_entry
+
+        by_log : (b : Bool) → list_any (is_same_entry (port, r)) (if b then with_new is_same_entry (x.logs c') (feed.port, own) else x.logs c') ≡ list_any (is_same_entry (port, r)) (x.logs c')
+        by_log false = refl
+        by_log true = with_one (list_any (is_same_entry (feed.port, own)) (x.logs c'))
+
     pub ordering_stays : (lane : Lane) → StaysOpen w given x y lane (stale_between (Order c feed) index lane)
     ordering_stays (Deliver c' r' n' other) =
         heard_same c' r' n' other Nothing (sym (ap (λ (z : Execution). heard z c' r') becomes) ∙ ap (λ (l : Lives). l.last.heard) (with_logged-lives c feed.port message x c' r'))
-    ordering_stays (Order c' other) = by_log (c' == c) refl
+    ordering_stays (Order c' other) = by_place (c' == c) (other.port == feed.port) refl refl
       where
-        by_log : (b : Bool) → (c' == c) ≡ b → StaysOpen w given x y (Order c' other) (stale_between (Order c feed) index (Order c' other))
-        by_log true e k within fresh is_open = (let bad : true ≡ false = sym (ap (λ b. may_be_stale (if b then Everything else Nothing) k) e) ∙ fresh in cc)
-        by_log false e k within fresh is_open = logged_same c' other (stale_between (Order c feed) index (Order c' other)) (sym (ap (λ (z : Execution). z.logs c') becomes) ∙ logs_apart c' message e) k within fresh is_open
+        stale : Stale
+        stale = stale_between (Order c feed) index (Order c' other)
+
+        becomes_log : (with_logged c feed.port message x).logs c' ≡ y.logs c'
+        becomes_log = ap (λ (z : Execution). z.logs c') becomes
+
+        by_place : (b p : Bool) → (c' == c) ≡ b → (other.port == feed.port) ≡ p → StaysOpen w given x y (Order c' other) stale
+        by_place true true e o k within fresh is_open = (let bad : true ≡ false = sym (ap (λ b. may_be_stale (if b then Everything else Nothing) k) (and_from (c' == c) (other.port == feed.port) e o)) ∙ fresh in cc)
+        by_place true false e o k within fresh is_open = logged_alike c' other stale (λ r. ap (list_any (is_same_entry (other.port, r))) (sym becomes_log) ∙ port_apart c' other.port message r o) k within fresh is_open
+        by_place false p e o k within fresh is_open = logged_same c' other stale (sym becomes_log ∙ logs_apart c' message e) k within fresh is_open
 
   -- ---- an entry is taken
 

@@ -23,7 +23,7 @@ use Rattle.inbox.proofs.Executions.Results.{Ok_same, and_then_Ok, if_Ok}
 use Rattle.sched_turns.specs.declared.windows.Stale.TheVariants.{Nothing, Place, Everything}
 use Rattle.sched_make.specs.Made.{can_take, is_open_in, lane_feed, lane_list, part_on}
 use Rattle.sched_make.specs.Code.Stale.{is_same_feed, stale_on}
-use Rattle.sched_make.specs.Code.Watch.{comes_from, is_at_log, is_heard_on, sends, touches, touches_taker}
+use Rattle.sched_make.specs.Code.Watch.{comes_from, is_heard_on, sends, touches, touches_taker}
 use Rattle.sched_make.specs.Code.Works.{work_event}
 use Rattle.sched_make.specs.declared.lanes.Lane.{Lane}
 use Rattle.sched_make.specs.declared.lanes.Lane.TheVariants.{Deliver, Order}
@@ -147,7 +147,7 @@ module _ (v : View) (given : Data) (x y : Execution) where
       let so = logs_so c (part_on feed index) at in
       logged_kept c feed.port so.0 so.1 within (lane_feed lane)
   list_kept (Take taker) within at lane off =
-      lives_kept taker.component taker.replica take_entry (takes_so taker.component taker.replica at) (lane_feed lane) (or_parts (is_at_log taker.component lane) (sends v taker.component taker.replica (lane_feed lane)) off).1
+      lives_kept taker.component taker.replica take_entry (takes_so taker.component taker.replica at) (lane_feed lane) off
 
   pub take_kept : (work : Work) → after_event w given (work_event work) x ≡ Ok y → (taker : Taker) → touches_taker work taker ≡ false → can_take x taker ≡ can_take y taker
   take_kept (Comes (Deliver c r n feed) index) at taker off =

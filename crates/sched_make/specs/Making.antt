@@ -10,7 +10,6 @@ use Rattle.topo_forms.specs.View.{View}
 use Rattle.inbox.specs.Events.{Event, event}
 use Rattle.inbox.specs.Wiring.{wiring_of}
 use Rattle.sched_run.specs.Net.{Stands}
-use Rattle.sched_run.specs.Numbered.{numbered}
 use Rattle.sched_run.specs.declared.books.Books.{Books}
 use Rattle.sched_run.specs.ScheduleLines.{Line, steps_of, events_of}
 use Rattle.sched_make.specs.Made.{made_of, AnswersSo}

@@ -10,6 +10,7 @@ mod made;
 mod making;
 mod naming;
 mod stale;
+mod tables;
 mod watch;
 mod works;
 mod writing;

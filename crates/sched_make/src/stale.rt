@@ -16,7 +16,7 @@ fn is_same_feed(a: &Feed, b: &Feed) -> bool
 
 impl Lane {
     // What is stale on a lane once the message with an index came on this one: that index, where an
-    // instance heard it on the same feed, and any index, where it went to the same log.
+    // instance heard it on the same feed, and any index, where it went to the same port of the same log.
     fn stale_after(&self, index: u32, lane: &Lane) -> Stale
         ensures { result ≡ stale_between self.now index lane.now }
     {
@@ -37,12 +37,12 @@ impl Lane {
             ) if (other_component == component && other_replica == replica)
                 && is_same_feed(other_feed, feed) => { Stale::Place(index) }
             (
-                Lane::Order { component, .. },
+                Lane::Order { component, feed },
                 Lane::Order {
                     component: other_component,
-                    ..
+                    feed: other_feed,
                 },
-            ) if other_component == component => Stale::Everything,
+            ) if other_component == component && other_feed.port == feed.port => Stale::Everything,
             _ => Stale::Nothing,
         }
     }

@@ -19,6 +19,11 @@ fn push_number(number: u32, into: &mut Vec<u8>) -> Result<(), AllocError>
     ensures text { OnOk result (into.new.items ≡ into.old.items ++ decimal number) }
     ensures small { number < 2 ^ 32 }
 {
+    // As the number of most replicas, it has one digit.
+    if number < 10 {
+        into.push(b'0' + number as u8)?;
+        return Ok(());
+    }
     let mut buffer = Buffer::new();
     into.extend_from_slice(buffer.format(number).as_bytes())
 }
@@ -37,9 +42,9 @@ fn push_sent(valid: &Valid, part: &NumberedPart, into: &mut Vec<u8>) -> Result<(
     ensures small { OnOk result (IsSmallSent (sent_named valid.now.view part.now.sent)) }
 {
     push_name(valid.stream_name(part.stream), into)?;
-    into.extend_from_slice(b" ")?;
+    into.push(b' ')?;
     push_number(part.replica, into)?;
-    into.extend_from_slice(b" ")?;
+    into.push(b' ')?;
     push_number(part.index, into)
 }
 
@@ -50,7 +55,7 @@ fn push_spot(valid: &Valid, component: u32, port: u32, into: &mut Vec<u8>) -> Re
     ensures { OnOk result (into.new.items ≡ into.old.items ++ ((component_at valid.now.view component).name ++ codes "." ++ (port_at valid.now.view component port).name)) }
 {
     push_name(valid.component_name(component), into)?;
-    into.extend_from_slice(b".")?;
+    into.push(b'.')?;
     push_name(valid.port_name(component, port), into)
 }
 
@@ -70,7 +75,7 @@ fn push_event(valid: &Valid, event: &NumberedEvent, into: &mut Vec<u8>) -> Resul
             push_sent(valid, part, into)?;
             into.extend_from_slice(b" to ")?;
             push_spot(valid, *component, part.port, into)?;
-            into.extend_from_slice(b" ")?;
+            into.push(b' ')?;
             push_number(*replica, into)
         }
         NumberedEvent::Order { part, component } => {
@@ -82,7 +87,7 @@ fn push_event(valid: &Valid, event: &NumberedEvent, into: &mut Vec<u8>) -> Resul
         NumberedEvent::Take { component, replica } => {
             into.extend_from_slice(b"take ")?;
             push_name(valid.component_name(*component), into)?;
-            into.extend_from_slice(b" ")?;
+            into.push(b' ')?;
             push_number(*replica, into)
         }
     }
@@ -99,5 +104,6 @@ pub(crate) fn push_line(
     ensures small { OnOk result (IsSmall (event_named valid.now.view (event_by_numbers event.now))) }
 {
     push_event(valid, event, into)?;
-    into.extend_from_slice(b"\n")
+    into.push(b'\n')?;
+    Ok(())
 }

@@ -12,12 +12,12 @@ use Rattle.sched_make.specs.declared.works.Work.TheVariants.{Message, Take}
 abbrev pub is_same_feed : Feed → Feed → Bool
 is_same_feed a b = a.port == b.port && (a.stream == b.stream && a.sender == b.sender)
 
--- once a message came on a lane: its index on the same feed of the same instance, and every index at the same log
+-- once a message came on a lane: its index on the same feed of the same instance, and every index at the same port of the same log
 abbrev pub stale_between : (done : Lane) → (index : ℕ) → (lane : Lane) → Stale
 stale_between (Deliver c r n feed) index (Deliver component replica number other) = if (component == c && replica == r) && is_same_feed other feed then Place index else Nothing
 stale_between (Deliver c r n feed) index (Order component other) = Nothing
 stale_between (Order c feed) index (Deliver component replica number other) = Nothing
-stale_between (Order c feed) index (Order component other) = if component == c then Everything else Nothing
+stale_between (Order c feed) index (Order component other) = if component == c && other.port == feed.port then Everything else Nothing
 
 -- a take makes nothing stale
 abbrev pub stale_on : Work → (lane : Lane) → Stale

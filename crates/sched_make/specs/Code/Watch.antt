@@ -1,5 +1,5 @@
--- Where a work may change what is open: at its own place, where what its instance sends comes in, and at its log.
-use Rattle.std.specs.Prelude.{◌≡◌, ◌<◌, ◌+◌, ◌==◌, ◌&&◌, ◌||◌, ℕ, Bool, false, Option, None, Some, List, [], length, slice_get, slice_index_or}
+-- Where a work may change what is open: at its own place, where what its instance sends comes in, and at the port of its log.
+use Rattle.std.specs.Prelude.{◌≡◌, ◌<◌, ◌+◌, ◌*◌, ◌==◌, ◌&&◌, ◌||◌, ℕ, Bool, false, Option, None, Some, List, [], length, slice_get, slice_index_or}
 use Rattle.blz_value.specs.Members.{Has}
 use Rattle.topo_forms.specs.Data.{Data}
 use Rattle.topo_forms.specs.Feeds.{Feed}
@@ -15,6 +15,7 @@ use Rattle.sched_make.specs.Code.Works.{sizes_shown, window_at}
 use Rattle.sched_make.specs.declared.lanes.Lane.{Lane}
 use Rattle.sched_make.specs.declared.lanes.Lane.TheVariants.{Deliver, Order}
 use Rattle.sched_make.specs.declared.lanes.Taker.{Taker}
+use Rattle.sched_make.specs.declared.tables.Tables.{Tables}
 use Rattle.sched_make.specs.declared.watch.Watch.{Watch}
 use Rattle.sched_make.specs.declared.works.Work.{Work}
 use Rattle.sched_make.specs.declared.works.Work.TheVariants.{Message, Take}
@@ -36,16 +37,16 @@ abbrev pub is_heard_on : (component replica : ℕ) → Feed → Lane → Bool
 is_heard_on component replica feed (Deliver c r n other) = (c == component && r == replica) && is_same_feed other feed
 is_heard_on component replica feed (Order c other) = false
 
--- a lane is one of the log of a component
-abbrev pub is_at_log : (component : ℕ) → Lane → Bool
-is_at_log component (Deliver c r n other) = false
-is_at_log component (Order c other) = c == component
+-- a lane is one of the log of a component at a port
+abbrev pub is_at_log : (component port : ℕ) → Lane → Bool
+is_at_log component port (Deliver c r n other) = false
+is_at_log component port (Order c other) = c == component && other.port == port
 
--- what is open on a lane may change by a work
+-- what is open on a lane may change by a work: a log that gets an entry has no other entry at another port, and one from which is taken stays as it is
 abbrev pub touches : View → Work → Lane → Bool
 touches v (Message (Deliver c r n feed) index) lane = is_heard_on c r feed lane || sends v c r (lane_feed lane)
-touches v (Message (Order c feed) index) lane = is_at_log c lane
-touches v (Take taker) lane = is_at_log taker.component lane || sends v taker.component taker.replica (lane_feed lane)
+touches v (Message (Order c feed) index) lane = is_at_log c feed.port lane
+touches v (Take taker) lane = sends v taker.component taker.replica (lane_feed lane)
 
 -- whether a taker can take may change
 abbrev pub touches_taker : Work → Taker → Bool
@@ -97,52 +98,53 @@ pub record AreReadersBelow (v : View) (lanes : List Lane) (most : ℕ) (groups :
 abbrev pub AreReaders : View → List Lane → List (List ℕ) → Type 0
 AreReaders v lanes groups = AreReadersBelow v lanes (length lanes) groups
 
--- for each component the places among so many lanes of those of its log
+-- the number of a port of a component among all, where each component has eight
+abbrev pub port_place : (component port : ℕ) → ℕ
+port_place component port = component * 8 + port
+
+-- for each component and each port the places among so many lanes of those of its log there
 pub record AreLanesBelow (v : View) (lanes : List Lane) (most : ℕ) (groups : List (List ℕ)) : Type 0 where
-  pub count : length groups ≡ length v.components
+  pub count : length groups ≡ length v.components * 8
   pub within : AreBelow (length lanes) groups
-  pub each : (place c : ℕ) (feed : Feed) → place < most → slice_get lanes place ≡ Some (Order c feed) → Has place (slice_index_or groups c [])
+  pub each : (place c : ℕ) (feed : Feed) → place < most → slice_get lanes place ≡ Some (Order c feed) → Has place (slice_index_or groups (port_place c feed.port) [])
 
-abbrev pub AreLanesAt : View → List Lane → List (List ℕ) → Type 0
-AreLanesAt v lanes groups = AreLanesBelow v lanes (length lanes) groups
+abbrev pub AreLogs : View → List Lane → List (List ℕ) → Type 0
+AreLogs v lanes groups = AreLanesBelow v lanes (length lanes) groups
 
--- the places of so many takers, which stand behind lanes, came to the lists of their components
-pub record AreTakersBelow (before : ℕ) (takers : List Taker) (most : ℕ) (old groups : List (List ℕ)) : Type 0 where
-  pub count : length groups ≡ length old
-  pub stay : (number place : ℕ) → Has place (slice_index_or old number []) → Has place (slice_index_or groups number [])
+-- for each component the places of those among so many takers that take from its log; takers stand behind lanes
+pub record AreTakersBelow (v : View) (before : ℕ) (takers : List Taker) (most : ℕ) (groups : List (List ℕ)) : Type 0 where
+  pub count : length groups ≡ length v.components
   pub within : AreBelow (before + most) groups
   pub each : (number : ℕ) (taker : Taker) → number < most → slice_get takers number ≡ Some taker → Has (before + number) (slice_index_or groups taker.component [])
 
-abbrev pub AreTakersAt : (before : ℕ) → List Taker → (old groups : List (List ℕ)) → Type 0
-AreTakersAt before takers old groups = AreTakersBelow before takers (length takers) old groups
+abbrev pub AreTakers : View → (before : ℕ) → List Taker → List (List ℕ) → Type 0
+AreTakers v before takers groups = AreTakersBelow v before takers (length takers) groups
 
--- for each component the places of the lanes and the takers of its log
-pub record AreLogs (v : View) (k : Works) (groups : List (List ℕ)) : Type 0 where
-  pub count : length groups ≡ length v.components
-  pub within : AreBelow (length k.sizes) groups
-  pub lanes : (place c : ℕ) (feed : Feed) → slice_get k.lanes.items place ≡ Some (Order c feed) → Has place (slice_index_or groups c [])
-  pub takers : (number : ℕ) (taker : Taker) → slice_get k.takers.items number ≡ Some taker → Has (length k.lanes.items + number) (slice_index_or groups taker.component [])
+-- there is a list for each instance and stream, for each instance, for each port and for each component
+pub record HaveCounts (v : View) (tables : Tables) : Type 0 where
+  pub heard : HasStreams v tables.heard.items
+  pub readers : length tables.readers ≡ instance_count v
+  pub logs : length tables.logs ≡ length v.components * 8
+  pub takers : length tables.takers ≡ length v.components
 
 -- where each work changes what is open is known
-pub record IsWatched (v : View) (watch : Watch) : Type 0 where
-  pub heard : AreHeard v watch.works.lanes.items watch.heard.items
-  pub readers : AreReaders v watch.works.lanes.items watch.readers
-  pub logs : AreLogs v watch.works watch.logs
+pub record AreTablesOf (v : View) (k : Works) (tables : Tables) : Type 0 where
+  pub heard : AreHeard v k.lanes.items tables.heard.items
+  pub readers : AreReaders v k.lanes.items tables.readers
+  pub logs : AreLogs v k.lanes.items tables.logs
+  pub takers : AreTakers v (length k.lanes.items) k.takers.items tables.takers
 
--- the places of the lanes on which the instance of a work hears its stream
-abbrev pub heard_places : View → List (List (List ℕ)) → Work → List ℕ
-heard_places v heard (Message (Deliver c r n feed) index) = heard_at heard (instance_place v c r) feed.stream
-heard_places v heard (Message (Order c feed) index) = []
-heard_places v heard (Take taker) = []
+abbrev pub IsWatched : View → Watch → Type 0
+IsWatched v watch = AreTablesOf v watch.works watch.tables
 
--- the places at which what the instance of a work sends comes in
-abbrev pub reader_places : View → List (List ℕ) → Work → List ℕ
-reader_places v groups (Message (Deliver c r n feed) index) = slice_index_or groups (instance_place v c r) []
-reader_places v groups (Message (Order c feed) index) = []
-reader_places v groups (Take taker) = slice_index_or groups (instance_place v taker.component taker.replica) []
+-- the places where a work may close others: the lanes on which its instance hears its stream, those of its log at its port, or the takers from its log
+abbrev pub closing_places : View → Tables → Work → List ℕ
+closing_places v tables (Message (Deliver c r n feed) index) = heard_at tables.heard.items (instance_place v c r) feed.stream
+closing_places v tables (Message (Order c feed) index) = slice_index_or tables.logs (port_place c feed.port) []
+closing_places v tables (Take taker) = slice_index_or tables.takers taker.component []
 
--- the places at the log to which a work adds, or from which it takes
-abbrev pub log_places : List (List ℕ) → Work → List ℕ
-log_places groups (Message (Deliver c r n feed) index) = []
-log_places groups (Message (Order c feed) index) = slice_index_or groups c []
-log_places groups (Take taker) = slice_index_or groups taker.component []
+-- the places where it may open others: what its instance sends comes in there, or it is a taker from its log
+abbrev pub opening_places : View → Tables → Work → List ℕ
+opening_places v tables (Message (Deliver c r n feed) index) = slice_index_or tables.readers (instance_place v c r) []
+opening_places v tables (Message (Order c feed) index) = slice_index_or tables.takers c []
+opening_places v tables (Take taker) = slice_index_or tables.readers (instance_place v taker.component taker.replica) []

@@ -1,6 +1,6 @@
-use Rattle.std.proofs.Common.{◌∙◌, ap}
+use Rattle.std.proofs.Common.{◌∙◌, ap, refl}
 use Rattle.sched_make.proofs.MakingTurns.{ready_at, ready_back}
-use Rattle.sched_make.proofs.MakingWhole.{goes_first, made_fault, made_whole, stands_whole, turned_on}
+use Rattle.sched_make.proofs.MakingWhole.{goes_first, made_fault, made_whole, stands_whole, turned_first, turned_on}
 use Rattle.sched_make.proofs.making.made_of.Goals as goal
 
 pub turn-requires-clause-goes : goal.turn-requires-clause-goes
@@ -32,3 +32,12 @@ returns-clause-stands g c =
 
 pub returns-clause-written : goal.returns-clause-written
 returns-clause-written g c = rw c.into_made.ensures c.loop-making.invariant.ready.written
+
+pub loop-making-init : goal.loop-making-init
+loop-making-init g c = record {
+  turned = λ given stands. turned_first _ given c.args.seed _ _ _ c.in_ok-making.making stands c.in_ok-making.ensures.draws c.in_ok-making.ensures.made;
+  ready = c.in_ok-making.ensures.ready;
+  valid = refl;
+  kinds = refl;
+  loaded = refl;
+}

@@ -5,9 +5,9 @@ use Rattle.topo_forms.specs.Feeds.{Feed}
 use Rattle.inbox.specs.Places.{instance_count}
 use Rattle.sched_make.specs.Code.Looking.{IsLane}
 use Rattle.sched_make.specs.Code.Watch.{AreHeardBelow}
-use Rattle.sched_make.proofs.WatchLemmas.{heard_none, heard_more, heard_pass, instance_inside}
-use Rattle.sched_make.proofs.watch.heard_of.Goals as goal
-use Rattle.sched_make.proofs.watch.heard_of.Goals.{in-Deliver+in_ok-add, in_default}
+use Rattle.sched_make.proofs.TablesLemmas.{heard_none, heard_more, heard_pass, instance_inside}
+use Rattle.sched_make.proofs.tables.heard_of.Goals as goal
+use Rattle.sched_make.proofs.tables.heard_of.Goals.{in-Deliver+in_ok-add, in_default}
 
 pub index_mut-requires : goal.index_mut-requires
 index_mut-requires c =

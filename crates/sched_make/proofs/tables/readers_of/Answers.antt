@@ -5,9 +5,9 @@ use Rattle.topo_forms.specs.View.{origin_of}
 use Rattle.inbox.specs.Places.{instance_place}
 use Rattle.sched_make.specs.Code.Looking.{IsLane}
 use Rattle.sched_make.specs.Code.Watch.{AreReadersBelow}
-use Rattle.sched_make.proofs.WatchLemmas.{readers_none, readers_more, readers_pass, sender_inside}
-use Rattle.sched_make.proofs.watch.readers_of.Goals as goal
-use Rattle.sched_make.proofs.watch.readers_of.Goals.{in-Some+in_ok-add, in_default}
+use Rattle.sched_make.proofs.TablesLemmas.{readers_none, readers_more, readers_pass, sender_inside}
+use Rattle.sched_make.proofs.tables.readers_of.Goals as goal
+use Rattle.sched_make.proofs.tables.readers_of.Goals.{in-Some+in_ok-add, in_default}
 
 pub add-requires : goal.add-requires
 add-requires c =

@@ -1,5 +1,5 @@
 use Rattle.std.proofs.Common.{◌≡◌, ◌∙◌, [], ap, replicate, arith}
-use Rattle.sched_make.proofs.watch.unheard.Goals as goal
+use Rattle.sched_make.proofs.tables.unheard.Goals as goal
 
 pub returns : goal.returns
 returns c =

@@ -62,8 +62,8 @@ fn wide_sources(alloc: Global, valid: &Valid, top: &Json) -> Result<Vec<SourceLi
 /// sources in file order, then names of no source in byte order. TooMany comes where rows and parts pass
 /// 65,536, repeats included, with the source at which they do. FdBroken comes for the first dependency
 /// that is broken, with the first record that disagrees with an earlier one, and the earliest such. Of
-/// several the first in this order is the answer. Takes a look-up by hash for each record, and two more
-/// for each dependency.
+/// several the first in this order is the answer. Takes a look-up by hash for each record, and at most two
+/// more for each dependency and one for each attribute of dependencies.
 #[tactic(auto, unfolding(crate::specs::Reading::data_of))]
 pub fn read(alloc: Global, text: &[u8], valid: &Valid) -> Result<Data, DataFault>
     requires { length text.now < 2 ^ 32 - 1 }

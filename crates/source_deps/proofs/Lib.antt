@@ -3,3 +3,4 @@ pub mod EarliestLemmas
 pub mod SidesLemmas
 pub mod PairLemmas
 pub mod BrokenLemmas
+pub mod ApartLemmas

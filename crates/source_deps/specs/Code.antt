@@ -1,2 +1,3 @@
 -- What the private functions give.
 pub mod Earliest
+pub mod Apart

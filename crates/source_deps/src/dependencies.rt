@@ -7,6 +7,7 @@ ghost use Rattle.source_deps.specs.Code.Earliest.{IsRowAt, if_known, number_of, 
 ghost use Rattle.topo_forms.specs.Data as held;
 ghost use Rattle.topo_forms.specs.View as view;
 
+use crate::apart::{holds_apart, none_known};
 use crate::columns::{attributes_of, columns_of, places_of};
 use crate::sides::{Side, SideSet};
 use blz_value::{Attrs, Fd, Record};
@@ -64,8 +65,8 @@ fn has_both(fd: Fd, columns: Attrs) -> bool
     fd.from.is_within(columns) && fd.to.is_within(columns)
 }
 
-// The sources with records that a dependency speaks of, in file order.
-fn all_placed<'a>(
+/// The sources with records that a dependency speaks of, in file order.
+pub(crate) fn all_placed<'a>(
     alloc: Global,
     valid: &Valid,
     fd: Fd,
@@ -95,8 +96,11 @@ fn push_sides<'a>(source: &'a Placed<'a>, all: &mut Vec<Sided<'a>>) -> Result<()
     Ok(())
 }
 
-// The records that a dependency speaks of, in source and file order.
-fn all_sides<'a>(alloc: Global, placed: &'a [Placed<'a>]) -> Result<Vec<Sided<'a>>, AllocError>
+/// The records that a dependency speaks of, in source and file order.
+pub(crate) fn all_sides<'a>(
+    alloc: Global,
+    placed: &'a [Placed<'a>],
+) -> Result<Vec<Sided<'a>>, AllocError>
     ensures { IfOk result (λ all. map sides_view all.items ≡ flat_map placed_sides placed.now) }
 {
     let mut all = Vec::new(alloc);
@@ -124,10 +128,13 @@ fn if_known(number: usize, is_new: bool) -> Option<usize>
     if is_new { None } else { Some(number) }
 }
 
-// The number of the first side with the same values, where there is one; a side with values of its own
-// goes last.
+/// The number of the first side with the same values, where there is one; a side with values of its own
+/// goes last.
 #[tactic(auto, using(crate::proofs::SidesLemmas::is_number, crate::proofs::SidesLemmas::is_kept))]
-fn number_of<'a>(sides: &mut SideSet<'a>, side: Side<'a>) -> Result<Option<usize>, AllocError>
+pub(crate) fn number_of<'a>(
+    sides: &mut SideSet<'a>,
+    side: Side<'a>,
+) -> Result<Option<usize>, AllocError>
     ensures number { IfOk result (λ number. number ≡ number_of sides.old.keys (values_of side.entry)) }
     ensures kept { IfOk result (λ number. sides.new.keys ≡ with_side number sides.old.keys side.entry) }
 {
@@ -135,14 +142,16 @@ fn number_of<'a>(sides: &mut SideSet<'a>, side: Side<'a>) -> Result<Option<usize
     Ok(if_known(number, is_new))
 }
 
-fn side_at<'a>(row: &'a Record, places: &'a [usize]) -> Side<'a>
+/// A side of a record.
+pub(crate) fn side_at<'a>(row: &'a Record, places: &'a [usize]) -> Side<'a>
     ensures values { values_of result ≡ map (cell row.now) places.now }
     ensures row { result.row.now ≡ row.now }
 {
     Side { row, places }
 }
 
-fn room_for<'a>(alloc: Global, count: usize) -> Result<SideSet<'a>, AllocError>
+/// No sides, with room for so many.
+pub(crate) fn room_for<'a>(alloc: Global, count: usize) -> Result<SideSet<'a>, AllocError>
     ensures { IfOk result (λ sides. sides.keys ≡ []) }
 {
     IndexSet::with_capacity_and_hasher(alloc, count, BuildHasherDefault::new())
@@ -157,9 +166,29 @@ fn row_at<'a>(sides: &SideSet<'a>, number: usize) -> &'a Record
     sides.as_slice()[number].row
 }
 
-// The first record that disagrees with an earlier one, after the earliest such. While none does, the first
-// records with their values on one side are those with their values on the other, so that a record stands
-// under the same number in both sets.
+// The first record that disagrees with an earlier one, after the earliest such, found by two sets without
+// sides. While none does, the first records with their values on one side are those with their values on
+// the other, so that a record stands under the same number in both sets.
+fn pair_by<'a>(
+    sided: &[Sided<'a>],
+    from: &mut SideSet<'a>,
+    to: &mut SideSet<'a>,
+) -> Result<Option<(&'a Record, &'a Record)>, AllocError>
+    requires from { from.old.keys ≡ [] }
+    requires to { to.old.keys ≡ [] }
+    ensures { IfOk result (λ pair. option_map (λ p. (p.0.now, p.1.now)) pair ≡ spec.broken_pair [] (map sides_view sided.now)) }
+{
+    for one in sided {
+        let first = number_of(from, side_at(one.row, one.from))?;
+        let second = number_of(to, side_at(one.row, one.to))?;
+        match one_place(first, second) {
+            Some(earlier) => return Ok(Some((row_at(from, earlier), one.row))),
+            None => {}
+        }
+    }
+    Ok(None)
+}
+
 fn broken_pair<'a>(
     alloc: Global,
     sided: &[Sided<'a>],
@@ -168,15 +197,7 @@ fn broken_pair<'a>(
 {
     let mut from: SideSet<'a> = room_for(alloc, sided.len())?;
     let mut to: SideSet<'a> = room_for(alloc, sided.len())?;
-    for one in sided {
-        let first = number_of(&mut from, side_at(one.row, one.from))?;
-        let second = number_of(&mut to, side_at(one.row, one.to))?;
-        match one_place(first, second) {
-            Some(earlier) => return Ok(Some((row_at(&from, earlier), one.row))),
-            None => {}
-        }
-    }
-    Ok(None)
+    pair_by(sided, &mut from, &mut to)
 }
 
 /// A dependency that is broken: two records agree on exactly one of its sides.
@@ -213,7 +234,8 @@ fn broken_by(
 }
 
 /// The first dependency that is broken, with the first record that disagrees with an earlier one and the
-/// earliest such. Each record is looked up twice by hash for each dependency.
+/// earliest such. Each record is looked up by hash at most once for each attribute of the dependencies, and
+/// twice for each dependency with a side whose attributes all repeat a value.
 pub fn first_broken(
     alloc: Global,
     valid: &Valid,
@@ -222,7 +244,11 @@ pub fn first_broken(
     requires { length sources.now ≤ length valid.now.view.streams }
     ensures { IfOk result (λ broken. broken ≡ spec.first_broken valid.now.view sources.now) }
 {
+    let mut known = none_known();
     for number in 0..valid.fd_count() {
+        if holds_apart(alloc, valid, valid.fd(number), sources, &mut known)? {
+            continue;
+        }
         match broken_by(alloc, valid, number, sources)? {
             Some(broken) => return Ok(Some(broken)),
             None => {}

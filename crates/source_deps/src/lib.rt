@@ -1,6 +1,7 @@
 //! Whether the records of all sources hold the dependencies.
 #![tactic(auto)]
 
+mod apart;
 mod columns;
 mod dependencies;
 mod sides;

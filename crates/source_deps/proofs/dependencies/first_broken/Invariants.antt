@@ -1,6 +1,10 @@
 use Rattle.std.proofs.Common.{◌≡◌, drop}
 use Rattle.source_deps.specs.Broken.{first_broken_from}
+use Rattle.source_deps.specs.Code.Apart.{AllApart}
 use Rattle.source_deps.proofs.dependencies.first_broken.Given as goal
 
 abbrev pub invariant-loop-number : goal.invariant-loop-number
-invariant-loop-number l = first_broken_from l.valid.view l.number (drop l.number l.valid.view.fds) l.sources ≡ first_broken_from l.valid.view 0 l.valid.view.fds l.sources
+invariant-loop-number l = record {
+  rest : first_broken_from l.valid.view l.number (drop l.number l.valid.view.fds) l.sources ≡ first_broken_from l.valid.view 0 l.valid.view.fds l.sources;
+  apart : AllApart l.valid.view l.sources l.known.apart.bits;
+}

@@ -1,9 +1,9 @@
 use Rattle.std.proofs.Common.{◌∙◌, ap, Some}
 use Rattle.source_deps.proofs.PairLemmas.{stands_none, found_below, found_pair, stands_more}
-use Rattle.source_deps.proofs.dependencies.broken_pair.Goals as goal
+use Rattle.source_deps.proofs.dependencies.pair_by.Goals as goal
 
 pub loop-one-init : goal.loop-one-init
-loop-one-init c = stands_none c.args.sided.now c.in_ok-from.from.keys c.in_ok-to.to.keys c.in_ok-from.ensures c.in_ok-to.ensures
+loop-one-init c = stands_none c.args.sided.now c.args.from.now.keys c.args.to.now.keys c.requires.from c.requires.to
 
 pub row_at-requires : goal.row_at-requires
 row_at-requires c =

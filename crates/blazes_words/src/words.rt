@@ -328,23 +328,22 @@ fn request_for<'a>(alloc: Global, line: &Line<'_, 'a>) -> Result<Option<Request<
     ensures within { IfOk result (λ request. IfSome request (λ request. spec.IsWithin (asked_by request))) }
     ensures value { IfOk result (λ request. option_map asked_by request ≡ spec.asked (line_shown line.now)) }
 {
-    let request = match line.command {
-        "label" => only_word(line).map(|topology| Request::Label { topology }),
-        "derive" => only_word(line).map(|topology| Request::Derive { topology }),
-        "plan" => only_word(line).map(|topology| Request::Plan { topology }),
-        "run" => run_files(line).map(Request::Run),
-        "make" => make_words(line).map(Request::Make),
+    match line.command {
+        "label" => Ok(only_word(line).map(|topology| Request::Label { topology })),
+        "derive" => Ok(only_word(line).map(|topology| Request::Derive { topology })),
+        "plan" => Ok(only_word(line).map(|topology| Request::Plan { topology })),
+        "run" => Ok(run_files(line).map(Request::Run)),
+        "make" => Ok(make_words(line).map(Request::Make)),
         "soak" => match soak_words(line) {
-            Some(words) => Some(Request::Soak(words)),
-            None => None,
+            Some(words) => Ok(Some(Request::Soak(words))),
+            None => Ok(None),
         },
-        "shard" => shard_words(alloc, line)?.map(Request::Shard),
-        "restart" => run_files(line).map(Request::Restart),
-        "witness" => witness_files(line).map(Request::Witness),
-        "why" => why_words(line).map(Request::Why),
-        _ => None,
-    };
-    Ok(request)
+        "shard" => Ok(shard_words(alloc, line)?.map(Request::Shard)),
+        "restart" => Ok(run_files(line).map(Request::Restart)),
+        "witness" => Ok(witness_files(line).map(Request::Witness)),
+        "why" => Ok(why_words(line).map(Request::Why)),
+        _ => Ok(None),
+    }
 }
 
 // What matching words ask for.

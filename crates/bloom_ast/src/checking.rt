@@ -184,6 +184,21 @@ fn later(alloc: Global, collections: &[Collection], rules: &[Rule]) -> Result<Ve
     ensures { checking.Later collections.now (rule_forms rules.now) result }
 {
     let facts = facts_of(alloc, collections, rules)?;
+    later_by(alloc, collections, &facts, rules)
+}
+
+// The same by what the rules say of the collections.
+fn later_by(
+    alloc: Global,
+    collections: &[Collection],
+    facts: &Facts,
+    rules: &[Rule],
+) -> Result<Vec<u32>, CheckFault>
+    requires few { length collections.now ≤ 64 }
+    requires few_rules { length rules.now ≤ 64 }
+    requires facts { facts.now ≡ facts_in collections.now (rule_forms rules.now) }
+    ensures { checking.Later collections.now (rule_forms rules.now) result }
+{
     let kinds = [
         ModuleKind::Twice,
         ModuleKind::Unknown,
@@ -192,9 +207,9 @@ fn later(alloc: Global, collections: &[Collection], rules: &[Rule]) -> Result<Ve
         ModuleKind::MomentaryMix,
         ModuleKind::MixedScratch,
     ];
-    match fault_in(alloc, &kinds, collections, &facts, rules)? {
+    match fault_in(alloc, &kinds, collections, facts, rules)? {
         Some(fault) => Err(CheckFault::Bad(fault)),
-        None => Ok(heads_by(alloc, collections, &facts)?),
+        None => Ok(heads_by(alloc, collections, facts)?),
     }
 }
 

@@ -9,4 +9,5 @@ pub mod LaidLemmas
 pub mod ApartLemmas
 pub mod TerminalLemmas
 pub mod NameTokens
+pub mod NamedRuns
 pub mod LiteralLaw

@@ -11,46 +11,28 @@ use Rattle.topo_forms.specs.declared.topology.Topology.{Topology}
 use Rattle.command_checks.specs.FileChecks.{checked}
 use Rattle.command_checks.specs.Ends.{Source, files_states, Came}
 use Rattle.command_checks.specs.Ran.{Gives, Stopped}
-use Rattle.command_checks.specs.Script.{Bytes, Script, ◌>>=◌}
 use Rattle.command_checks.specs.Script.Script.{gives}
 use Rattle.command_checks.specs.Script.Ending.{gave}
 use Rattle.command_checks.specs.declared.stop.Stop.{Stop}
-use Rattle.command_checks.proofs.ScriptLemmas.{came_then, came_at_once, came_checked, gives_ran, stop_then, then_stop}
-use Rattle.command_checks.specs.Checks.{WithModules, each, module_file, module_names, topology_file, valid_with, with_modules}
+use Rattle.command_checks.proofs.ScriptLemmas.{came_then, came_at_once, came_checked, gives_ran, stop_then}
+use Rattle.command_checks.specs.Checks.{WithModules, valid_with}
+use Rattle.command_checks.specs.Code.Topologies.{from_modules}
 use Rattle.command_checks.specs.Found.{HasModules}
 
--- what follows on a topology with its modules, and on a topology alone
-abbrev from_modules : Topology → List Accepted → Script WithModules
-from_modules t modules = checked (valid_with t modules (fault_of t modules)) >>= λ valid. gives (record { valid = valid; modules = modules })
+module _ (files : Source) (t : Topology) (modules : List Accepted) where
+  -- a topology that has a fault with its modules
+  pub fault_stops : (stop : Stop) → Gives (λ (valid : Validated). valid) (Err stop) (valid_with t modules (fault_of t modules)) → Stopped (files_states files files) stop (from_modules t modules)
+  fault_stops stop given =
+      stop_then (files_states files files) stop (checked (valid_with t modules (fault_of t modules))) (λ valid. gives (record { valid = valid; modules = modules }))
+      (gives_ran (λ (valid : Validated). valid) files (Err stop) (valid_with t modules (fault_of t modules)) given)
 
-abbrev from_topology : Topology → Script WithModules
-from_topology t = each module_file (module_names t) >>= from_modules t
-
-module _ (a b c : Source) (name : Bytes) (t : Topology) (read : Came (files_states a b) (topology_file name) (gave t)) where
-  -- a topology whose modules stop
-  pub modules_stop : (stop : Stop) → Stopped (files_states b c) stop (each module_file (module_names t)) → Stopped (files_states a c) stop (with_modules name)
-  modules_stop stop stopped =
-      then_stop a b c (topology_file name) from_topology t stop read
-      (stop_then (files_states b c) stop (each module_file (module_names t)) (from_modules t) stopped)
-
-  module _ (modules : List Accepted) (all : Came (files_states b c) (each module_file (module_names t)) (gave modules)) where
-    -- a topology that has a fault with its modules
-    pub fault_stops : (stop : Stop) → Gives (λ (valid : Validated). valid) (Err stop) (valid_with t modules (fault_of t modules)) → Stopped (files_states a c) stop (with_modules name)
-    fault_stops stop given =
-        then_stop a b c (topology_file name) from_topology t stop read
-        (then_stop b c c (each module_file (module_names t)) (from_modules t) modules stop all
-        (stop_then (files_states c c) stop (checked (valid_with t modules (fault_of t modules))) (λ valid. gives (record { valid = valid; modules = modules }))
-        (gives_ran (λ (valid : Validated). valid) c (Err stop) (valid_with t modules (fault_of t modules)) given)))
-
-    -- a topology that has none
-    pub modules_come : (valid : Validated) → valid_with t modules (fault_of t modules) ≡ Ok valid
-        → Came (files_states a c) (with_modules name) (gave (record { valid = valid; modules = modules }))
-    modules_come valid is =
-        let found : WithModules = record { valid = valid; modules = modules } in
-        came_then a b c (topology_file name) from_topology t (gave found) read
-        (came_then b c c (each module_file (module_names t)) (from_modules t) modules (gave found) all
-        (came_then c c c (checked (valid_with t modules (fault_of t modules))) (λ valid. gives (record { valid = valid; modules = modules })) valid (gave found)
-        (came_checked c (valid_with t modules (fault_of t modules)) valid is) (came_at_once c found)))
+  -- a topology that has none
+  pub modules_come : (valid : Validated) → valid_with t modules (fault_of t modules) ≡ Ok valid
+      → Came (files_states files files) (from_modules t modules) (gave (record { valid = valid; modules = modules }))
+  modules_come valid is =
+      let found : WithModules = record { valid = valid; modules = modules } in
+      came_then files files files (checked (valid_with t modules (fault_of t modules))) (λ valid. gives (record { valid = valid; modules = modules })) valid (gave found)
+      (came_checked files (valid_with t modules (fault_of t modules)) valid is) (came_at_once files found)
 
 -- it is the topology that was read, without a fault
 valid_is : (t : Topology) (modules : List Accepted) (fault : Option TopoFault) (valid : Validated) → valid_with t modules fault ≡ Ok valid → (fault ≡ None) × (valid.topology ≡ t)

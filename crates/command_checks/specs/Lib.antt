@@ -7,3 +7,4 @@ pub mod FileChecks
 pub mod Status
 pub mod Reply
 pub mod Ran
+pub mod Code

@@ -23,6 +23,12 @@ IsRefused said (Refused line) = line.items ≡ said
 IsRefused said (Failed name) = ⊥
 IsRefused said NoMemory = Unit {0}
 
+-- the stop where a read of this name failed, unless memory ran out
+abbrev pub IsFailure : Bytes → Stop → Type 0
+IsFailure name (Refused line) = ⊥
+IsFailure name (Failed other) = other ≡ name
+IsFailure name NoMemory = Unit {0}
+
 -- the stop of a check that is refused so; without a refusal memory ran out
 abbrev pub IsStopAt : Option Refusal → Stop → Type 0
 IsStopAt None stop = stop ≡ NoMemory

@@ -5,16 +5,18 @@ ghost use Rattle.bloom_forms.specs.Form.{form_of};
 ghost use Rattle.bloom_forms.specs.Reserved.{HasOwnNames};
 ghost use Rattle.bloom_parse.specs.Reading.{reading_of};
 ghost use Rattle.command_checks.specs.Checks as check;
-ghost use Rattle.command_checks.specs.Ran.{Gives, Ran};
+ghost use Rattle.command_checks.specs.Ran.{Gives, IsRefused, Ran};
 ghost use Rattle.command_checks.specs.Ends.{files_states, source};
+ghost use Rattle.report_lines.specs.Refusals.{refusal_line};
+ghost use Rattle.report_lines.specs.declared.refusal.Refusal.TheVariants as refusals;
 ghost use Rattle.std.specs.List.{filter_map};
 ghost use Rattle.topo_forms.specs.Valid.{needs_module};
 
 use crate::file::read_file;
 use crate::stop::{Stop, refused};
 use bloom_ast::check;
-use bloom_forms::{CheckFault, Checked, Module};
-use bloom_parse::{ParseFault, parse};
+use bloom_forms::{CheckFault, Checked, Module, ModuleFault};
+use bloom_parse::{ParseFault, TextFault, parse};
 use blz_outside::Files;
 use blz_value::Str;
 use report_lines::Refusal;
@@ -24,6 +26,27 @@ use topo_forms::{Body, ComponentEntry};
 /// The most bytes of a module file.
 pub const MODULE_LIMIT: usize = 65_536;
 
+// The stop at a module that has this fault, in the file of this name.
+fn with_fault(alloc: Global, name: &str, fault: ModuleFault) -> Stop
+    ensures { IsRefused (refusal_line (refusals.Module name.now fault)) result }
+{
+    match Str::from_text(alloc, name) {
+        Ok(file) => refused(alloc, &Refusal::Module { file, fault }),
+        Err(_) => Stop::NoMemory,
+    }
+}
+
+// The stop at a text that is no module, in the file of this name.
+fn without_module(alloc: Global, name: &str, fault: &TextFault) -> Stop
+    ensures { IsRefused (refusal_line (refusals.ModuleText name.now fault.now.line fault.now.column)) result }
+{
+    let (line, column) = (fault.line, fault.column);
+    match Str::from_text(alloc, name) {
+        Ok(file) => refused(alloc, &Refusal::ModuleText { file, line, column }),
+        Err(_) => Stop::NoMemory,
+    }
+}
+
 // The module of the file of this name, checked.
 fn checked_module(alloc: Global, name: &str, module: &Module) -> Result<Checked, Stop>
     requires { HasOwnNames (form_of «module».now) }
@@ -31,10 +54,7 @@ fn checked_module(alloc: Global, name: &str, module: &Module) -> Result<Checked,
 {
     match check(alloc, module) {
         Ok(checked) => Ok(checked),
-        Err(CheckFault::Bad(fault)) => {
-            let file = Str::from_text(alloc, name)?;
-            Err(refused(alloc, &Refusal::Module { file, fault }))
-        }
+        Err(CheckFault::Bad(fault)) => Err(with_fault(alloc, name, fault)),
         Err(CheckFault::NoMemory) => Err(Stop::NoMemory),
     }
 }
@@ -46,11 +66,7 @@ fn module_in(alloc: Global, name: &str, bytes: &[u8]) -> Result<Checked, Stop>
 {
     match parse(alloc, bytes) {
         Ok(module) => checked_module(alloc, name, &module),
-        Err(ParseFault::Text(fault)) => {
-            let file = Str::from_text(alloc, name)?;
-            let (line, column) = (fault.line, fault.column);
-            Err(refused(alloc, &Refusal::ModuleText { file, line, column }))
-        }
+        Err(ParseFault::Text(fault)) => Err(without_module(alloc, name, &fault)),
         Err(ParseFault::NoMemory) => Err(Stop::NoMemory),
     }
 }

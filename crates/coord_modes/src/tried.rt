@@ -42,8 +42,29 @@ fn push_port_paths(
     Ok(())
 }
 
+// Adds those of the paths through a port, none where it has no note.
+fn push_noted_paths(
+    valid: &Valid,
+    labels: &Labels,
+    end: (u32, u32),
+    mode: Mode,
+    note: Option<Note>,
+    fds: &[Fd],
+    paths: &mut Vec<PathLabel>,
+) -> Result<(), AllocError>
+    requires component { end.0 < length valid.now.view.components }
+    requires port { end.1 < length (view.component_at valid.now.view end.0).ports }
+    requires labels { length labels.now ≡ length valid.now.view.streams }
+    requires fds { fds.now ≡ dependencies.usable_fds valid.now.view end.0 }
+    ensures { OnOk result (paths.new.items ≡ paths.old.items ++ code.port_paths_with valid.now.view labels.now end.0 end.1 mode note) }
+{
+    match note {
+        Some(note) => push_port_paths(valid, labels, end, mode, note, fds, paths),
+        None => Ok(()),
+    }
+}
+
 // The labels of the paths to an output, by port and then by stream.
-#[tactic(auto, using(label_walk::proofs::Loops::below_steps))]
 fn paths_with(
     alloc: Global,
     valid: &Valid,
@@ -61,17 +82,9 @@ fn paths_with(
 {
     let mut paths = Vec::new(alloc);
     for port in 0..valid.port_count(component) {
-        if let Some(note) = valid.note(component, port, output) {
-            push_port_paths(
-                valid,
-                labels,
-                (component, port),
-                mode,
-                note,
-                fds,
-                &mut paths,
-            )?;
-        }
+        let note = valid.note(component, port, output);
+        let end = (component, port);
+        push_noted_paths(valid, labels, end, mode, note, fds, &mut paths)?;
     }
     Ok(paths)
 }

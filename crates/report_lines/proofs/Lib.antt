@@ -1,3 +1,4 @@
 mod WorkedRefusals
 pub mod Streams
+mod Turns
 mod WorkedTexts

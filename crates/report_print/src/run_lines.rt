@@ -14,7 +14,7 @@ ghost use Rattle.sched_run.specs.Net.{BooksRun};
 ghost use Rattle.sched_run.specs.Reading.{IsRead, is_complete};
 ghost use Rattle.report_print.specs.RunText as spec;
 ghost use Rattle.report_lines.specs.Words.{inner_line};
-ghost use Rattle.report_print.specs.Code.Runs.{IsNetOf};
+ghost use Rattle.report_print.specs.Code.Runs.{IsNetOf, run_after};
 
 use blz_value::Record;
 use report_lines::{Word, push_inner_line, push_line};
@@ -184,6 +184,16 @@ impl Ran<'_> {
         self.push_incomplete(self.left(), text)?;
         Ok(())
     }
+
+    // Adds the text of a run.
+    fn push_run(&self, text: &mut Vec<u8>) -> Result<(), AllocError>
+        requires ran { IsNetOf self.now.valid.now.view self.now.net.now.valid.now.view self.now.net.now.books }
+        ensures { OnOk result (IsRead self.now.valid.now.view self.now.net.now.books (run_after text.old.items self.now.valid.now.view) text.new.items) }
+    {
+        self.push_streams(text)?;
+        self.push_all_held(text)?;
+        self.push_end(text)
+    }
 }
 
 /// The text of `run`: of each stream in order and each sending replica the records of its emitted
@@ -196,8 +206,6 @@ pub fn run_text(alloc: Global, valid: &Valid, net: &Net<'_>) -> Result<Vec<u8>, 
 {
     let ran = Ran { alloc, valid, net };
     let mut text = Vec::new(alloc);
-    ran.push_streams(&mut text)?;
-    ran.push_all_held(&mut text)?;
-    ran.push_end(&mut text)?;
+    ran.push_run(&mut text)?;
     Ok(text)
 }

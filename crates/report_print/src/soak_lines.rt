@@ -12,7 +12,7 @@ ghost use Rattle.sched_run.specs.Reading.{IsRead};
 ghost use Rattle.report_print.specs.SoakText as spec;
 ghost use Rattle.report_lines.specs.Words.{label_word};
 ghost use Rattle.report_lines.specs.Lines.{word_text};
-ghost use Rattle.report_print.specs.Code.Runs.{IsNetOf};
+ghost use Rattle.report_print.specs.Code.Runs.{IsNetOf, soak_after};
 
 use crate::run_lines::Ran;
 use label_walk::Labels;
@@ -117,6 +117,19 @@ impl Ran<'_> {
         )?;
         Ok(())
     }
+
+    // Adds the text of a soak.
+    fn push_soak(&self, batches: u32, labels: &Labels, text: &mut Vec<u8>) -> Result<(), AllocError>
+        requires ran { IsNetOf self.now.valid.now.view self.now.net.now.valid.now.view self.now.net.now.books }
+        requires each { length labels.now ≡ length self.now.valid.now.view.streams }
+        ensures { OnOk result (IsRead self.now.valid.now.view self.now.net.now.books (soak_after text.old.items batches self.now.valid.now.view labels.now) text.new.items) }
+    {
+        let words = [Word::Plain("batches"), Word::Number(batches)];
+        push_line(self.alloc, &words, text)?;
+        self.push_summaries(labels, text)?;
+        self.push_messages(text)?;
+        self.push_end(text)
+    }
 }
 
 /// The text of `soak` over so many batches: each stream in order with its label and the number of
@@ -136,13 +149,6 @@ pub fn soak_text(
 {
     let ran = Ran { alloc, valid, net };
     let mut text = Vec::new(alloc);
-    push_line(
-        alloc,
-        &[Word::Plain("batches"), Word::Number(batches)],
-        &mut text,
-    )?;
-    ran.push_summaries(labels, &mut text)?;
-    ran.push_messages(&mut text)?;
-    ran.push_end(&mut text)?;
+    ran.push_soak(batches, labels, &mut text)?;
     Ok(text)
 }

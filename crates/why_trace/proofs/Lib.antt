@@ -1,3 +1,4 @@
+pub mod AsideLemmas
 pub mod Trimming
 pub mod Sublists
 pub mod KeptLemmas

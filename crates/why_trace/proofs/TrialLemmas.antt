@@ -1,7 +1,9 @@
 -- A trial answers whether its lines yield the record.
-use Rattle.std.proofs.Common.{◌≡◌, ◌∙◌, ◌++◌, ◌<◌, ◌≤◌, ◌&&◌, ◌||◌, Bool, true, false, nat_lt, List, [], ◌∷◌, Bor, Option, Result, Ok, Err, inl, inr, refl, sym, subst, ap, arith}
+use Rattle.std.proofs.Common.{◌≡◌, ◌∙◌, ◌++◌, ◌<◌, ◌≤◌, ◌&&◌, ◌||◌, Bool, true, false, nat_lt, List, [], ◌∷◌, Bor, Option, Result, Ok, Err, OnOk, inl, inr, map, refl, sym, subst, ap, arith}
 use Rattle.std.specs.Cmp.{eq_by_cmp_equiv}
 use Rattle.std.specs.List.{list_any}
+use Rattle.std.specs.List.Sorted.{IsPermutation}
+use Rattle.std.proofs.lemmas.List.{map-append}
 use Rattle.std.proofs.lemmas.Bool.{cases_Bool}
 use Rattle.std.proofs.lemmas.Bool.Decides.{nat_tests}
 use Rattle.blz_set.specs.References.{shown}
@@ -80,3 +82,12 @@ pub found_yielded : (sought : Sought) (w : View) (lines : List Line) (loaded : L
 unfolding yields
 found_yielded sought w lines loaded tables next old new applied found same stands applies tells =
     found_where sought lines loaded next new (after_lines named.Event sought.view sought.given lines first_execution) applied found (applied_first named.Event sought.view w sought.given lines loaded tables next old new applied same stands applies) tells
+
+-- ---- the bench
+
+-- shells that go back behind the others, whose kinds a run left
+pub kinds_back : {X K T E : Type 0} (k : X → K) (result : Result T E) (old : List K) (between after opened closed : List X) → IsPermutation old (map k between ++ map k opened)
+    → map k closed ≡ map k opened → after ≡ between ++ closed → OnOk result (IsPermutation old (map k after))
+kinds_back k (Err fault) old between after opened closed all same is = tt
+kinds_back k (Ok x) old between after opened closed all same is =
+    subst (IsPermutation old) (sym (ap (map k) is ∙ map-append k between closed ∙ ap (λ l. map k between ++ l) same)) all

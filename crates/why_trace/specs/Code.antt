@@ -1,2 +1,3 @@
 -- What private functions give.
+pub mod Aside
 pub mod Trials

@@ -2,6 +2,7 @@
 //! goes where the others still yield the record.
 #![tactic(auto)]
 
+mod aside;
 mod copies;
 mod tracing;
 mod trial;

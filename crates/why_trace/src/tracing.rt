@@ -1,7 +1,7 @@
 //! What a record needs of a schedule: in passes, each from the last line to the first, a line is left out
 //! where the others still yield the record.
-ghost use Rattle.std.specs.Prelude.{◌≡◌, ◌<◌, ◌≤◌, ℕ, IfOk, OnOk, None, length, map, nat_lt, true, false};
-ghost use Rattle.std.specs.List.{insert, remove};
+ghost use Rattle.std.specs.Prelude.{◌≡◌, ◌<◌, ℕ, IfOk, OnOk, None, length, map, nat_lt, true, false};
+ghost use Rattle.std.specs.List.{remove};
 ghost use Rattle.std.specs.List.Sorted.{IsPermutation};
 ghost use Rattle.sched_bench.specs.Bench.{fault_of_opening};
 ghost use Rattle.topo_forms.specs.Data.{IsData};
@@ -9,6 +9,7 @@ ghost use Rattle.why_trace.specs.Passes.{without_needless, one_pass, trim_by, Is
 ghost use Rattle.why_trace.specs.Trim.{wanted, yields, trim};
 ghost use Rattle.why_trace.specs.Code.Trials.{sought_of, is_yielded_by};
 
+use crate::aside::{set_aside, set_back};
 use crate::copies::copies_of_lines;
 use crate::trial::Trial;
 use bloom_eval::Component;
@@ -16,19 +17,6 @@ use blz_value::Record;
 use sched_text::{Event, Schedule};
 use std::alloc::{AllocError, Global};
 use topo_forms::{Data, Valid};
-
-// Puts a line in at a place.
-fn put_back(
-    lines: &mut Vec<(u32, Event)>,
-    place: usize,
-    line: (u32, Event),
-) -> Result<(), AllocError>
-    requires { place ≤ length lines.old.items }
-    ensures { OnOk result (lines.new.items ≡ insert lines.old.items place line) }
-{
-    lines.insert(place, line)?;
-    Ok(())
-}
 
 impl Trial<'_> {
     // Leaves the line at a place out where the others yield the record.
@@ -44,11 +32,14 @@ impl Trial<'_> {
         ensures lines { OnOk result (lines.new.items ≡ without_needless (is_yielded_by (sought_of self.now)) place lines.old.items) }
         ensures kinds { OnOk result (IsPermutation (map (λ b. kind b) bench.old.items) (map (λ b. kind b) bench.new.items)) }
     {
-        let line = lines.remove(place);
-        if self.is_yielded_by(lines, bench)? {
+        set_aside(lines, place);
+        let others = lines.len() - 1;
+        if self.is_yielded_by(&lines[..others], bench)? {
+            lines.truncate(others);
             return Ok(());
         }
-        put_back(lines, place, line)
+        set_back(lines, place);
+        Ok(())
     }
 
     // One pass, from the last line to the first, and whether it left one out.

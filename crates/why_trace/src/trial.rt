@@ -100,8 +100,8 @@ impl Trial<'_> {
     {
         let mut net = opened(self.alloc, self.valid, self.given.copy()?, bench)?;
         let applied = run(&mut net, lines);
-        let found = self.is_found(&net, applied)?;
+        let found = self.is_found(&net, applied);
         net.close(bench)?;
-        Ok(found)
+        found
     }
 }

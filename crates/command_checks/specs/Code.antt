@@ -1,0 +1,2 @@
+-- What private functions give.
+pub mod Topologies

@@ -5,6 +5,7 @@
 mod benches;
 mod calls;
 mod dependencies;
+mod given;
 mod inboxes;
 mod inputs;
 mod modules;

@@ -96,8 +96,8 @@ fn lends_shown(
     show_rows("side 1", shell.side(1, &key).rows(), shown)
 }
 
-// Adds a line with a word and some records.
-fn show_rows(word: &str, rows: &[Record], shown: &mut Vec<u8>) -> Result<()> {
+/// Adds a line with a word and some records.
+pub(crate) fn show_rows(word: &str, rows: &[Record], shown: &mut Vec<u8>) -> Result<()> {
     shown.extend_from_slice(word.as_bytes())?;
     for row in rows {
         shown.push(b' ')?;

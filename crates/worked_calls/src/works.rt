@@ -1,6 +1,7 @@
-//! What the rows themselves show of dependencies, nets, inboxes and benches, of calls that the program doesn't
-//! make.
+//! What the rows themselves show of dependencies, data, nets, inboxes and benches, of calls that the program
+//! doesn't make.
 use crate::dependencies::upheld_shown;
+use crate::given::held_shown;
 use crate::inboxes::heard_shown;
 use crate::nets::{made_shown, run_shown};
 use anyhow::Result;
@@ -11,6 +12,7 @@ use std::alloc::Global;
 ///
 /// - `upheld TOPOLOGY`: the dependencies of a topology, each with the streams that uphold it.
 /// - `heard TOPOLOGY`: what the first instance of a topology makes of some batches, as [`heard_shown`] says.
+/// - `held TOPOLOGY DATA`: what each source holds, as [`held_shown`] says.
 /// - `made TOPOLOGY DATA`: the schedule of the seed 0, as it is printed.
 /// - `placed TOPOLOGY DATA SCHEDULE`: how many records a net keeps after the schedule, and whether it is ended.
 /// - `poor TOPOLOGY DATA SCHEDULE`: the same where a shell for modules wants memory at each step.
@@ -26,6 +28,9 @@ pub fn work_shown(
         }
         [kind, topology] if kind.as_str() == "heard" => {
             Ok(Some(heard_shown(alloc, topology.as_str(), files)?))
+        }
+        [kind, topology, given] if kind.as_str() == "held" => {
+            Ok(Some(held_shown(alloc, topology.as_str(), given.as_str(), files)?))
         }
         [kind, topology, given] if kind.as_str() == "made" => {
             Ok(Some(made_shown(alloc, topology.as_str(), given.as_str(), files)?))

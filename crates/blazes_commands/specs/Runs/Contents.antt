@@ -8,9 +8,9 @@ use Rattle.inbox.specs.Folds.{fold_rows}
 use Rattle.inbox.specs.OrderReplicas.{most_taken}
 use Rattle.inbox.specs.Wiring.{wiring_of}
 use Rattle.report_print.specs.RunText.{run_text}
-use Rattle.sched_run.specs.Net.{BooksStand, execution_in}
-use Rattle.sched_run.specs.declared.books.Books.{Books}
-use Rattle.sched_run.specs.Reading.{IsOrdered}
+use Rattle.sched_net.specs.Net.{BooksStand, execution_in}
+use Rattle.sched_net.specs.declared.books.Books.{Books}
+use Rattle.sched_net.specs.Reading.{IsOrdered}
 use Rattle.topo_forms.specs.Data.{Data}
 use Rattle.topo_forms.specs.View.{View}
 use Rattle.command_checks.specs.Reply.{Answer}

@@ -5,11 +5,11 @@ ghost use Rattle.bloom_forms.specs.declared.module.Kind.TheVariants.{Input, Tabl
 ghost use Rattle.bloom_forms.specs.Program.{columns_of_kind};
 ghost use Rattle.bloom_forms.specs.Step.{set_at, rows_named, rules_at};
 ghost use Rattle.bloom_eval.specs.Code.Held.{sets_in};
-ghost use Rattle.bloom_eval.specs.Code.NumberedRows.{numbered_rows, numbered_sets, TestsFit};
-ghost use Rattle.bloom_eval.specs.Code.Counted.{AddsRows, Adds, TakesHead};
+ghost use Rattle.bloom_eval.specs.NumberedRows.{numbered_rows, numbered_sets, TestsFit};
+ghost use Rattle.bloom_eval.specs.Counted.{AddsRows, Adds, TakesHead};
 ghost use Rattle.bloom_forms.specs.Widths.{AreSetsOf};
 ghost use Rattle.bloom_eval.specs.StepAnswers.{IsRunnable, StepGives};
-ghost use Rattle.bloom_eval.specs.Code.Taken.{AreSetsOfAll, AreBegun, TakesHeads};
+ghost use Rattle.bloom_eval.specs.Taken.{AreSetsOfAll, AreBegun, TakesHeads};
 
 use crate::begin::begin;
 use crate::evaluate::evaluate;

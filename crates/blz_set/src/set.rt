@@ -7,7 +7,7 @@ ghost use Rattle.blz_value.specs.Test.{test_holds, TestFits};
 ghost use Rattle.blz_value.specs.Operators.{select_rows, project_rows, join_rows, notin_rows};
 ghost use Rattle.blz_value.specs.Groups.{group_rows, at_least_rows};
 ghost use Rattle.blz_set.specs.RecordSet.{IsRecordSet};
-ghost use Rattle.blz_set.specs.Code.Missing.{has_row, missing_from};
+ghost use Rattle.blz_set.specs.Missing.{has_row, missing_from};
 ghost use Rattle.blz_set.specs.References.{shown};
 ghost use Rattle.blz_set.specs.Answers.{Gives, Becomes};
 

@@ -21,7 +21,7 @@ use Rattle.messages.specs.Lists.{read_lists, list_at}
 use Rattle.sched_net.specs.Net.{Stands, execution_in}
 use Rattle.inbox.specs.Outlets.{ShowsOutlets, outlets_for}
 use Rattle.inbox.specs.Places.{instance_place}
-use Rattle.inbox.specs.Code.Running.{EmitsAt, MeetsAt, IsCourseOf, outputs_of_outlets}
+use Rattle.inbox.specs.Running.{EmitsAt, MeetsAt, IsCourseOf, outputs_of_outlets}
 use Rattle.sched_net.specs.declared.books.Books.{Books}
 use Rattle.messages.proofs.ListsLemmas.{length-read_lists}
 use Rattle.sched_net.proofs.OwnOutlets.{outlets_are, outlets_there}

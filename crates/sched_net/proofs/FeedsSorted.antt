@@ -19,7 +19,7 @@ use Rattle.blz_value.specs.NumberSets.{below}
 use Rattle.blz_value.proofs.Booleans.{same_truth}
 use Rattle.blz_value.proofs.Lists.{is_eq-then}
 use Rattle.topo_forms.specs.View.{View, port_numbers, streams_to, stream_replicas}
-use Rattle.inbox.specs.Code.Senders.{is_sender, senders_for}
+use Rattle.inbox.specs.Senders.{is_sender, senders_for}
 use Rattle.inbox.specs.Wiring.{feeds_for}
 use Rattle.inbox.proofs.SendersLemmas.{feeds_sent}
 use Rattle.sched_net.specs.Code.Parts.{feed_cmp, FeedsRise}

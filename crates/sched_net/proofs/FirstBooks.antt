@@ -28,7 +28,7 @@ use Rattle.sched_net.specs.Net.{ShowLogs, Stands}
 use Rattle.inbox.specs.Places.{ArePlaces, instance_place, instance_count}
 use Rattle.sched_net.specs.Shown.{ShowsSeats}
 use Rattle.sched_net.specs.Code.First.{AreFirst, AllHaveBodies, StandFirst}
-use Rattle.inbox.specs.Code.Sources.{SourcesEmitted}
+use Rattle.inbox.specs.Sources.{SourcesEmitted}
 use Rattle.sched_net.specs.declared.books.Books.{Books}
 use Rattle.inbox.proofs.PlacesLemmas.{place-before}
 use Rattle.sched_net.proofs.ShellsLemmas.{component_at_place, many_components}

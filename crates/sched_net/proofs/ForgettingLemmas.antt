@@ -28,7 +28,7 @@ use Rattle.inbox.specs.Places.{ArePlaces, instance_place}
 use Rattle.inbox.specs.Outlets.{outlets_for}
 use Rattle.sched_net.specs.Seated.{with_seat}
 use Rattle.sched_net.specs.Shown.{ShowsSeats}
-use Rattle.sched_net.specs.Code.Taking.{EarForgets, OneForgets}
+use Rattle.sched_net.specs.Taking.{EarForgets, OneForgets}
 use Rattle.sched_net.specs.declared.books.Books.{Books}
 use Rattle.sched_net.specs.declared.fault.ForgetFault.TheVariants.{NoInstance}
 use Rattle.sched_net.specs.declared.seated.Ear.{Ear}

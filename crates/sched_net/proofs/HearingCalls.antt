@@ -25,7 +25,7 @@ use Rattle.sched_net.specs.Net.{Runs, BooksStand, Stands, execution_in}
 use Rattle.inbox.specs.Outlets.{OthersStay, outlets_for}
 use Rattle.inbox.specs.Places.{instance_place}
 use Rattle.sched_net.specs.Code.Hearing.{OneHears, IsHearingOf, HearingAnswers, HearingLeaves}
-use Rattle.inbox.specs.Code.Running.{EmitsAt, MeetsAt}
+use Rattle.inbox.specs.Running.{EmitsAt, MeetsAt}
 use Rattle.sched_net.specs.Code.Parts.{HaveIndexes, hears_itself}
 use Rattle.sched_net.specs.declared.books.Books.{Books}
 use Rattle.inbox.specs.declared.outlets.Outlet.{Outlet}

@@ -40,7 +40,7 @@ use Rattle.inbox.specs.Places.{ArePlaces, instance_place, instance_count, list_c
 use Rattle.inbox.specs.Outlets.{OthersStay, ShowsOutlets, outlets_for}
 use Rattle.sched_net.specs.Seated.{with_seat}
 use Rattle.sched_net.specs.Code.Hearing.{EarCanHear, SeatHears, OneHears, IsHearingOf}
-use Rattle.inbox.specs.Code.Running.{EmitsAt, MeetsAt, Emits, IsCourseOf, HasEmitted, outputs_of_outlets}
+use Rattle.inbox.specs.Running.{EmitsAt, MeetsAt, Emits, IsCourseOf, HasEmitted, outputs_of_outlets}
 use Rattle.sched_net.specs.Code.Parts.{HaveIndexes, hears_itself}
 use Rattle.sched_net.specs.declared.books.Books.{Books}
 use Rattle.inbox.specs.declared.outlets.Outlet.{Outlet}

@@ -34,7 +34,7 @@ use Rattle.inbox.specs.Places.{ArePlaces}
 use Rattle.sched_net.specs.Shown.{ShowsSeats}
 use Rattle.sched_net.specs.Code.Hearing.{EventLeavesOpen}
 use Rattle.sched_net.specs.Code.Parts.{PairAnswers}
-use Rattle.sched_net.specs.Code.Taking.{has_log, log_with, LogGets}
+use Rattle.sched_net.specs.Taking.{has_log, log_with, LogGets}
 use Rattle.sched_net.specs.declared.books.Books.{Books}
 use Rattle.messages.specs.declared.fault.EventFault.{EventFault}
 use Rattle.messages.specs.declared.fault.EventFault.TheVariants.{NoInstance, NoMessage, NothingToTake, TooManyRows, TooManyMessages, NoMemory}

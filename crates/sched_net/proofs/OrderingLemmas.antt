@@ -32,8 +32,8 @@ use Rattle.sched_net.specs.Net.{Stands, BooksStand, ShowsSeat, ShowsEar, ShowSea
 use Rattle.inbox.specs.Places.{ArePlaces, instance_place}
 use Rattle.inbox.specs.Outlets.{OthersStay, outlets_for}
 use Rattle.sched_net.specs.Seated.{with_seat}
-use Rattle.inbox.specs.Code.Running.{EmitsAt, MeetsAt}
-use Rattle.sched_net.specs.Code.Taking.{takes_itself, taken_in, IsNext, entry_sets_off, EarChanges, took_one}
+use Rattle.inbox.specs.Running.{EmitsAt, MeetsAt}
+use Rattle.sched_net.specs.Taking.{takes_itself, taken_in, IsNext, entry_sets_off, EarChanges, took_one}
 use Rattle.sched_net.specs.declared.books.Books.{Books}
 use Rattle.sched_net.specs.declared.seated.Ear.{Ear}
 use Rattle.sched_net.specs.declared.seated.Ear.TheVariants.{Hears, Takes}

@@ -15,7 +15,7 @@ use Rattle.inbox.specs.Emission.{output_key}
 use Rattle.inbox.specs.Wiring.{carried_places, instance_for, wiring_of}
 use Rattle.inbox.proofs.WiringLemmas.{get_or-below, length-below}
 use Rattle.inbox.specs.Limits.{output_from, outputs_from}
-use Rattle.inbox.specs.Code.Running.{outputs_of_outlets}
+use Rattle.inbox.specs.Running.{outputs_of_outlets}
 use Rattle.inbox.specs.Outlets.{AreApart, output_number, outlet_for, outlets_for}
 use Rattle.inbox.specs.Places.{list_place, list_count}
 use Rattle.inbox.specs.declared.outlets.Outlet.{Outlet}

@@ -30,7 +30,7 @@ use Rattle.messages.specs.Lists.{list_at, total}
 use Rattle.inbox.specs.Outlets.{ShowsOutlets, own_messages, output_number, outlet_for, outlets_for}
 use Rattle.inbox.specs.Places.{places_before, instance_place, list_place}
 use Rattle.sched_net.specs.Shown.{ShowsSeats}
-use Rattle.inbox.specs.Code.Running.{StandingIsEmitted, IsCourseOf, HaveOwnKeys}
+use Rattle.inbox.specs.Running.{StandingIsEmitted, IsCourseOf, HaveOwnKeys}
 use Rattle.inbox.specs.declared.outlets.Outlet.{Outlet}
 use Rattle.inbox.proofs.Emitting.{proper_stands, standing_is_emitted}
 use Rattle.inbox.proofs.OutletsLemmas.{own-shown, own_at_most}

@@ -24,9 +24,9 @@ use Rattle.sched_net.specs.Net.{Stands, Runs, EventAnswers, execution_in}
 use Rattle.inbox.specs.Outlets.{OthersStay, outlets_for}
 use Rattle.inbox.specs.Places.{instance_place}
 use Rattle.sched_net.specs.Code.Hearing.{EventLeavesOpen}
-use Rattle.inbox.specs.Code.Running.{EmitsAt, MeetsAt}
+use Rattle.inbox.specs.Running.{EmitsAt, MeetsAt}
 use Rattle.messages.specs.Faults.{IsLegal}
-use Rattle.sched_net.specs.Code.Taking.{takes_itself, taken_in, IsNext, entry_sets_off, EarChanges, took_one}
+use Rattle.sched_net.specs.Taking.{takes_itself, taken_in, IsNext, entry_sets_off, EarChanges, took_one}
 use Rattle.sched_net.specs.declared.books.Books.{Books}
 use Rattle.messages.specs.declared.fault.EventFault.{EventFault}
 use Rattle.messages.specs.declared.fault.EventFault.TheVariants.{NoInstance, NoMessage, NothingToTake, TooManyRows, TooManyMessages, NoMemory}

@@ -1,7 +1,6 @@
 -- What private functions give.
 pub mod Stepping
 pub mod Parts
-pub mod Taking
 pub mod Hearing
 pub mod First
 pub mod Remaining

@@ -12,4 +12,5 @@ pub mod Lent
 pub mod StepReading
 pub mod Steps
 pub mod ScheduleLines
+pub mod Taking
 pub mod Code

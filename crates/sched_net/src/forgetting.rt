@@ -6,7 +6,7 @@ ghost use Rattle.inbox.specs.Events.{forget};
 ghost use Rattle.sched_net.specs.Forgetting.{ForgetAnswers, ForgetLeaves};
 ghost use Rattle.sched_net.specs.Net.{Runs};
 ghost use Rattle.sched_net.specs.Numbered.{component_number};
-ghost use Rattle.sched_net.specs.Code.Taking.{OneForgets};
+ghost use Rattle.sched_net.specs.Taking.{OneForgets};
 
 use crate::fault::ForgetFault;
 use crate::net::Net;

@@ -14,8 +14,8 @@ ghost use Rattle.sched_net.specs.Net.{Runs, BooksRun, EventAnswers, EventLeaves,
 ghost use Rattle.inbox.specs.Outlets.{OthersStay};
 ghost use Rattle.messages.specs.Faults.{IsLegal};
 ghost use Rattle.sched_net.specs.Code.Hearing.{EventLeavesOpen, BooksLeaveOpen};
-ghost use Rattle.inbox.specs.Code.Running.{EmitsAt, MeetsAt};
-ghost use Rattle.sched_net.specs.Code.Taking.{takes_itself, took_one, IsNext, HasTakenFew, entry_sets_off, EarChanges, has_log, LogGets};
+ghost use Rattle.inbox.specs.Running.{EmitsAt, MeetsAt};
+ghost use Rattle.sched_net.specs.Taking.{takes_itself, took_one, IsNext, HasTakenFew, entry_sets_off, EarChanges, has_log, LogGets};
 ghost use Rattle.messages.specs.declared.fault.EventFault.TheVariants.{TooManyRows, TooManyMessages};
 
 use crate::books::Books;

@@ -1,6 +1,6 @@
 //! The books of one instance.
 ghost use Rattle.std.specs.Prelude.{◌≡◌, ◌+◌, ◌<◌, ◌^◌};
-ghost use Rattle.sched_net.specs.Code.Taking.{taken_in, took_one, EarForgets};
+ghost use Rattle.sched_net.specs.Taking.{taken_in, took_one, EarForgets};
 
 use blz_value::Items;
 use inbox::{Feed, Inbox, Outlet};

@@ -1,5 +1,5 @@
 //! Reading steps: the lines of a schedule, and those by which an instance forgets.
-ghost use Rattle.sched_text.specs.Code.Given.{GivesAll};
+ghost use Rattle.sched_text.specs.Given.{GivesAll};
 ghost use Rattle.sched_net.specs.StepReading as spec;
 
 use crate::step::Step;

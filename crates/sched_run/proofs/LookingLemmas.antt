@@ -34,7 +34,7 @@ use Rattle.messages.specs.Known.{is_known}
 use Rattle.sched_net.specs.Net.{BooksStand, ShowsEar, ShowsInbox, execution_in, list_on}
 use Rattle.inbox.specs.Places.{instance_place}
 use Rattle.sched_net.specs.Seen.{list_seen}
-use Rattle.sched_net.specs.Code.Taking.{taken_in}
+use Rattle.sched_net.specs.Taking.{taken_in}
 use Rattle.sched_net.specs.declared.books.Books.{Books}
 use Rattle.sched_net.specs.declared.seated.Ear.{Ear}
 use Rattle.sched_net.specs.declared.seated.Ear.TheVariants.{Hears, Takes}

@@ -3,7 +3,7 @@ ghost use Rattle.std.specs.Prelude.{◌≡◌, ◌∷◌, ◌≤◌, [], ℕ, Li
 ghost use Rattle.std.specs.List.{prefix_len};
 ghost use Rattle.sched_text.specs.Lines as spec;
 ghost use Rattle.sched_text.specs.Reading.{LineReading, GivesEntries};
-ghost use Rattle.sched_text.specs.Code.Given.{GivesLine};
+ghost use Rattle.sched_text.specs.Given.{GivesLine};
 
 use crate::fault::{LineFault, ScheduleFault};
 use memchr::memchr;

@@ -1,7 +1,7 @@
 use Rattle.std.proofs.Common.{◌∙◌, ap, sym, subst}
 use Rattle.inbox.specs.Events.{Part, order}
 use Rattle.sched_net.specs.Net.{EventAnswers}
-use Rattle.sched_net.specs.Code.Taking.{LogGets}
+use Rattle.sched_net.specs.Taking.{LogGets}
 use Rattle.messages.proofs.FaultLemmas.{handed_on}
 use Rattle.sched_net.proofs.LoggingLemmas.{answers_unlogged, logging_refused, answers_logged, leaves_logged}
 use Rattle.sched_net.proofs.books.Books.order_next.Goals as goal

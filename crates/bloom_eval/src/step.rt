@@ -110,8 +110,8 @@ fn take_heads(
 }
 
 /// One step of a module that was checked: `kept` becomes the new tables, and the answer is the outputs.
-/// TooManyRows comes exactly where a table after the step, a scratch, an output, or an expression or a
-/// part of one in a rule has more than 262,144 rows in this step. After a fault `kept` has one set for
+/// TooManyRows comes exactly where one of these has more than 262,144 rows in this step: a new table, a
+/// scratch, an output, the body of a rule or some part of it. After a fault `kept` has one set for
 /// each table, with rows of its width, and nothing else is said of it.
 pub fn step_plain(
     alloc: Global,

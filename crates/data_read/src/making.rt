@@ -90,7 +90,7 @@ fn sources_of(
 ///
 /// TooMany comes where there are more than 65,536 rows and parts, repeats included, with the source at
 /// which they pass this number. FdBroken comes else for the first dependency that is broken, with the
-/// first record that disagrees with an earlier one and the earliest such.
+/// first record that breaks it beside one before, and the earliest of those.
 pub fn of_lists(
     alloc: Global,
     valid: &Valid,

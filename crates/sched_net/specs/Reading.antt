@@ -52,7 +52,7 @@ pub record IsOrdered (v : View) (stream replica component output : ℕ) (program
   pub body : program_of v component ≡ Some program
   pub sends : replica < replicas_of v component
 
--- the rows are what the program puts out over the first entries of the log, as many as the replica took in the life in which it took most
+-- the rows are what the program gives over a beginning of the log, as far as the longest life of the replica came
 abbrev pub ReadInOrder : View → Books → (stream replica : ℕ) → List Row → Type 0
 ReadInOrder v b s r rows = (component output : ℕ) (program : Program) → IsOrdered v s r component output program
     → IsRead v b (λ given x. fold_rows program (take (most_taken (x.lives component r)) (x.logs component)) output) rows

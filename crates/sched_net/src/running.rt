@@ -38,7 +38,7 @@ fn take_step(net: &mut Net<'_>, step: &StepRef<'_>) -> Result<(), EventFault>
 }
 
 /// Applies steps, or events alone, in order, each with the number of its line, up to the first that is
-/// refused. Those before it were applied, and the net is as `event` or `forget` leaves it.
+/// refused. All before that stand, and the refused one left the net as its own call (`event`, `forget`) does.
 pub fn run<S: AsStep>(net: &mut Net<'_>, steps: &[(u32, S)]) -> Result<(), StepRefusal>
     requires runs { Runs net.old.valid.now.view (map (λ b. program b) net.old.shells.items) (map (λ b. kept b) net.old.shells.items) net.old.books }
 

@@ -8,8 +8,8 @@ use blz_value::{Record, copies_of};
 use std::alloc::AllocError;
 use std::marker::Model;
 
-/// What the sources of a topology hold: of each its distinct records and its distinct declared
-/// partitions, both in file order. They are at most 65,536 together.
+/// What the sources of a topology hold: of each the records and the declared partitions, each of these
+/// once, where it first stood. They are at most 65,536 together.
 #[derive(Drop)]
 pub struct Data {
     sources: Vec<SourceLists>,

@@ -10,23 +10,23 @@ use Rattle.command_checks.specs.Checks as check
 -- batches of tweets are split into words, three replicas count them, and three keep the counts
 abbrev pub topology_text : Bytes
 topology_text = codes "format = 1\n"
-  ++ codes "[[source]]\nname = \"tweets\"\ncolumns = [\"id\", \"text\", \"batch\"]\nseal = [\"batch\"]\nto = [\"split.in\"]\n"
-  ++ codes "[[component]]\nname = \"split\"\nstock = \"split\"\ncolumns = [\"id\", \"text\", \"batch\"]\nsplit = \"text\"\n"
-  ++ codes "[[component]]\nname = \"count\"\nmodule = \"count.bloom\"\nreplicas = 3\n"
-  ++ codes "[[component]]\nname = \"commit\"\nmodule = \"commit.bloom\"\nreplicas = 3\n"
-  ++ codes "[[stream]]\nname = \"words\"\nfrom = \"split.out\"\nto = [\"count.words\"]\n"
-  ++ codes "[[stream]]\nname = \"counts\"\nfrom = \"count.counts\"\nto = [\"commit.counts\"]\n"
-  ++ codes "[[stream]]\nname = \"commits\"\nfrom = \"commit.commits\"\n"
+    ++ codes "[[source]]\nname = \"tweets\"\ncolumns = [\"id\", \"text\", \"batch\"]\nseal = [\"batch\"]\nto = [\"split.in\"]\n"
+    ++ codes "[[component]]\nname = \"split\"\nstock = \"split\"\ncolumns = [\"id\", \"text\", \"batch\"]\nsplit = \"text\"\n"
+    ++ codes "[[component]]\nname = \"count\"\nmodule = \"count.bloom\"\nreplicas = 3\n"
+    ++ codes "[[component]]\nname = \"commit\"\nmodule = \"commit.bloom\"\nreplicas = 3\n"
+    ++ codes "[[stream]]\nname = \"words\"\nfrom = \"split.out\"\nto = [\"count.words\"]\n"
+    ++ codes "[[stream]]\nname = \"counts\"\nfrom = \"count.counts\"\nto = [\"commit.counts\"]\n"
+    ++ codes "[[stream]]\nname = \"commits\"\nfrom = \"commit.commits\"\n"
 
 -- the words of each batch are counted
 abbrev pub count_text : Bytes
 count_text = codes "module count_words;\ninput words(id, batch, at, word);\noutput counts(word, batch, n);\n"
-  ++ codes "table seen(id, batch, at, word);\nseen <= words;\ncounts <= group(seen, [word, batch], count as n);\n"
+    ++ codes "table seen(id, batch, at, word);\nseen <= words;\ncounts <= group(seen, [word, batch], count as n);\n"
 
 -- the counts are kept
 abbrev pub commit_text : Bytes
 commit_text = codes "module commit;\ninput counts(word, batch, n);\noutput commits(word, batch, n);\n"
-  ++ codes "table committed(word, batch, n);\ncommitted <= counts;\ncommits <= committed;\n"
+    ++ codes "table committed(word, batch, n);\ncommitted <= counts;\ncommits <= committed;\n"
 
 -- the built-in files by their names: the topology, and the modules of count and of commit; it names no others
 abbrev pub built_in : Bytes → Bytes

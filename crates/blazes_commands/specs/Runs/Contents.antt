@@ -26,7 +26,7 @@ IsStatusOf v given x status = ((status ≡ Done) × IsComplete (wiring_of v) giv
 abbrev pub TellsStatus : View → Books → Status → Type 0
 TellsStatus v b status = (given : Data) (steps : List Step) (stand : BooksStand v given steps b) → IsStatusOf v given (execution_in stand) status
 
--- the contents of each replica of an Order component are what its program puts out over the first entries of the log, as many as it took in the life in which it took most
+-- what each replica of an Order component has put out is what its program gives over a beginning of the log, as far as the longest of its lives came
 abbrev pub HasOrderReplicas : View → Data → Execution → Type 0
 HasOrderReplicas v given x = (stream replica component output : ℕ) (program : Program) → IsOrdered v stream replica component output program
     → contents (wiring_of v) given x stream replica ≡ fold_rows program (take (most_taken (x.lives component replica)) (x.logs component)) output

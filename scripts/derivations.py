@@ -2,11 +2,15 @@
 import re
 from collections import namedtuple
 
-from streams import LABEL, is_bad, labels_of
+from streams import LABEL, is_bad, labels_of, severity
 
 Use = namedtuple("Use", "stream label port note rule")
 Output = namedtuple("Output", "stream label uses is_ordered")
 Component = namedtuple("Component", "name mode replicas paths outputs cycle")
+
+# An output at which a bad label begins: the uses that make it bad, none where a sequencer does, and the streams that
+# come in beside them and are as bad by themselves.
+Beginning = namedtuple("Beginning", "component output uses beside")
 
 NOTE = r"(C[RW]|O[RW]\[.*?\])"
 COMPONENT = re.compile(r"component (\w+) (\w+(?:\[.*?\])?) (\d+)$")
@@ -40,19 +44,33 @@ class Derivation:
         """The paths of a component: port, output and note."""
         return next(it.paths for it in self.components if it.name == name)
 
-    def beginning(self):
-        """The first component and output with a bad label that begins there, and the use that makes it bad; or
-        nothing where no label is bad. The use is missing where a sequencer makes it."""
-        bad = [(component, output) for component in self.components for output in component.outputs if is_bad(output.label)]
-        for is_first in (True, False):
-            for component, output in bad:
-                causes = [it for it in output.uses if it.rule != "kept"]
-                if is_first and any(is_bad(it.label) for it in output.uses if it.stream not in self.sent_by(component)):
-                    continue
-                if causes or output.is_ordered:
-                    worst = [it for it in causes if it.rule != "rule 5"] or causes
-                    return component, output, (worst or [None])[0]
-        return None
+    def beginnings(self):
+        """Each output at which a bad label begins, those first into which nothing bad comes. A cycle has one label, so
+        its first output stands for all."""
+        found, cycles = [], []
+        for component, output in self.bad_outputs():
+            causes, beside = self.causes(component, output)
+            if (causes or output.is_ordered) and component.cycle not in cycles:
+                found.append(Beginning(component, output, causes, beside))
+            cycles += [component.cycle] if component.cycle else []
+        return sorted(found, key=self.comes_from_further_up)
+
+    def bad_outputs(self):
+        return [(component, output) for component in self.components for output in component.outputs if is_bad(output.label)]
+
+    @staticmethod
+    def causes(component, output):
+        """The uses that make a label bad, but for those over which it came in; and the streams that came in as bad.
+        A seal that helps is a cause only where there is no other."""
+        made = [it for it in output.uses if it.rule not in ("kept", "rule 5")]
+        beside = [it.stream for it in output.uses if it.rule == "kept" and severity(it.label) == severity(output.label)]
+        spoilt = [] if beside else [it for it in output.uses if it.rule == "rule 5"]
+        return made or spoilt, list(dict.fromkeys(beside))
+
+    def comes_from_further_up(self, beginning):
+        """How little a beginning has to do with it that its label is bad: something bad comes in, or something as bad."""
+        outside = [it.label for it in beginning.output.uses if it.stream not in self.sent_by(beginning.component)]
+        return bool(beginning.beside), any(map(is_bad, outside))
 
     def sent_by(self, component):
         """The streams of the members of a component's cycle."""

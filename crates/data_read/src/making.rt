@@ -30,7 +30,7 @@ fn upheld(alloc: Global, valid: &Valid, sources: &[SourceLists]) -> Result<(), D
     }
 }
 
-#[tactic(auto, unfolding(crate::specs::Making::data_from), using(crate::proofs::MakingLemmas::few_lists, crate::proofs::MakingLemmas::few_distinct, crate::proofs::CountingLemmas::few_once))]
+#[tactic(auto, unfolding(crate::specs::Making::data_from), using(crate::proofs::MakingLemmas::few_lists, crate::proofs::MakingLemmas::few_distinct, crate::proofs::CountingLemmas::few_once, crate::proofs::CountingLemmas::apart_once))]
 fn made_of(alloc: Global, valid: &Valid, sources: Vec<SourceLists>) -> Result<Data, DataFault>
     requires { IsData valid.now.view sources.items }
     ensures { Gives (λ d. d) result (data_from valid.now.view sources.items) }

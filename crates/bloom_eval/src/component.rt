@@ -11,7 +11,7 @@ ghost use Rattle.bloom_eval.specs.Kind.{kind_of};
 ghost use Rattle.bloom_eval.specs.Step.{Arrive, AreTables, nothing_kept, tables_next, outs_next, outs_still, counted_next};
 ghost use Rattle.bloom_eval.specs.Changes.{AreChanges};
 ghost use Rattle.bloom_eval.specs.Arrivals.{timestep_of};
-ghost use Rattle.bloom_eval.specs.Puts.{ArePutFrom, puts_in};
+ghost use Rattle.bloom_eval.specs.Puts.{ArePutOf, puts_in};
 ghost use Rattle.blz_pool.specs.Entries.{entries_with_ids};
 
 use crate::arriving::timestep;
@@ -64,7 +64,7 @@ pub trait Component: Drop {
 
     /// Makes one step, as `step` does, over the records with the ids of some entries, each at the port with
     /// its number, of so many. `puts` becomes what it puts out, but may lack rows that the tables of before already
-    /// give, with nothing arriving.
+    /// give, with nothing arriving. An id in it is that of an entry.
     fn step_by_ids(
         &mut self,
         alloc: Global,
@@ -80,7 +80,7 @@ pub trait Component: Drop {
         ensures loaded { program self.new ≡ program self.old }
         ensures kept { OnOk result (kept self.new ≡ tables_next (program self.old) (kept self.old) (timestep_of ports (entries_with_ids pool.now entries.now))) }
         ensures outs { OnOk result (AreChanges (outs_next (program self.old) (kept self.old) (timestep_of ports (entries_with_ids pool.now entries.now))) (outs_still (program self.old) (kept self.old)) (puts_in pool.now puts.new)) }
-        ensures ids { OnOk result (ArePutFrom pool.now puts.new) }
+        ensures ids { OnOk result (ArePutOf entries.now puts.new) }
         ensures few { OnOk result (AllFit (counted_next (program self.old) (kept self.old) (timestep_of ports (entries_with_ids pool.now entries.now)))) }
         ensures too_many { result ≡ Err TooManyRows → SomeIsOver (counted_next (program self.old) (kept self.old) (timestep_of ports (entries_with_ids pool.now entries.now))) }
         ensures tables { AreTables (program self.new) (kept self.new) }

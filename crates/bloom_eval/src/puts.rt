@@ -1,7 +1,8 @@
 //! What a step puts out, where a record that arrived is known by its id.
 ghost use Rattle.std.specs.Prelude.{◌≡◌, ◌++◌, ◌∷◌, [], List, OnOk};
+ghost use Rattle.blz_pool.specs.Entries.{EntryId};
 ghost use Rattle.blz_value.specs.Record.{Row};
-ghost use Rattle.bloom_eval.specs.Puts.{ArePutFrom, puts_in};
+ghost use Rattle.bloom_eval.specs.Puts.{ArePutOf, puts_in};
 
 use crate::sets::Outs;
 use blz_pool::Id;
@@ -68,7 +69,7 @@ impl Puts {
     /// Puts these sets out. The error is want of memory.
     pub fn put_sets(&mut self, outs: Outs) -> Result<(), AllocError>
         ensures rows { OnOk result ((records : List Row) → puts_in records self.new ≡ outs) }
-        ensures ids { OnOk result ((records : List Row) → ArePutFrom records self.new) }
+        ensures ids { OnOk result ((entries : List EntryId) → ArePutOf entries self.new) }
     {
         self.clear();
         for set in outs.into_sets() {

@@ -1,5 +1,5 @@
 -- What arrives where one record does, and what a step puts out of it.
-use Rattle.std.proofs.Common.{◌≡◌, ◌∙◌, ℕ, ◌==◌, ◌<◌, ◌≤◌, Bool, true, false, cond, List, [], ◌∷◌, length, get_or, map, filter, Some, Result, Ok, Err, refl, ap, sym, subst, arith}
+use Rattle.std.proofs.Common.{◌≡◌, ◌∙◌, ℕ, ◌==◌, ◌<◌, ◌≤◌, Bool, true, false, cond, List, [], ◌∷◌, length, get_or, map, filter, Some, Result, Ok, Err, refl, ap, sym, subst, inl, arith}
 use Rattle.std.specs.Prelude.{slice_get}
 use Rattle.std.specs.Result.{IsErrAnd}
 use Rattle.std.specs.List.{All}
@@ -14,6 +14,8 @@ use Rattle.bloom_eval.specs.Arrivals.{timestep_of}
 use Rattle.bloom_eval.specs.declared.fault.StepFault.{StepFault}
 use Rattle.bloom_eval.specs.declared.fault.StepFault.TheVariants.{TooManyRows, NoMemory}
 use Rattle.bloom_eval.specs.declared.puts.Put.{Put}
+use Rattle.bloom_eval.specs.declared.puts.Put.TheVariants.{Arrived}
+use Rattle.bloom_eval.specs.Puts.{IsPutOf}
 use Rattle.bloom_eval.specs.StepAnswers.{SomeIsOver, counted_sets}
 use Rattle.bloom_index.specs.declared.step.Parts.{Parts}
 use Rattle.bloom_index.specs.Code.Steps.{StepsTo}
@@ -51,15 +53,15 @@ one_entry ports port id records row entries is same =
     ap (λ (r : Row). timestep_of ports ((port, r) ∷ [])) same ∙ ap (λ (l : List EntryId). timestep_of ports (entries_with_ids records l)) (sym is)
 
 -- a fault of a step
-pub step_fault_on : (a : Accepted) (tables : Sets) (after : Parts) (now : Sets) (records : List Row) (puts : List Put) (r : Result (Unit {0}) StepFault) (fault : StepFault) → IsErrAnd r (λ d. d ≡ fault) → (fault ≡ TooManyRows → SomeIsOver (counted_sets a tables now)) → StepsTo a tables after now records puts r
-step_fault_on a tables after now records puts (Ok x) fault is over = absurd is
-step_fault_on a tables after now records puts (Err TooManyRows) fault is over = over (sym is)
-step_fault_on a tables after now records puts (Err NoMemory) fault is over = tt
+pub step_fault_on : (a : Accepted) (tables : Sets) (after : Parts) (now : Sets) (records : List Row) (entries : List EntryId) (puts : List Put) (r : Result (Unit {0}) StepFault) (fault : StepFault) → IsErrAnd r (λ d. d ≡ fault) → (fault ≡ TooManyRows → SomeIsOver (counted_sets a tables now)) → StepsTo a tables after now records entries puts r
+step_fault_on a tables after now records entries puts (Ok x) fault is over = absurd is
+step_fault_on a tables after now records entries puts (Err TooManyRows) fault is over = over (sym is)
+step_fault_on a tables after now records entries puts (Err NoMemory) fault is over = tt
 
 -- a fault that is handed on is TooManyRows where a set is too large
-pub stepped_over : (X : Type 0) (a : Accepted) (tables : Sets) (after : Parts) (now : Sets) (records : List Row) (puts : List Put) (fault : StepFault) (r : Result X StepFault) → IsErrAnd r (λ d. d ≡ fault) → r ≡ Err TooManyRows → StepsTo a tables after now records puts (Err fault) → SomeIsOver (counted_sets a tables now)
-stepped_over X a tables after now records puts TooManyRows r is many over = over
-stepped_over X a tables after now records puts NoMemory r is many over = absurd (other r is many)
+pub stepped_over : (X : Type 0) (a : Accepted) (tables : Sets) (after : Parts) (now : Sets) (records : List Row) (entries : List EntryId) (puts : List Put) (fault : StepFault) (r : Result X StepFault) → IsErrAnd r (λ d. d ≡ fault) → r ≡ Err TooManyRows → StepsTo a tables after now records entries puts (Err fault) → SomeIsOver (counted_sets a tables now)
+stepped_over X a tables after now records entries puts TooManyRows r is many over = over
+stepped_over X a tables after now records entries puts NoMemory r is many over = absurd (other r is many)
   where
     other : (r : Result X StepFault) → IsErrAnd r (λ d. d ≡ NoMemory) → r ≡ Err TooManyRows → ⊥
     other (Ok x) is many = is
@@ -83,3 +85,7 @@ lone_entry (x ∷ y ∷ entries) entry least below at = absurd (omega (arith, be
 
 pub lone_given : (entries : List EntryId) (entry : EntryId) (count : ℕ) → entries ≡ entry ∷ [] → All (λ e. e.1 < count) entries → entry.1 < count
 lone_given entries entry count is given = (subst (λ (l : List EntryId). All (λ e. e.1 < count) l) is given) 0 entry (omega arith)
+
+-- and its id
+pub lone_put : (entries : List EntryId) (entry : EntryId) → entries ≡ entry ∷ [] → IsPutOf entries (Arrived entry.1)
+lone_put entries entry is = subst (λ (l : List EntryId). IsPutOf l (Arrived entry.1)) (sym is) (inl refl)

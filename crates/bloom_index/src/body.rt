@@ -10,7 +10,7 @@ ghost use Rattle.bloom_forms.specs.Step.{set_at, sets_of_kind, tables_after, out
 ghost use Rattle.bloom_forms.specs.Widths.{AreSetsOf};
 ghost use Rattle.bloom_eval.specs.Arrivals.{timestep_of};
 ghost use Rattle.bloom_eval.specs.Finish.{placed};
-ghost use Rattle.bloom_eval.specs.Puts.{puts_in, ArePutFrom};
+ghost use Rattle.bloom_eval.specs.Puts.{puts_in, ArePutOf};
 ghost use Rattle.bloom_eval.specs.declared.fault.StepFault.TheVariants.{TooManyRows};
 ghost use Rattle.bloom_eval.specs.StepAnswers.{AllFit, SomeIsOver, counted_sets};
 ghost use Rattle.bloom_index.specs.Code.Kept.{tables_in, kept_tables, PartsStand, KeptStands, PutsOut};
@@ -183,7 +183,7 @@ impl IndexBody {
         ensures program { self.new.program ≡ self.old.program }
         ensures kept { OnOk result (kept_tables self.new.program self.new.parts ≡ tables_after self.old.program (kept_tables self.old.program self.old.parts) (timestep_of ports (entries_with_ids pool.now entries.now))) }
         ensures outs { OnOk result (PutsOut self.old.program (kept_tables self.old.program self.old.parts) (timestep_of ports (entries_with_ids pool.now entries.now)) (puts_in pool.now puts.new)) }
-        ensures ids { OnOk result (ArePutFrom pool.now puts.new) }
+        ensures ids { OnOk result (ArePutOf entries.now puts.new) }
         ensures few { OnOk result (AllFit (counted_sets self.old.program (kept_tables self.old.program self.old.parts) (timestep_of ports (entries_with_ids pool.now entries.now)))) }
         ensures too_many { result ≡ Err TooManyRows → SomeIsOver (counted_sets self.old.program (kept_tables self.old.program self.old.parts) (timestep_of ports (entries_with_ids pool.now entries.now))) }
         ensures wide { AreSetsOf (columns_of_kind Table self.new.program.form.collections) (kept_tables self.new.program self.new.parts) }

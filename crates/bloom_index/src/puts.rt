@@ -1,11 +1,10 @@
 //! What a step puts out: of each output the rows that it has, or the id of the record that arrived.
-ghost use Rattle.std.specs.Prelude.{◌≡◌, ◌<◌, ◌∷◌, ◌++◌, [], length, slice_set, IsTrue, IfOk, OnOk};
-ghost use Rattle.std.specs.Option.{ForSome};
+ghost use Rattle.std.specs.Prelude.{◌≡◌, ◌<◌, ◌∷◌, ◌++◌, [], length, slice_set, All, IsTrue, IfOk, OnOk};
 ghost use Rattle.blz_pool.specs.Entries.{row_with_id};
 ghost use Rattle.bloom_forms.specs.declared.module.Kind.TheVariants.{Output};
 ghost use Rattle.bloom_forms.specs.Step.{set_at, sets_of_kind};
 ghost use Rattle.bloom_eval.specs.Finish.{placed};
-ghost use Rattle.bloom_eval.specs.Puts.{put_rows, puts_in, IsPutFrom, ArePutFrom};
+ghost use Rattle.bloom_eval.specs.Puts.{put_rows, puts_in, IsPutOf, ArePutOf};
 ghost use Rattle.bloom_parts.specs.Turns.{rows_in};
 ghost use Rattle.bloom_index.specs.Code.StepSets.{held_sets};
 
@@ -41,21 +40,23 @@ fn is_arrived(rows: &Rows<'_, '_>, pool: &Pool, id: &Id) -> bool
     }
 }
 
-// What an output with these rows puts out: where they are the one record that arrived, its id.
+// What an output with these rows puts out: where they are one record that arrived alone, its id.
 fn put_of(
     alloc: Global,
     rows: Rows<'_, '_>,
     pool: &Pool,
-    arrived: Option<&Id>,
+    entries: &[(u32, Id)],
 ) -> Result<Put, AllocError>
-    requires { ForSome arrived (λ id. id.now < length pool.now) }
+    requires { All (λ entry. entry.1 < length pool.now) entries.now }
     ensures rows { IfOk result (λ put. put_rows pool.now put ≡ rows_in rows.entry) }
-    ensures id { IfOk result (IsPutFrom pool.now) }
+    ensures id { IfOk result (IsPutOf entries.now) }
 {
-    match arrived {
-        Some(id) if is_arrived(&rows, pool, id) => Ok(Put::Arrived(*id)),
-        _ => Ok(Put::Rows(rows.into_set(alloc)?)),
+    if let [entry] = entries {
+        if is_arrived(&rows, pool, &entry.1) {
+            return Ok(Put::Arrived(entry.1));
+        }
     }
+    Ok(Put::Rows(rows.into_set(alloc)?))
 }
 
 // Puts out what a collection has, where it is an output.
@@ -64,37 +65,37 @@ fn push_put(
     kind: Kind,
     rows: Rows<'_, '_>,
     pool: &Pool,
-    arrived: Option<&Id>,
+    entries: &[(u32, Id)],
     puts: &mut Puts,
 ) -> Result<(), AllocError>
-    requires { ForSome arrived (λ id. id.now < length pool.now) }
+    requires { All (λ entry. entry.1 < length pool.now) entries.now }
     ensures rows { OnOk result (puts_in pool.now puts.new ≡ puts_in pool.now puts.old ++ placed Output kind (rows_in rows.entry)) }
-    ensures ids { OnOk result (ArePutFrom pool.now puts.old → ArePutFrom pool.now puts.new) }
+    ensures ids { OnOk result (ArePutOf entries.now puts.old → ArePutOf entries.now puts.new) }
 {
     if kind == Kind::Output {
-        puts.push(put_of(alloc, rows, pool, arrived)?)?;
+        puts.push(put_of(alloc, rows, pool, entries)?)?;
     }
     Ok(())
 }
 
-/// Makes `puts` what the outputs have, where a record arrived alone by its id.
+/// Makes `puts` what the outputs have, by its id a record that arrived alone.
 pub(crate) fn put_out<'r>(
     alloc: Global,
     collections: &[Collection],
     mut held: Vec<Change<'r, 'r>>,
     pool: &Pool,
-    arrived: Option<&Id>,
+    entries: &[(u32, Id)],
     puts: &mut Puts,
 ) -> Result<(), AllocError>
     requires many { length held.items ≡ length collections.now }
-    requires given { ForSome arrived (λ id. id.now < length pool.now) }
+    requires given { All (λ entry. entry.1 < length pool.now) entries.now }
     ensures rows { OnOk result (puts_in pool.now puts.new ≡ sets_of_kind Output collections.now (held_sets held.entry.items)) }
-    ensures ids { OnOk result (ArePutFrom pool.now puts.new) }
+    ensures ids { OnOk result (ArePutOf entries.now puts.new) }
 {
     puts.clear();
     for (i, collection) in collections.iter().enumerate() {
         let rows = take_rows(alloc, &mut held, i);
-        push_put(alloc, collection.kind, rows, pool, arrived, puts)?;
+        push_put(alloc, collection.kind, rows, pool, entries, puts)?;
     }
     Ok(())
 }

@@ -1,6 +1,5 @@
 //! One step over records that are known by their ids.
 ghost use Rattle.std.specs.Prelude.{◌<◌, ◌∷◌, [], length, All};
-ghost use Rattle.std.specs.Option.{ForSome};
 ghost use Rattle.blz_pool.specs.Entries.{entries_with_ids};
 ghost use Rattle.bloom_forms.specs.declared.module.Kind.TheVariants.{Input};
 ghost use Rattle.bloom_forms.specs.Program.{columns_of_kind};
@@ -18,25 +17,25 @@ use bloom_forms::Checked;
 use blz_pool::{Id, Pool};
 use std::alloc::Global;
 
-// One step over what arrives, of which a record that arrives alone has the id.
+// One step over what arrives, which are the records of some entries.
 fn step_arrived(
     alloc: Global,
     program: &Checked,
     parts: &mut Parts,
     pool: &Pool,
     now: &Arrived<'_>,
-    arrived: Option<&Id>,
+    entries: &[(u32, Id)],
     puts: &mut Puts,
 ) -> Result<(), StepFault>
     requires parts { PartsStand program.now parts.old }
-    requires given { ForSome arrived (λ id. id.now < length pool.now) }
+    requires given { All (λ entry. entry.1 < length pool.now) entries.now }
     requires ports { AreSetsOf (columns_of_kind Input program.now.form.collections) (arrived_in now.now) }
-    ensures { StepsTo program.now (tables_in program.now parts.old.rows.items) parts.new (arrived_in now.now) pool.now puts.new result }
+    ensures { StepsTo program.now (tables_in program.now parts.old.rows.items) parts.new (arrived_in now.now) pool.now entries.now puts.new result }
 {
     let held = step(alloc, program, parts, now)?;
     let written = program.module();
     let collections = written.collections.as_slice();
-    put_out(alloc, collections, held, pool, arrived, puts)?;
+    put_out(alloc, collections, held, pool, entries, puts)?;
     Ok(())
 }
 
@@ -53,10 +52,10 @@ fn step_one(
     requires parts { PartsStand program.now parts.old }
     requires given { entry.now.1 < length pool.now }
     requires ports { AreSetsOf (columns_of_kind Input program.now.form.collections) (timestep_of ports (entries_with_ids pool.now (entry.now ∷ []))) }
-    ensures { StepsTo program.now (tables_in program.now parts.old.rows.items) parts.new (timestep_of ports (entries_with_ids pool.now (entry.now ∷ []))) pool.now puts.new result }
+    ensures { StepsTo program.now (tables_in program.now parts.old.rows.items) parts.new (timestep_of ports (entries_with_ids pool.now (entry.now ∷ []))) pool.now (entry.now ∷ []) puts.new result }
 {
     let now = Arrived::One(ports, entry.0, pool.get(entry.1));
-    step_arrived(alloc, program, parts, pool, &now, Some(&entry.1), puts)
+    step_arrived(alloc, program, parts, pool, &now, &[*entry], puts)
 }
 
 /// One step over the records with the ids of some entries, each at the port with its number: what is kept
@@ -74,7 +73,7 @@ pub(crate) fn step_by_ids(
     requires parts { PartsStand program.now parts.old }
     requires given { All (λ entry. entry.1 < length pool.now) entries.now }
     requires ports { AreSetsOf (columns_of_kind Input program.now.form.collections) (timestep_of ports (entries_with_ids pool.now entries.now)) }
-    ensures { StepsTo program.now (tables_in program.now parts.old.rows.items) parts.new (timestep_of ports (entries_with_ids pool.now entries.now)) pool.now puts.new result }
+    ensures { StepsTo program.now (tables_in program.now parts.old.rows.items) parts.new (timestep_of ports (entries_with_ids pool.now entries.now)) pool.now entries.now puts.new result }
 {
     if let [entry] = entries {
         return step_one(alloc, program, parts, pool, ports, entry, puts);
@@ -86,7 +85,7 @@ pub(crate) fn step_by_ids(
         parts,
         pool,
         &Arrived::Sets(now.sets()),
-        None,
+        entries,
         puts,
     )
 }

@@ -14,7 +14,7 @@ pub returns-in_err-held : goal.returns-in_err-held
 returns-in_err-held c =
     let a = c.args.program.now in
     let tables = tables_in a c.args.parts.now.rows.items in
-    step_fault_on a tables c.step.new.parts (arrived_in c.args.now.now) c.args.pool.now c.args.puts.now c.from_residual.result c.in_err-held.field-0.0 c.from_residual.ensures.1 (λ e. c.in_err-held.ensures.too_many (ap Err e))
+    step_fault_on a tables c.step.new.parts (arrived_in c.args.now.now) c.args.pool.now c.args.entries.now c.args.puts.now c.from_residual.result c.in_err-held.field-0.0 c.from_residual.ensures.1 (λ e. c.in_err-held.ensures.too_many (ap Err e))
 
 pub put_out-requires-clause-many : goal.put_out-requires-clause-many
 put_out-requires-clause-many c =

@@ -27,7 +27,7 @@ returns-in-len1 c =
     let a = c.args.program.now in
     let least : 1 ≤ length c.args.entries.now = omega arith in
     let below : length c.args.entries.now < 2 = omega arith in
-    subst (λ (l : List EntryId). StepsTo a (tables_in a c.args.parts.now.rows.items) c.step_one.new.parts (timestep_of c.args.ports (entries_with_ids c.args.pool.now l)) c.args.pool.now c.step_one.new.puts c.step_one.result)
+    subst (λ (l : List EntryId). StepsTo a (tables_in a c.args.parts.now.rows.items) c.step_one.new.parts (timestep_of c.args.ports (entries_with_ids c.args.pool.now l)) c.args.pool.now l c.step_one.new.puts c.step_one.result)
     (sym (lone_entry c.args.entries.now c.entry-item.result least below c.entry-item.is)) c.step_one.ensures
 
 pub step_arrived-requires-clause-ports : goal.step_arrived-requires-clause-ports
@@ -37,4 +37,4 @@ step_arrived-requires-clause-ports c =
 pub returns : goal.returns
 returns c =
     let a = c.args.program.now in
-    subst (λ (now : Sets). StepsTo a (tables_in a c.args.parts.now.rows.items) c.step_arrived.new.parts now c.args.pool.now c.step_arrived.new.puts c.step_arrived.result) (c.sets.ensures ∙ c.in_ok-now.ensures) c.step_arrived.ensures
+    subst (λ (now : Sets). StepsTo a (tables_in a c.args.parts.now.rows.items) c.step_arrived.new.parts now c.args.pool.now c.args.entries.now c.step_arrived.new.puts c.step_arrived.result) (c.sets.ensures ∙ c.in_ok-now.ensures) c.step_arrived.ensures

@@ -25,4 +25,4 @@ returns c =
     let row = c.get.result.now in
     let a = c.args.program.now in
     let same : timestep_of c.args.ports ((entry.0, row) ∷ []) ≡ timestep_of c.args.ports (entries_with_ids pool (entry ∷ [])) = one_entry c.args.ports entry.0 entry.1 pool row (entry ∷ []) refl (row_got pool entry.1 row c.requires.given c.get.ensures.record) in
-    subst (λ (now : Sets). StepsTo a (tables_in a c.args.parts.now.rows.items) c.step_arrived.new.parts now pool c.step_arrived.new.puts c.step_arrived.result) same c.step_arrived.ensures
+    subst (λ (now : Sets). StepsTo a (tables_in a c.args.parts.now.rows.items) c.step_arrived.new.parts now pool (entry ∷ []) c.step_arrived.new.puts c.step_arrived.result) same c.step_arrived.ensures

@@ -4,7 +4,7 @@ use Rattle.std.proofs.lemmas.Grind.{common_steps}
 use Rattle.std.proofs.lemmas.List.Elements.{All-append}
 use Rattle.bloom_eval.specs.declared.puts.Put.{Put}
 use Rattle.bloom_eval.specs.declared.puts.Put.TheVariants.{Rows}
-use Rattle.bloom_eval.specs.Puts.{ArePutFrom, IsPutFrom, puts_in}
+use Rattle.bloom_eval.specs.Puts.{ArePutOf, IsPutOf, puts_in}
 use Rattle.bloom_eval.proofs.PutOut.{put_more, one_put}
 use Rattle.bloom_eval.proofs.puts.Puts.put_sets.Goals as goal
 
@@ -16,7 +16,7 @@ loop-set-preserved c =
     let yields : c.loop-set.set-iterator.rest.items ≡ c.in-Some.set ∷ c.next.new.self.rest.items = grind (arith, common_steps) in
     record {
       rows = λ records. ap (λ (p : List Put). puts_in records p ++ c.next.new.self.rest.items) is ∙ put_more records puts c.in-Some.set c.next.new.self.rest.items ∙ ap (λ later. puts_in records puts ++ later) (sym yields) ∙ c.loop-set.invariant.rows records;
-      ids = λ records. subst (λ (p : List Put). ArePutFrom records p) (sym is) (All-append (IsPutFrom records) puts (Rows c.in-Some.set ∷ []) (c.loop-set.invariant.ids records) (one_put records c.in-Some.set));
+      ids = λ entries. subst (λ (p : List Put). ArePutOf entries p) (sym is) (All-append (IsPutOf entries) puts (Rows c.in-Some.set ∷ []) (c.loop-set.invariant.ids entries) (one_put entries c.in-Some.set));
     }
 
 pub returns-clause-rows : goal.returns-clause-rows

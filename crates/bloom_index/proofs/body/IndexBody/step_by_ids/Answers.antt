@@ -18,7 +18,7 @@ returns-in_err-step_by_ids-clause-too_many c = λ is.
     let a = c.args.self.now.program in
     let now = timestep_of c.args.ports (entries_with_ids c.args.pool.now c.args.entries.now) in
     step_moved (λ (b : Accepted) (kept now : Sets). SomeIsOver (counted_sets b kept now)) a c.taken.new.self.program c.in_ok-parts.parts.rows.items (kept_tables a c.args.self.now.parts) now now c.in_ok-parts.ensures.program c.in_ok-parts.ensures.tables refl
-    (stepped_over _ c.taken.new.self.program (tables_in c.taken.new.self.program c.in_ok-parts.parts.rows.items) c.step_by_ids.new.parts now c.args.pool.now c.step_by_ids.new.puts c.in_err-step_by_ids.field-0.0 c.from_residual-in_err-step_by_ids.result c.from_residual-in_err-step_by_ids.ensures.1 is c.in_err-step_by_ids.ensures)
+    (stepped_over _ c.taken.new.self.program (tables_in c.taken.new.self.program c.in_ok-parts.parts.rows.items) c.step_by_ids.new.parts now c.args.pool.now c.args.entries.now c.step_by_ids.new.puts c.in_err-step_by_ids.field-0.0 c.from_residual-in_err-step_by_ids.result c.from_residual-in_err-step_by_ids.ensures.1 is c.in_err-step_by_ids.ensures)
 
 pub returns-in_err-step_by_ids-clause-wide : goal.returns-in_err-step_by_ids-clause-wide
 returns-in_err-step_by_ids-clause-wide c = kept_wide c.taken.new.self.program c.taken.new.self.parts c.taken.new.self.stands

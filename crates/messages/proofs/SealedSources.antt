@@ -1,18 +1,30 @@
 -- Seals behind a list, one partition after the other.
-use Rattle.std.proofs.Common.{◌≡◌, ◌<◌, ◌≤◌, ◌+◌, ℕ, List, [], ◌∷◌, ◌++◌, length, map, filter, set, refl, ap, ◌∙◌, sym, subst, inl, inr, arith, append-nil, append_assoc, length-append}
-use Rattle.std.proofs.lemmas.Bool.{cases_eq}
+use Rattle.std.proofs.Common.{◌≡◌, ◌<◌, ◌≤◌, ◌+◌, ◌||◌, ℕ, false, List, [], ◌∷◌, ◌++◌, length, map, filter, set, refl, ap, ◌∙◌, sym, subst, inl, inr, arith, append-nil, append_assoc, length-append}
+use Rattle.std.specs.Cmp.{tied_itself}
+use Rattle.std.specs.List.{All, list_any}
+use Rattle.std.specs.List.Sorted.{IsStrictlySortedBy}
+use Rattle.std.specs.declared.cmp.Ordering.TheVariants.{Less, Equal}
+use Rattle.std.proofs.lemmas.Bool.{cases_Bool, cases_eq}
 use Rattle.std.proofs.lemmas.List.{map-append, map-set, set-set, get_or-set_same, get_or-set_other}
+use Rattle.std.proofs.lemmas.List.Elements.{All-from_recursion}
 use Rattle.std.proofs.lemmas.List.Sums.{sum_by-set}
 use Rattle.blz_value.specs.Members.{Has}
 use Rattle.blz_value.specs.Operators.{cells}
-use Rattle.blz_value.specs.Record.{Row as Record}
-use Rattle.blz_value.specs.Message.{Message, seal, is_same_row, rows_in}
-use Rattle.messages.specs.Emitted.{count_in, Continues}
+use Rattle.blz_value.specs.Record.{Row as Record, record_cmp}
+use Rattle.blz_value.specs.Message.{Message, row, seal, is_same_row, rows_in}
+use Rattle.blz_value.specs.RecordOrder.{record_cmp_total}
+use Rattle.blz_value.specs.Sets.{IsRowSet}
+use Rattle.blz_value.proofs.Booleans.{neither}
+use Rattle.blz_value.proofs.Membership.{All-of_member, Has-append_right, Has-from_any}
+use Rattle.messages.specs.Emitted.{count_in, has_seal, Continues}
+use Rattle.messages.specs.EmittedIds.{is_seal_of}
 use Rattle.messages.specs.Ids.{message_with_id}
 use Rattle.messages.specs.declared.message.Message.TheVariants.{Seal}
 use Rattle.messages.proofs.EmittedLemmas.{continues_itself, continues_on, rows_in-append}
 use Rattle.messages.specs.Lists.{message_limit, Listed, read_list, read_lists, list_at, total, IsExact, OneListBecomes}
 use Rattle.messages.specs.EmittedCounts.{seals_of}
+use Rattle.messages.proofs.ListSeals.{seal-at}
+use Rattle.messages.proofs.MessagesLemmas.{is_same_row-is}
 use Rattle.messages.proofs.ListsLemmas.{read-at, total-read, length-read_lists, same_count}
 
 -- ---- one seal
@@ -96,6 +108,45 @@ sealed_next old now new place columns key rest keys count within s counted same 
       within = subst (λ n. place < n) (sym (same_count now new place _ step)) s.within;
       room = omega (arith, s.room, one_longer now new place key count s.within same lists);
     }
+
+-- what is left of a set is none of what went before
+apart : (done : List Record) (key other : Record) (rest : List Record) → IsRowSet (done ++ key ∷ rest) → Has other done → key ≡ other → ⊥
+unfolding IsStrictlySortedBy
+apart (x ∷ done) key other rest set (inl e) same =
+    let below : record_cmp x key ≡ Less = All-of_member (λ y. record_cmp x y ≡ Less) (done ++ key ∷ rest) key (All-from_recursion (λ y. record_cmp x y ≡ Less) (done ++ key ∷ rest) set.0) (Has-append_right key done (key ∷ rest) (inl refl)) in
+    let is : x ≡ key = e ∙ sym same in
+    let tied : record_cmp x key ≡ Equal = ap (record_cmp x) (sym is) ∙ tied_itself record_cmp_total x in
+    let bad : Less ≡ Equal = sym below ∙ tied in
+    cc
+apart (x ∷ done) key other rest set (inr h) same = apart done key other rest set.1 h same
+
+seals_only : (columns : List ℕ) (list : List Message) (done : List Record) (key : Record) → has_seal (seals_of columns list done) key ≡ list_any (is_same_row key) done
+seals_only columns list [] key = refl
+seals_only columns list (k ∷ done) key = ap (λ b. is_same_row key k || b) (seals_only columns list done key)
+
+-- a list without a seal of a partition, and the seals of others behind it
+none_behind : (before list : List Message) (columns : List ℕ) (done : List Record) (key : Record) → has_seal before key ≡ false → list_any (is_same_row key) done ≡ false → has_seal (before ++ seals_of columns list done) key ≡ false
+none_behind [] list columns done key no none = seals_only columns list done key ∙ none
+none_behind (row r ∷ before) list columns done key no none = none_behind before list columns done key no none
+none_behind (seal k n ∷ before) list columns done key no none =
+    let both = neither (is_same_row key k) (has_seal before key) no in
+    rw both.0 (none_behind before list columns done key both.1 none)
+
+-- where no partition had a seal, the next has none
+pub unsealed_next : (old now : Listed) (place : ℕ) (columns : List ℕ) (key : Record) (rest keys : List Record) → place < length old.lists → IsSealedBy old now place columns (key ∷ rest) keys
+    → All (λ k. has_seal (list_at (read_lists old) place) k ≡ false) keys → IsRowSet keys → list_any (is_seal_of key) (list_at now.lists place) ≡ false
+unsealed_next old now place columns key rest keys within s unsealed set =
+    let list : List Message = list_at (read_lists old) place in
+    let so_far : List Message = list ++ seals_of columns list s.done in
+    let seen : list_at (read_lists now) place ≡ so_far = ap (λ l. list_at l place) s.becomes.lists ∙ get_or-set_same (read_lists old) place so_far [] (subst (λ n. place < n) (sym (length-read_lists old)) within) in
+    let own : has_seal list key ≡ false = All-of_member (λ k. has_seal list k ≡ false) keys key unsealed (subst (λ (l : List Record). Has key l) s.all (Has-append_right key s.done (key ∷ rest) (inl refl))) in
+    let others : list_any (is_same_row key) s.done ≡ false = elim (cases_Bool (list_any (is_same_row key) s.done)) [
+      | inl t ↦ absurd (
+          let found = Has-from_any (is_same_row key) s.done t in
+          apart s.done key found.0 rest (subst IsRowSet (sym s.all) set) found.1 (is_same_row-is key found.0 found.2))
+      | inr f ↦ f
+    ] in
+    seal-at now place key ∙ ap (λ l. has_seal l key) seen ∙ none_behind list list columns s.done key own others
 
 -- seals aren't counted
 rows_of_seals : (count : Record → ℕ) (keys : List Record) → rows_in (map (λ key. seal key (count key)) keys) ≡ []

@@ -5,7 +5,7 @@ ghost use Rattle.blz_pool.specs.Entries.{row_with_id};
 ghost use Rattle.blz_pool.specs.Pool.{IsPool, record_limit, with_record};
 ghost use Rattle.blz_value.specs.Members.{Has};
 ghost use Rattle.blz_value.specs.Record.{Row};
-ghost use Rattle.messages.specs.Emitted.{count_in, with_row, with_rows, with_seal, with_seals};
+ghost use Rattle.messages.specs.Emitted.{count_in, has_seal, with_row, with_rows, with_seal, with_seals};
 ghost use Rattle.messages.specs.Ids.{IsGiven};
 ghost use Rattle.messages.specs.declared.message.Message.TheVariants.{Seal};
 ghost use Rattle.messages.specs.Lists.{message_limit};
@@ -414,9 +414,9 @@ impl Lists {
         Ok(())
     }
 
-    /// Emits a seal of each of some partitions behind a list, where there is room, with the number of
-    /// its records there. Takes two look-ups for each partition, and the walk that makes the list's
-    /// tally. The error is want of memory; it comes too where a seal of one stands in the list.
+    /// Emits a seal of each of some partitions behind a list that has none of them, where there is room,
+    /// with the number of its records there. Takes a look-up for each partition, and the walk that makes
+    /// the list's tally. The error is want of memory.
     pub fn seal_partitions(
         &mut self,
         place: usize,
@@ -426,14 +426,11 @@ impl Lists {
         requires place { place < length self.old.lists }
         requires exact { IsExact self.old }
         requires room { total self.old.lists + length keys.now.keys ≤ message_limit }
+        requires unsealed { All (λ key. has_seal (list_at (read_lists self.old) place) key ≡ false) keys.now.keys }
         ensures ok { OnOk result (OneListBecomes self.old self.new place (list_at (read_lists self.old) place ++ seals_of columns.now (list_at (read_lists self.old) place) keys.now.keys)) }
         ensures exact { OnOk result (IsExact self.new) }
     {
         for key in keys {
-            let is_sealed = self.has_seal(place, key)?;
-            if is_sealed {
-                return Err(AllocError);
-            }
             let count = self.count_with_key(place, columns, key)?;
             self.push_seal(place, key, count)?;
         }

@@ -1,5 +1,5 @@
 //! Whether a column's attribute lies in the gates of outputs.
-ghost use Rattle.std.specs.Prelude.{◌≡◌, ◌<◌, [], not, length, IfOk};
+ghost use Rattle.std.specs.Prelude.{◌≡◌, ◌<◌, ◌≤◌, [], not, length, IfOk};
 ghost use Rattle.bloom_forms.specs.Program.{IsStock, output_columns};
 ghost use Rattle.bloom_forms.specs.Annotation.{gate_of_output};
 ghost use Rattle.topo_forms.specs.Attributes.{with_columns};
@@ -7,19 +7,22 @@ ghost use Rattle.shard_route.specs.Sharding as spec;
 
 use bloom_forms::Program;
 use blz_value::{Attrs, Str};
-use fd_closure::AttrNames;
+use fd_closure::{AttrNames, NamesFault};
 use path_annotate::gate_of;
 use std::alloc::{AllocError, Global};
 use topo_forms::Valid;
 
-// A list of these names, each once.
+// A list of these names, each once, which are no more than attributes may be.
 fn names_of(alloc: Global, list: &[Str]) -> Result<AttrNames, AllocError>
+    requires { length list.now ≤ 64 }
     ensures { IfOk result (λ names. names ≡ with_columns [] list.now) }
 {
     let mut names = AttrNames::new(alloc);
     for name in list {
-        if names.add(name).is_err() {
-            return Err(AllocError);
+        match names.add(name) {
+            Ok(_) => {}
+            Err(NamesFault::Full) => unreachable!(),
+            Err(NamesFault::NoMemory) => return Err(AllocError),
         }
     }
     Ok(names)

@@ -37,6 +37,7 @@ pub few_once : (lists distinct : Data) → distinct ≡ map distinct_lists lists
 few_once lists distinct same few = subst AreFew (sym same) (omega (arith, no_more lists, few))
 
 lists_apart : (lists : List SourceData) → AreDistinct (map distinct_lists lists)
+unfolding AreDistinct
 lists_apart [] k d lt = absurd (omega (arith, lt))
 lists_apart (held ∷ lists) zero d lt = (rows_apart held.rows, rows_apart held.parts)
 lists_apart (held ∷ lists) (suc k) d lt = lists_apart lists k d (omega (arith, lt))

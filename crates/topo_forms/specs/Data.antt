@@ -29,7 +29,7 @@ abbrev pub source_data : Data → ℕ → SourceData
 source_data d s = slice_index_or d s no_data
 
 -- each source has each of its records once, and each of its partitions
-abbrev pub AreDistinct : Data → Type 0
+unfoldable pub AreDistinct : Data → Type 0
 AreDistinct d = All (λ held. AllPairs (λ a b. a ≢ b) held.rows × AllPairs (λ a b. a ≢ b) held.parts) d
 
 -- ---- keys

@@ -1,5 +1,5 @@
 -- In the view of a topology without a fault numbers are those of parts, and names are distinct.
-use Rattle.std.proofs.Common.{◌≡◌, ◌≢◌, ◌≤◌, ◌<◌, ◌+◌, ◌↔◌, inl, inr, not, ℕ, zero, suc, nat_lt, Bool, true, false, is_none, Option, None, Some, List, [], ◌∷◌, length, map, filter, take, get_or, refl, arith, ap, sym, subst, ◌∙◌}
+use Rattle.std.proofs.Common.{◌≡◌, ◌≤◌, ◌<◌, ◌+◌, ◌↔◌, inl, inr, not, ℕ, zero, suc, nat_lt, Bool, true, false, is_none, Option, None, Some, List, [], ◌∷◌, length, map, filter, take, get_or, refl, arith, ap, sym, subst, ◌∙◌}
 use Rattle.std.specs.List.{enumerate_from}
 use Rattle.std.specs.Option.{option_map_or}
 use Rattle.std.specs.Str.{bytes_eq}

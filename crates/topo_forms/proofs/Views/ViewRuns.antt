@@ -22,13 +22,11 @@ use Rattle.bloom_forms.specs.declared.module.Kind.TheVariants as sort
 use Rattle.bloom_forms.specs.declared.program.Program.{Program}
 use Rattle.bloom_forms.specs.declared.program.Program.TheVariants as program
 use Rattle.bloom_forms.specs.Form.{Accepted}
-use Rattle.bloom_forms.specs.Fits.{repeats}
 use Rattle.bloom_forms.specs.Kinds.{same_kind, of_kind}
 use Rattle.bloom_forms.specs.Program.{port_columns, output_columns}
 use Rattle.bloom_forms.specs.Query.{Name}
 use Rattle.bloom_forms.specs.Proper.{IsProper}
 use Rattle.bloom_forms.specs.HeadRoots.{attribute_roots}
-use Rattle.bloom_forms.specs.declared.note.Note.TheVariants as note
 use Rattle.topo_forms.specs.declared.topology.Body.{Body}
 use Rattle.topo_forms.specs.declared.topology.Body.TheVariants as body
 use Rattle.topo_forms.specs.declared.topology.ComponentEntry.{ComponentEntry}

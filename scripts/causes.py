@@ -1,17 +1,10 @@
-"""What is behind a refusal: the name that isn't known and the nearest one that is, and the cure of its page."""
+"""What is behind a refusal of a topology: which name isn't known, and which are; which columns, replicas and names
+don't go together; and the cure of the page of refusals."""
 import difflib
 import os
 import re
 
 from streams import sides
-
-# The words of the language of modules, which can't be names.
-RESERVED = set("module input output table scratch select project join notin group atleast count sum min max as and or not".split())
-
-# What stands before a name.
-BEFORE_A_NAME = {"module", "input", "output", "table", "scratch", "(", "[", ",", "as", "="}
-
-PIECE = re.compile(r'#[^\n]*|"(?:\\.|[^"\\\n])*"|[A-Za-z_0-9]+|\s+|.', re.S)
 
 
 def listed(names):
@@ -73,6 +66,9 @@ def unequal_columns(topology, kind, number):
     """The columns of a source, and of the first port that has others, as a sentence, or nothing."""
     entry = topology[kind][number - 1]
     components = {it["name"]: it for it in topology.get("component", [])}
+    if kind == "component":
+        own = {"split": ["at", "word"], "number": ["n"]}[entry["stock"]]
+        return f"{entry['name']} adds {listed(own)}, and has {listed([it for it in own if it in entry['columns']])} among its columns"
     own = entry.get("columns")
     if kind == "stream":
         name, output = entry["from"].split(".")
@@ -85,15 +81,58 @@ def unequal_columns(topology, kind, number):
     return None
 
 
-def reserved(text, line, column):
-    """That a word of the language stands where a name should, or nothing."""
-    start = sum(len(it) + 1 for it in text.split(b"\n")[: line - 1]) + column - 1
-    front = text[:start].decode(errors="replace")
-    before = [it for it in PIECE.findall(front) if not re.match(r"[#\s]", it)]
-    word = re.match(r"\w*", text[start:].decode(errors="replace"))[0]
-    if word in RESERVED and before and before[-1] in BEFORE_A_NAME:
-        return f"{word} is a word of the language, so it can't be a name: docs/modules.md lists these words"
+def unpaired_replicas(topology, kind, number):
+    """The replicas of a stream's sender, and of the first receiver that they can't be paired with, or nothing."""
+    entry = topology[kind][number - 1]
+    components = {it["name"]: it for it in topology.get("component", [])}
+    sender = entry["from"].split(".")[0]
+    senders = components[sender].get("replicas", 1)
+    for place in entry.get("to", []):
+        receiver = place.split(".")[0]
+        receivers = components[receiver].get("replicas", 1)
+        if components[receiver].get("mode") != "order" and 1 not in (senders, receivers) and senders != receivers:
+            return f"{sender} has {senders} replicas, and {receiver} has {receivers}"
     return None
+
+
+def repeated(names):
+    """The first of some names that stands twice, or nothing."""
+    return next((it for at, it in enumerate(names) if it in names[:at]), None)
+
+
+def twice_in(topology, kind, number):
+    """What stands twice because of an entry, as a sentence, or nothing."""
+    entry = topology[kind][number - 1]
+    streams = topology.get("source", []) + topology.get("stream", [])
+    others = topology[kind] if kind == "component" else streams
+    earlier = others[: next(at for at, it in enumerate(others) if it is entry)] if kind != "fd" else []
+    if "name" in entry and entry["name"] in [it["name"] for it in earlier]:
+        return f"an earlier {'component' if kind == 'component' else 'source or stream'} is called {entry['name']} too"
+    taken = {it["from"]: it["name"] for it in earlier if "from" in it}
+    if kind == "stream" and entry["from"] in taken:
+        return f"{entry['from']} has the stream {taken[entry['from']]}, which may go to more places"
+    lists = {key: value for key, value in entry.items() if isinstance(value, list)}
+    for key in ("inputs", "outputs"):
+        lists[key] = [it["name"] for it in entry.get(key, [])]
+    twice = [(key, repeated(value)) for key, value in lists.items()]
+    return next((f"{key} has {name} twice" for key, name in twice if isinstance(name, str)), None)
+
+
+def too_many_in(topology, kind, number):
+    """What an entry has too many of, as a sentence, or nothing."""
+    entry = topology[kind][number - 1]
+    counts = {"columns": 8, "inputs": 8, "outputs": 8}
+    over = [f"{len(entry[key])} {key}, and {most} are the most" for key, most in counts.items() if len(entry.get(key, [])) > most]
+    replicas = entry.get("replicas", 1)
+    if not 1 <= replicas <= 8:
+        over.append(f"{replicas} replicas; there may be 1 to 8")
+    if over:
+        return f"{entry['name']} has {over[0]}"
+    before = sum(it.get("replicas", 1) for it in topology[kind][:number]) if kind == "component" else 0
+    most = {"source": 64, "component": 32, "fd": 64}.get(kind, 64)
+    if before > 64:
+        return f"with {entry['name']} there are {before} replicas in all, and 64 are the most"
+    return f"this is {kind} {number}, and {most} are the most" if number > most else None
 
 
 # ---- the page of refusals
@@ -119,8 +158,12 @@ def cure_of(refusal, root):
                         found.append((likeness(wanted, words), row[1]))
     if not found:
         return None
-    cure = max(found, key=lambda it: it[0])[1]
-    return re.sub(r"\[([^\]]*)\]\([^)]*\)", r"\1", cure)
+    return without_links(max(found, key=lambda it: it[0])[1])
+
+
+def without_links(text):
+    """A text of a page as a terminal shows it."""
+    return re.sub(r"\[([^\]]*)\]\([^)]*\)", r"\1", text)
 
 
 def likeness(wanted, words):

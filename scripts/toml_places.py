@@ -68,3 +68,13 @@ class Places:
                 tables += self.value()
         self.place += 1
         return [table] if opening == "{" else tables
+
+
+def stream_lines(file, topology):
+    """The name of each source and stream of a topology, and the line of its file on which the entry begins."""
+    with open(file, encoding="utf-8", newline="") as opened:
+        text = opened.read()
+    entries = Places(text).entries
+    for kind in ("source", "stream"):
+        for table, entry in zip(topology.get(kind, []), entries.get(kind, [])):
+            yield table["name"], text.count("\n", 0, entry.start) + 1

@@ -4,9 +4,9 @@ use Rattle.inbox.specs.Events.{Event}
 use Rattle.inbox.specs.Wiring.{Wiring}
 use Rattle.report_lines.specs.declared.refusal.MakeKind.TheVariants as make_kinds
 use Rattle.report_lines.specs.declared.refusal.Refusal.TheVariants as refusal
-use Rattle.sched_make.specs.Made.{AnswersSo}
-use Rattle.sched_make.specs.declared.fault.MakeFault.{MakeFault}
-use Rattle.sched_make.specs.declared.fault.MakeFault.TheVariants as make_faults
+use Rattle.sched_run.specs.Made.{AnswersSo}
+use Rattle.sched_net.specs.declared.fault.MakeFault.{MakeFault}
+use Rattle.sched_net.specs.declared.fault.MakeFault.TheVariants as make_faults
 use Rattle.topo_forms.specs.Data.{Data}
 use Rattle.command_checks.specs.Ran.{Gives, IsStopAt}
 use Rattle.command_checks.specs.declared.stop.Stop.{Stop}

@@ -7,12 +7,12 @@ use Rattle.inbox.specs.Executions.{Execution, execution_of_events}
 use Rattle.inbox.specs.Wiring.{wiring_of}
 use Rattle.inbox.proofs.Executions.Results.{Ok_same}
 use Rattle.sched_bench.specs.Bench.{fault_of_opening}
-use Rattle.sched_make.specs.Made.{AnswersSo, LeavesNothing, execution_after, made_of}
-use Rattle.sched_make.specs.Making.{AnswersNumbered, HasMadeNumbered, LeavesNumbered, RunsFirst}
-use Rattle.sched_make.specs.Naming.{CanBeWritten}
-use Rattle.sched_run.specs.Net.{Stands, BooksRun, execution_in}
-use Rattle.sched_run.specs.declared.books.Books.{Books}
-use Rattle.sched_make.specs.declared.fault.MakeFault.{MakeFault}
+use Rattle.sched_run.specs.Made.{AnswersSo, LeavesNothing, execution_after, made_of}
+use Rattle.sched_run.specs.Making.{AnswersNumbered, HasMadeNumbered, LeavesNumbered, RunsFirst}
+use Rattle.sched_run.specs.Naming.{CanBeWritten}
+use Rattle.sched_net.specs.Net.{Stands, BooksRun, execution_in}
+use Rattle.sched_net.specs.declared.books.Books.{Books}
+use Rattle.sched_net.specs.declared.fault.MakeFault.{MakeFault}
 use Rattle.topo_forms.specs.Data.{Data}
 use Rattle.topo_forms.specs.View.{View}
 use Rattle.blazes_commands.specs.Checks as check

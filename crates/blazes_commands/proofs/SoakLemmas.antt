@@ -6,10 +6,10 @@ use Rattle.bloom_forms.specs.Step.{Sets}
 use Rattle.inbox.specs.Executions.{Execution}
 use Rattle.inbox.specs.Events.{Event, event}
 use Rattle.sched_bench.specs.Bench.{fault_of_opening}
-use Rattle.sched_make.specs.Making.{AnswersNumbered, LeavesNumbered}
-use Rattle.sched_run.specs.Net.{Stands, BooksRun}
-use Rattle.sched_run.specs.declared.books.Books.{Books}
-use Rattle.sched_make.specs.declared.fault.MakeFault.{MakeFault}
+use Rattle.sched_run.specs.Making.{AnswersNumbered, LeavesNumbered}
+use Rattle.sched_net.specs.Net.{Stands, BooksRun}
+use Rattle.sched_net.specs.declared.books.Books.{Books}
+use Rattle.sched_net.specs.declared.fault.MakeFault.{MakeFault}
 use Rattle.topo_forms.specs.Data.{Data}
 use Rattle.topo_forms.specs.View.{View}
 use Rattle.blazes_commands.specs.Checks as check

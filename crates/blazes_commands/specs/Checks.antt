@@ -2,9 +2,9 @@
 use Rattle.std.specs.Prelude.{ℕ, ◌+◌, List, Option, Some, None, Result, Ok, Err}
 use Rattle.inbox.specs.Events.{Event}
 use Rattle.inbox.specs.Wiring.{wiring_of}
-use Rattle.sched_make.specs.Made.{event_limit, made_of}
-use Rattle.sched_make.specs.declared.fault.MakeFault.{MakeFault}
-use Rattle.sched_make.specs.declared.fault.MakeFault.TheVariants as make_faults
+use Rattle.sched_run.specs.Made.{event_limit, made_of}
+use Rattle.sched_net.specs.declared.fault.MakeFault.{MakeFault}
+use Rattle.sched_net.specs.declared.fault.MakeFault.TheVariants as make_faults
 use Rattle.topo_forms.specs.Data.{Data}
 use Rattle.topo_forms.specs.View.{View}
 use Rattle.report_lines.specs.declared.refusal.Refusal.{Refusal}

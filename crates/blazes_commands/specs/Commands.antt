@@ -14,8 +14,8 @@ use Rattle.coord_synth.specs.Laws.{AreCoordinated}
 use Rattle.report_lines.specs.DeriveText.{derive_text}
 use Rattle.report_lines.specs.LabelText.{label_text}
 use Rattle.report_print.specs.SoakText.{soak_text}
-use Rattle.sched_make.specs.Made.{LeavesNothing, execution_after}
-use Rattle.sched_run.specs.ScheduleLines.{events_of, Line}
+use Rattle.sched_run.specs.Made.{LeavesNothing, execution_after}
+use Rattle.sched_net.specs.ScheduleLines.{events_of, Line}
 use Rattle.shard_route.specs.declared.sharded.Sharded.{Sharded}
 use Rattle.sched_text.specs.Reading.{ReadsAs, event_reading}
 use Rattle.sched_text.specs.Text.{schedule_text}

@@ -1,8 +1,8 @@
 //! The command that makes a schedule.
 ghost use Rattle.std.specs.Prelude.{◌≡◌, IfOk, OnOk, Some, map};
 ghost use Rattle.report_lines.specs.declared.refusal.Refusal.TheVariants as refusal;
-ghost use Rattle.sched_make.specs.Naming.{CanBeWritten};
-ghost use Rattle.sched_run.specs.Net.{BooksRun};
+ghost use Rattle.sched_run.specs.Naming.{CanBeWritten};
+ghost use Rattle.sched_net.specs.Net.{BooksRun};
 ghost use Rattle.topo_forms.specs.Data.{IsData};
 ghost use Rattle.blazes_commands.specs.Checks as check;
 ghost use Rattle.blazes_commands.specs.Code.Made.{IsMadeOf, PrintsBooks};
@@ -21,8 +21,7 @@ use bloom_eval::Component;
 use blz_outside::Files;
 use command_checks::{Reply, Stop, data_file, stop_at, valid_topology};
 use report_lines::{MakeKind, Refusal};
-use sched_make::{Made, MakeFault, make_numbered};
-use sched_run::Net;
+use sched_run::{Made, MakeFault, Net, make_numbered};
 use std::alloc::{AllocError, Global};
 use topo_forms::{Data, Valid};
 

@@ -1,6 +1,6 @@
 //! The command that makes and runs a schedule of the built-in word count, and sums up what came of it.
 ghost use Rattle.std.specs.Prelude.{◌≡◌, IfOk, OnOk, map};
-ghost use Rattle.sched_run.specs.Net.{BooksRun};
+ghost use Rattle.sched_net.specs.Net.{BooksRun};
 ghost use Rattle.topo_forms.specs.Data.{IsData};
 ghost use Rattle.coord_synth.specs.Laws.{AreCoordinated};
 ghost use Rattle.command_checks.specs.Ran.{answer_of};
@@ -19,8 +19,7 @@ use blazes_words::SoakWords;
 use bloom_eval::Component;
 use command_checks::{Reply, Stop, done, stop_at};
 use report_print::soak_text;
-use sched_make::{Made, MakeFault, make_numbered};
-use sched_run::Net;
+use sched_run::{Made, MakeFault, Net, make_numbered};
 use std::alloc::{AllocError, Global};
 use topo_forms::{Data, Valid};
 

@@ -227,8 +227,8 @@ fn clean_heads(alloc: Global, module: &Module) -> Result<Vec<u32>, CheckFault>
     later(alloc, collections, rules)
 }
 
-/// The module, without fault, with its heads in order, or its first fault: the first kind that
-/// holds, at its first place, collections before rules. The error is that fault or want of memory.
+/// The module, without fault, with its heads in order, or its first fault: kinds come before places, and
+/// collections before rules. The error is that fault or want of memory.
 pub fn check(alloc: Global, module: &Module) -> Result<Checked, CheckFault>
     requires names { HasOwnNames (form_of module.now) }
     ensures checked { Checks (form_of module.now) result }

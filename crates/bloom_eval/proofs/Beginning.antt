@@ -16,7 +16,7 @@ use Rattle.std.specs.Option.{option_map}
 use Rattle.std.proofs.lemmas.Option.{slice_get-get_or}
 use Rattle.bloom_eval.specs.declared.rows.Rows.{Rows}
 use Rattle.bloom_eval.specs.Code.Held.{rows_in, sets_in}
-use Rattle.bloom_eval.specs.Code.Begin.{left_by, place_after, AreLeft}
+use Rattle.bloom_eval.specs.Begin.{left_by, place_after, AreLeft}
 
 -- the place of a kind behind a collection
 pub place_more : (kind : Kind) (cs : List Collection) (i : ℕ) (c : Collection) → i < length cs → c ≡ get_or cs i c → place_in_kind kind cs (i + 1) ≡ place_after kind c.kind (place_in_kind kind cs i)

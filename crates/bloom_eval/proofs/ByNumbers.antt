@@ -16,7 +16,7 @@ use Rattle.bloom_forms.specs.Numbered.{IsNumbered}
 use Rattle.bloom_forms.specs.Rows.{rows_of}
 use Rattle.bloom_forms.specs.Step.{Sets, set_at, rows_named}
 use Rattle.bloom_forms.specs.Widths.{AreWide}
-use Rattle.bloom_eval.specs.Code.NumberedRows.{numbered_rows, numbered_sets, TestsFit}
+use Rattle.bloom_eval.specs.NumberedRows.{numbered_rows, numbered_sets, TestsFit}
 use Rattle.bloom_eval.specs.StepAnswers.{parts_of, part_sets}
 use Rattle.bloom_forms.proofs.Ends.Wide.{wide_rows}
 

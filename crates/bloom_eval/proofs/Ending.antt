@@ -10,7 +10,7 @@ use Rattle.bloom_forms.specs.Kinds.{same_kind}
 use Rattle.bloom_forms.specs.Step.{Sets, set_at, sets_of_kind}
 use Rattle.bloom_eval.specs.declared.rows.Rows.{Rows}
 use Rattle.bloom_eval.specs.Code.Held.{rows_in, sets_in}
-use Rattle.bloom_eval.specs.Code.Finish.{placed}
+use Rattle.bloom_eval.specs.Finish.{placed}
 
 -- as many are held when one is taken
 pub many_held : (held left : List Rows) (i : ℕ) → sets_in left ≡ slice_set (sets_in held) i [] → length left ≡ length held

@@ -10,7 +10,7 @@ use Rattle.bloom_forms.specs.declared.numbered.NumberedExpr.{NumberedExpr}
 use Rattle.bloom_forms.specs.Step.{Sets}
 use Rattle.bloom_eval.specs.declared.rows.Rows.{Rows}
 use Rattle.bloom_eval.specs.Code.Held.{rows_in}
-use Rattle.bloom_eval.specs.Code.NumberedRows.{numbered_rows, numbered_sets}
+use Rattle.bloom_eval.specs.NumberedRows.{numbered_rows, numbered_sets}
 use Rattle.bloom_eval.specs.Code.Evaluates.{GivesRows, Evaluates}
 use Rattle.bloom_eval.specs.StepAnswers.{AllFit}
 use Rattle.blz_set.proofs.Unions.{handed_on}

@@ -19,9 +19,9 @@ use Rattle.bloom_forms.specs.Lookup.{collection_number, declared}
 use Rattle.bloom_forms.specs.Numbered.{IsNumberedRule, AreNumbered}
 use Rattle.bloom_forms.specs.Rows.{rows_of}
 use Rattle.bloom_forms.specs.Step.{Sets, set_at, rows_named, union_of, rules_at}
-use Rattle.bloom_eval.specs.Code.NumberedRows.{numbered_rows, numbered_sets}
+use Rattle.bloom_eval.specs.NumberedRows.{numbered_rows, numbered_sets}
 use Rattle.bloom_eval.specs.StepAnswers.{part_sets, AllFit, rule_sets}
-use Rattle.bloom_eval.specs.Code.Counted.{AddsRows, Adds, TakesHead}
+use Rattle.bloom_eval.specs.Counted.{AddsRows, Adds, TakesHead}
 use Rattle.bloom_eval.proofs.ByNumbers.{same_rows, same_sets}
 
 module _ (columns : Name → List Name) (env : Name → List Row) where

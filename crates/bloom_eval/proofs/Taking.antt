@@ -27,8 +27,8 @@ use Rattle.bloom_forms.proofs.Collections.Numbers.{get-within, derived-some, der
 use Rattle.bloom_forms.proofs.Ends.Equated.{same_rows, same_union, names_none, untouched}
 use Rattle.bloom_forms.specs.Widths.{AreWide}
 use Rattle.bloom_eval.specs.StepAnswers.{parts_of, part_sets, AllFit, SomeIsOver, rule_sets, IsRunnable, counted_at}
-use Rattle.bloom_eval.specs.Code.Counted.{TakesHead}
-use Rattle.bloom_eval.specs.Code.Taken.{AreSetsOfAll, AreBegun, all_taken, TakesHeads}
+use Rattle.bloom_eval.specs.Counted.{TakesHead}
+use Rattle.bloom_eval.specs.Taken.{AreSetsOfAll, AreBegun, all_taken, TakesHeads}
 use Rattle.bloom_forms.proofs.Ends.Wide.{wide_rows}
 use Rattle.bloom_eval.proofs.Widths.{columns_at, columns-number, length-sets_of_all, wide_at, set_wide, wide_named}
 

@@ -15,10 +15,10 @@ use Rattle.bloom_forms.specs.Program.{columns_of_kind}
 use Rattle.bloom_forms.specs.Step.{Sets, set_at, rows_named, begun, begun_at, at_start, sets_of_kind}
 use Rattle.bloom_forms.proofs.Collections.Numbers.{get-number, derived-no_port}
 use Rattle.bloom_forms.proofs.Ends.Equated.{starts}
-use Rattle.bloom_eval.specs.Code.Begin.{AreLeft}
+use Rattle.bloom_eval.specs.Begin.{AreLeft}
 use Rattle.bloom_forms.specs.Widths.{AreWide}
 use Rattle.bloom_forms.specs.Widths.{AreSetsOf}
-use Rattle.bloom_eval.specs.Code.Taken.{AreSetsOfAll, AreBegun}
+use Rattle.bloom_eval.specs.Taken.{AreSetsOfAll, AreBegun}
 
 -- the columns of the collection with the number
 abbrev pub columns_at : List Collection → ℕ → List Name

@@ -1,5 +1,10 @@
 pub mod StepAnswers
 pub mod Laws
+pub mod Begin
+pub mod Counted
+pub mod Finish
+pub mod NumberedRows
+pub mod Taken
 pub mod Code
 pub mod Kind
 pub mod Step

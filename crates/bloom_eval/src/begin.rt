@@ -4,7 +4,7 @@ ghost use Rattle.bloom_forms.specs.declared.module.Kind.TheVariants.{Input, Tabl
 ghost use Rattle.bloom_forms.specs.Kinds.{of_kind};
 ghost use Rattle.bloom_forms.specs.Step.{set_at, begun, at_start};
 ghost use Rattle.bloom_eval.specs.Code.Held.{rows_in, sets_in};
-ghost use Rattle.bloom_eval.specs.Code.Begin.{left_by, place_after, AreLeft};
+ghost use Rattle.bloom_eval.specs.Begin.{left_by, place_after, AreLeft};
 
 use crate::rows::Rows;
 use crate::sets::Kept;

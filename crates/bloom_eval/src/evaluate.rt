@@ -5,7 +5,7 @@ ghost use Rattle.blz_set.specs.Answers.{Gives};
 ghost use Rattle.blz_set.specs.RecordSet.{row_limit};
 ghost use Rattle.bloom_forms.specs.Step.{set_at};
 ghost use Rattle.bloom_eval.specs.Code.Held.{rows_in, sets_in};
-ghost use Rattle.bloom_eval.specs.Code.NumberedRows.{numbered_rows, numbered_sets, TestsFit};
+ghost use Rattle.bloom_eval.specs.NumberedRows.{numbered_rows, numbered_sets, TestsFit};
 ghost use Rattle.bloom_eval.specs.Code.Evaluates.{GivesRows, Evaluates};
 
 use crate::rows::Rows;

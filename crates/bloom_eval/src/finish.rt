@@ -3,7 +3,7 @@ ghost use Rattle.std.specs.Prelude.{◌≡◌, ◌++◌, length, OnOk, IfOk};
 ghost use Rattle.bloom_forms.specs.declared.module.Kind.TheVariants.{Output, Table};
 ghost use Rattle.bloom_forms.specs.Step.{sets_of_kind};
 ghost use Rattle.bloom_eval.specs.Code.Held.{rows_in, sets_in};
-ghost use Rattle.bloom_eval.specs.Code.Finish.{placed};
+ghost use Rattle.bloom_eval.specs.Finish.{placed};
 
 use crate::rows::{Rows, take_rows};
 use crate::sets::{Kept, Outs};

@@ -5,11 +5,11 @@ ghost use Rattle.bloom_forms.specs.declared.module.Kind.TheVariants.{Input, Tabl
 ghost use Rattle.bloom_forms.specs.Program.{columns_of_kind};
 ghost use Rattle.bloom_forms.specs.Step.{set_at, rows_named, rules_at};
 ghost use Rattle.bloom_eval.specs.Code.Held.{sets_in};
-ghost use Rattle.bloom_eval.specs.Code.NumberedRows.{numbered_rows, numbered_sets, TestsFit};
-ghost use Rattle.bloom_eval.specs.Code.Counted.{AddsRows, Adds, TakesHead};
+ghost use Rattle.bloom_eval.specs.NumberedRows.{numbered_rows, numbered_sets, TestsFit};
+ghost use Rattle.bloom_eval.specs.Counted.{AddsRows, Adds, TakesHead};
 ghost use Rattle.bloom_forms.specs.Widths.{AreSetsOf};
 ghost use Rattle.bloom_eval.specs.StepAnswers.{IsRunnable, StepGives};
-ghost use Rattle.bloom_eval.specs.Code.Taken.{AreSetsOfAll, AreBegun, TakesHeads};
+ghost use Rattle.bloom_eval.specs.Taken.{AreSetsOfAll, AreBegun, TakesHeads};
 
 use crate::begin::begin;
 use crate::evaluate::evaluate;
@@ -110,8 +110,8 @@ fn take_heads(
 }
 
 /// One step of a module that was checked: `kept` becomes the new tables, and the answer is the outputs.
-/// TooManyRows comes exactly where a table after the step, a scratch, an output, or an expression or a
-/// part of one in a rule has more than 262,144 rows in this step. After a fault `kept` has one set for
+/// TooManyRows comes exactly where one of these has more than 262,144 rows in this step: a new table, a
+/// scratch, an output, the body of a rule or some part of it. After a fault `kept` has one set for
 /// each table, with rows of its width, and nothing else is said of it.
 pub fn step_plain(
     alloc: Global,

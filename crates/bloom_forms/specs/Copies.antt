@@ -33,7 +33,7 @@ abbrev pub IsCopyOf : (names columns : List Name) → (copied : Row) → Roots �
 IsCopyOf names columns copied roots row = (number attribute : ℕ) → root_at roots number ≡ Some attribute
     → (place : ℕ) × (root_at (attribute_roots names columns) place ≡ Some attribute) × (cell row number ≡ cell copied place)
 
--- all columns of a row that have roots are copies from one record, which arrived at a port that passes the test
+-- one record, which arrived at a port that passes the test, is what all columns of the row with roots are copied from
 pub record HasOrigin (names : List Name) (program : Program) (nows : List Sets) (is_source : ℕ → Bool) (roots : Roots) (row : Row) : Type 0 where
   pub now : Sets
   pub came : Has now nows

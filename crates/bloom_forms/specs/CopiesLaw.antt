@@ -1,4 +1,4 @@
--- All columns of a row that have roots are copies from one arriving record: of the rows of expressions, of rules and of outputs.
+-- One record that arrived is what all columns of a row with roots are copied from: of the rows of expressions, of rules and of outputs.
 use Rattle.std.specs.Prelude.{ℕ, List, [], ◌∷◌, ◌++◌}
 use Rattle.blz_value.specs.Members.{Has}
 use Rattle.blz_value.specs.Record.{Row}

@@ -1,4 +1,4 @@
--- The first fault of a module: the first kind that holds, at its first place, collections before rules.
+-- The first fault of a module: kinds come before places, and collections before rules.
 use Rattle.std.specs.Prelude.{ℕ, ◌+◌, ◌==◌, ◌&&◌, ◌||◌, not, Bool, false, nat_lt, Option, None, Some, List, [], ◌∷◌, length, take}
 use Rattle.std.specs.List.{list_all, list_any, count_by}
 use Rattle.std.specs.Option.{option_or}
@@ -68,7 +68,7 @@ recursive_rule cs all r = meets (set_of_name cs r.0) (closure (named cs r.1) all
 abbrev pub reads_now : List Collection → Facts → Query → Bool
 reads_now cs f q = reads_input cs f.scratches f.inputs.bits q
 
--- a join of two momentary parts, a notin whose right side is momentary, a group or atleast over a momentary part
+-- both parts of a join, the right one of a notin, or that of a group or an atleast is momentary
 abbrev pub mixes : List Collection → Facts → Query → Bool
 mixes cs f (base n) = false
 mixes cs f (select q p) = mixes cs f q
@@ -80,7 +80,7 @@ mixes cs f (at_least q keys bound) = mixes cs f q || reads_now cs f q
 
 -- ---- MixedScratch
 
--- a rule of a scratch that is table-only while another of its rules is momentary
+-- a table-only rule of a scratch that has a momentary rule too
 abbrev pub is_mixed : List Collection → Facts → RuleForm → Bool
 is_mixed cs f r = has_kind is_scratch cs r.0 && (not (reads_now cs f r.1) && meets (set_of_name cs r.0) f.momentary.bits)
 

@@ -1,4 +1,4 @@
--- The first fault of a module, by what is read: an expression is momentary where it reads a port, directly or through scratches, and a rule reads all that is in the cone of its body.
+-- The first fault of a module, by what is read: what reads a port, itself or by scratches, is momentary, and a rule reads all that is in the cone of its body.
 use Rattle.std.specs.Prelude.{ℕ, ◌==◌, ◌&&◌, ◌||◌, not, Bool, false, Option, None, List, [], ◌∷◌}
 use Rattle.std.specs.List.{list_any}
 use Rattle.std.specs.Option.{option_or}
@@ -20,7 +20,7 @@ use Rattle.bloom_forms.specs.Reads.{set_of_name, cone, is_momentary}
 abbrev pub reads_itself : List Collection → List RuleForm → RuleForm → Bool
 reads_itself cs rules r = meets (set_of_name cs r.0) (cone cs rules r.1)
 
--- MomentaryMix: a join of two momentary parts, a notin whose right side is momentary, a group or atleast over a momentary part
+-- MomentaryMix: both parts of a join, the right one of a notin, or that of a group or an atleast is momentary
 abbrev pub mixes_momentary : List Collection → List RuleForm → Query → Bool
 mixes_momentary cs rules (base n) = false
 mixes_momentary cs rules (select q p) = mixes_momentary cs rules q
@@ -34,7 +34,7 @@ mixes_momentary cs rules (at_least q keys bound) = mixes_momentary cs rules q ||
 abbrev pub has_momentary_rule : List Collection → List RuleForm → Name → Bool
 has_momentary_rule cs rules name = list_any (λ r. collection_number cs r.0 == collection_number cs name && is_momentary cs rules r.1) rules
 
--- MixedScratch: a rule of a scratch that is table-only while another of its rules is momentary
+-- MixedScratch: a table-only rule of a scratch that has a momentary rule too
 abbrev pub is_mixed_scratch : List Collection → List RuleForm → RuleForm → Bool
 is_mixed_scratch cs rules r = has_kind is_scratch cs r.0 && (not (is_momentary cs rules r.1) && has_momentary_rule cs rules r.0)
 

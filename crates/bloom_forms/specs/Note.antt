@@ -51,7 +51,7 @@ covers_gate _ None = true
 covers_gate None (Some derived) = false
 covers_gate (Some declared) (Some derived) = within declared.bits derived.bits
 
--- the declared note is W if the derived one is, is O if that is O, and then its gate lies in that gate
+-- the declared note tells no less: W for W, O for O, and with O a gate that lies in the derived one's
 abbrev pub covers : Note → Note → Bool
 covers declared derived =
     covers_write (is_write declared) (is_write derived) && covers_gate (own_gate declared) (own_gate derived)

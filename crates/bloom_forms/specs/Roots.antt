@@ -1,4 +1,4 @@
--- Roots of columns. The root of a column is the attribute under which it entered a port and of which it is a copy; a column that is no such copy has none. An attribute is known by its number, which is the place of its name.
+-- Roots of columns. Where the values of a column are copies of those of a port's column, the attribute of that is its root; any other column has none. An attribute is known by its number, which is the place of its name.
 use Rattle.std.specs.Prelude.{ℕ, ◌==◌, ◌&&◌, Bool, false, if◌then◌else◌, Option, None, Some, List, [], ◌∷◌, ◌++◌, map, slice_index_or}
 use Rattle.std.specs.List.{list_any, enumerate_from}
 use Rattle.blz_value.specs.Operators.{Pairs, unpaired}

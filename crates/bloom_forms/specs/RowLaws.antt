@@ -3,7 +3,7 @@ use Rattle.std.specs.Prelude.{List}
 use Rattle.bloom_forms.specs.declared.program.Program.{Program}
 use Rattle.bloom_forms.specs.Checks.{IsChecked}
 use Rattle.bloom_forms.specs.Form.{Accepted}
-use Rattle.bloom_forms.specs.Proper.{IsProper}
+use Rattle.bloom_forms.specs.Proper.{IsProper, HasDistinctColumns}
 use Rattle.bloom_forms.specs.Query.{Name}
 use Rattle.bloom_forms.specs.Confluence.{ConfluentRules, ConfluentOutputs}
 use Rattle.bloom_forms.specs.KeySets.{HasSetByMembers, SetIsInClosureByMembers, AnswersBySet}
@@ -19,6 +19,10 @@ OfModules Holds = (names : List Name) (a : Accepted) → IsChecked a.form a.head
 -- what is said of each module that was checked and each stock body that fits its columns
 abbrev pub OfPrograms : ((names : List Name) → Program → Type 0) → Type 0
 OfPrograms Holds = (names : List Name) (program : Program) → IsProper program → Holds names program
+
+-- what is said of each of them that has no column twice
+abbrev pub OfDistinct : ((names : List Name) → Program → Type 0) → Type 0
+OfDistinct Holds = (names : List Name) (program : Program) → IsProper program → HasDistinctColumns program → Holds names program
 
 -- ---- rows
 
@@ -48,15 +52,15 @@ SplitRulesLaw = OfModules SplitRules
 
 -- an output splits by what lies in the closure of its gate
 abbrev pub SplitOutputsLaw : Type 0
-SplitOutputsLaw = OfPrograms SplitOutputs
+SplitOutputsLaw = OfDistinct SplitOutputs
 
 -- the one-step answer of an output is that of the records of each key value by themselves
 abbrev pub AnswersByKeyLaw : Type 0
-AnswersByKeyLaw = OfPrograms AnswersByKey
+AnswersByKeyLaw = OfDistinct AnswersByKey
 
 -- the same, where the key is a set of attributes
 abbrev pub AnswersBySetLaw : Type 0
-AnswersBySetLaw = OfPrograms AnswersBySet
+AnswersBySetLaw = OfDistinct AnswersBySet
 
 -- some columns have the members of a set exactly where the set lies in the attributes that they have
 abbrev pub KeyColumnsLaw : Type 0
@@ -72,7 +76,7 @@ RulesKeepKeysLaw = OfModules RulesKeepKeys
 
 -- so has each row of an output
 abbrev pub OutputsKeepKeysLaw : Type 0
-OutputsKeepKeysLaw = OfPrograms OutputsKeepKeys
+OutputsKeepKeysLaw = OfDistinct OutputsKeepKeys
 
 -- ---- ports
 

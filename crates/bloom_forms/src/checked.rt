@@ -64,7 +64,7 @@ impl Checked {
         &self.module
     }
 
-    /// The numbers of the collections that aren't inputs, each after those that its rules read.
+    /// All collections but the inputs, by number, in an order in which a rule's head follows what the rule reads.
     pub fn heads(&self) -> &[u32]
         ensures { result.now ≡ self.now.heads }
     {

@@ -54,7 +54,7 @@ pub enum Expr {
     /// Each left row with each right row that agrees on all pairs of a left and a right column,
     /// without the right columns of pairs.
     Join(Box<Expr>, Box<Expr>, Items<(Str, Str)>),
-    /// The left rows that agree on all pairs with no right row.
+    /// The rows on the left that no row on the right matches in every pair.
     NotIn(Box<Expr>, Box<Expr>, Items<(Str, Str)>),
     /// For each key that occurs the key columns, and the aggregate of its rows under the name.
     Group(Box<Expr>, Items<Str>, NamedAgg, Str),

@@ -32,8 +32,8 @@ pub fn roots_law()
     ensures one { (names : List Name) (a : Accepted) (table : List Roots) → IsOrdered a.form.collections a.form.rules a.heads → AreRootsOf names a.form table → table ≡ roots_table names a }
 {}
 
-/// All columns of a row that have roots are copies from one record, which arrived in this step or an
-/// earlier one, at a port that is read: so it is of each row of an expression, of each row of a rule
+/// One record, which arrived in this step or an earlier one at a port that is read, is what all columns of
+/// a row with roots are copied from: so it is of each row of an expression, of each row of a rule
 /// with the roots of the rule's head, and of each row of an output.
 pub fn copies_law()
     ensures expressions { (names : List Name) (a : Accepted) → IsChecked a.form a.heads → ExpressionsHaveOrigins names a }
@@ -51,8 +51,8 @@ pub fn good_law()
     ensures read { (a : Accepted) → IsChecked a.form a.heads → ReadsGoodByClosure a }
 {}
 
-/// A port feeds a table where a rule of the table reads the port, or reads a table that the port
-/// feeds; and it feeds a table that an expression reads where it is behind the expression.
+/// A table is fed by the ports that its rules read, and by those that feed the tables which its rules
+/// read; and it feeds a table that an expression reads where it is behind the expression.
 pub fn feeds_law()
     ensures recursion { (a : Accepted) → IsChecked a.form a.heads → FeedsByRules a.form }
     ensures read { (a : Accepted) → IsChecked a.form a.heads → FeedsByClosure a.form }

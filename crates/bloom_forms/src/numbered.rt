@@ -13,7 +13,7 @@ pub enum NumberedExpr {
     /// Each left row with each right row that agrees on all pairs of a left and a right column,
     /// without the right columns of pairs.
     Join(Box<NumberedExpr>, Box<NumberedExpr>, Items<(u32, u32)>),
-    /// The left rows that agree on all pairs with no right row.
+    /// The rows on the left that no row on the right matches in every pair.
     NotIn(Box<NumberedExpr>, Box<NumberedExpr>, Items<(u32, u32)>),
     /// For each key that occurs the key columns, and the aggregate of its rows.
     Group(Box<NumberedExpr>, Items<u32>, Agg),

@@ -17,7 +17,7 @@ use crate::module::{Collection, Kind};
 use blz_value::{Faithful, Items, Str};
 
 /// What a component does: a module that was checked, or a stock body. A stock body has at most eight
-/// columns, each once, and its columns are numbered from 0.
+/// columns, numbered from 0.
 #[derive(Clone, Drop)]
 pub enum Program {
     /// A module.

@@ -36,9 +36,9 @@ pub fn confluent_law()
 /// Where a key lies in the closure of a rule's gate, by dependencies that hold in the arriving
 /// records jointly, the rows of the rule in each step are those that it has over the records of each
 /// class by itself, for any classes by the values of the key. So it is of an output and its gate, and
-/// of its one-step answer. A key is a list of attributes; one that is a set of them is the list of its
-/// members, which some columns have, and a closure holds, exactly where they have and it holds the
-/// set.
+/// of its one-step answer, where a stock body has no column twice. A key is a list of attributes; one
+/// that is a set of them is the list of its members, which some columns have, and a closure holds,
+/// exactly where they have and it holds the set.
 pub fn split_law()
     ensures rules { SplitRulesLaw }
     ensures outputs { SplitOutputsLaw }
@@ -49,7 +49,7 @@ pub fn split_law()
 {}
 
 /// The rows of a rule, and of an output, over the records of one value of a key have that value in the
-/// columns whose roots are the attributes of the key.
+/// columns whose roots are the attributes of the key, where a stock body has no column twice.
 pub fn keys_law()
     ensures rules { RulesKeepKeysLaw }
     ensures outputs { OutputsKeepKeysLaw }

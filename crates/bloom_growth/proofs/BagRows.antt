@@ -13,7 +13,7 @@ use Rattle.blz_value.proofs.Membership.{Has-append_left, Has-append_right, Has-a
 use Rattle.blz_value.proofs.OperatorsLemmas.{length-within}
 use Rattle.blz_value.proofs.RowSets.{same_set_of, length-set_of-le}
 use Rattle.blz_value.proofs.SetLaws.{sorted_set_of, Has-set_of, Has-from_set_of}
-use Rattle.blz_set.specs.Code.Missing.{has_row, missing_from}
+use Rattle.blz_set.specs.Missing.{has_row, missing_from}
 use Rattle.blz_set.specs.RecordSet.{row_limit}
 use Rattle.blz_set.proofs.RecordSets.{length-filter-le}
 use Rattle.blz_set.specs.declared.fault.SetFault.{SetFault}
@@ -22,7 +22,7 @@ use Rattle.bloom_growth.specs.declared.bag.Bag.{Bag}
 use Rattle.bloom_growth.specs.Bags.{IsBag, BecomesBag, ColumnsTurn}
 use Rattle.bloom_growth.specs.Growth.{Extends}
 use Rattle.bloom_growth.specs.Turned.{TurnsInto}
-use Rattle.bloom_growth.specs.Code.Counts.{times, given, most_given}
+use Rattle.bloom_growth.specs.Counts.{times, given, most_given}
 use Rattle.bloom_growth.proofs.BagsLemmas.{extends_none}
 use Rattle.bloom_growth.proofs.Extending.{fresh_is_in}
 use Rattle.bloom_growth.proofs.TurnedLemmas.{stays}

@@ -17,11 +17,11 @@ use Rattle.blz_set.specs.Answers.{Gives}
 use Rattle.blz_set.specs.RecordSet.{row_limit}
 use Rattle.blz_set.specs.declared.fault.SetFault.{SetFault}
 use Rattle.blz_set.specs.declared.fault.SetFault.TheVariants.{TooManyRows, NoMemory}
-use Rattle.blz_set.specs.Code.Missing.{missing_from}
+use Rattle.blz_set.specs.Missing.{missing_from}
 use Rattle.blz_set.proofs.Runs.{same_row}
 use Rattle.bloom_growth.specs.Growth.{Extends}
 use Rattle.bloom_growth.specs.Turned.{Turned, TurnsInto}
-use Rattle.bloom_growth.specs.Code.Counts.{times, AreCounted}
+use Rattle.bloom_growth.specs.Counts.{times, AreCounted}
 use Rattle.bloom_growth.proofs.CountsLemmas as counts
 use Rattle.bloom_growth.proofs.CountsLemmas.{has_some}
 use Rattle.bloom_growth.proofs.Extending.{sorted_new, old_is_in, fresh_is_in, old_or_fresh}

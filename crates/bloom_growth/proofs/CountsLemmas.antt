@@ -16,7 +16,7 @@ use Rattle.blz_value.proofs.Membership.{Has-append_cases, Has-filter, Has-from_f
 use Rattle.blz_value.proofs.RowSets.{set_of-sorted}
 use Rattle.blz_value.proofs.SetLaws.{Has-from_set_of}
 use Rattle.blz_value.proofs.SetLemmas.{at_order, below_not_in}
-use Rattle.bloom_growth.specs.Code.Counts.{times, given, AreCounted}
+use Rattle.bloom_growth.specs.Counts.{times, given, AreCounted}
 
 pub given_is : (count n : ℕ) → given count ≡ Some n → n ≡ count
 given_is zero n e = cc

@@ -10,7 +10,7 @@ use Rattle.blz_value.specs.Sets.{set_of, IsRowSet}
 use Rattle.blz_value.proofs.Membership.{Has-append_left, Has-append_cases}
 use Rattle.blz_value.proofs.RowSets.{is_set_of, length-set_of-le, set_of-append_set}
 use Rattle.blz_value.proofs.SetLaws.{sorted_set_of, Has-set_of, Has-from_set_of}
-use Rattle.blz_set.specs.Code.Missing.{has_row}
+use Rattle.blz_set.specs.Missing.{has_row}
 use Rattle.blz_set.specs.RecordSet.{row_limit, IsRecordSet}
 use Rattle.blz_set.proofs.RecordSets.{Has-from_has_row, has_row-from_Has, has_row-from_lacks}
 use Rattle.blz_set.proofs.Unions.{length_union}

@@ -13,7 +13,7 @@ use Rattle.blz_value.proofs.SetLaws.{sorted_set_of, Has-set_of, Has-from_set_of}
 use Rattle.blz_value.proofs.SetLemmas.{below_not_in}
 use Rattle.blz_set.specs.Answers.{Gives}
 use Rattle.blz_set.specs.RecordSet.{row_limit, IsRecordSet}
-use Rattle.blz_set.specs.Code.Missing.{has_row, missing_from}
+use Rattle.blz_set.specs.Missing.{has_row, missing_from}
 use Rattle.blz_set.specs.declared.fault.SetFault.{SetFault}
 use Rattle.blz_set.specs.declared.fault.SetFault.TheVariants.{TooManyRows, NoMemory}
 use Rattle.blz_value.proofs.Membership.{Has-from_filter, Has-append_left, Has-append_right, Has-append_cases, Has-get_or}

@@ -12,10 +12,10 @@ use Rattle.blz_value.proofs.Membership.{Has-append_left, Has-append_right, Has-a
 use Rattle.blz_value.proofs.OperatorsLemmas.{sorted_filter}
 use Rattle.blz_value.proofs.SetLaws.{same_row_sets}
 use Rattle.blz_value.proofs.Lists.{same-self as own_key}
-use Rattle.blz_set.specs.Code.Missing.{has_row, missing_from}
+use Rattle.blz_set.specs.Missing.{has_row, missing_from}
 use Rattle.blz_set.proofs.RecordSets.{has_row-from_Has, Has-from_has_row}
 use Rattle.blz_set.proofs.Runs.{same_row}
-use Rattle.bloom_growth.specs.Code.ByKey.{rows_found, AreByKey}
+use Rattle.bloom_growth.specs.ByKey.{rows_found, AreByKey}
 use Rattle.bloom_growth.specs.Keyed.{IsFreshKeyed, IsKeyedBy}
 use Rattle.bloom_growth.specs.declared.keyed.KeyedRows.{KeyedRows}
 use Rattle.bloom_growth.proofs.Fresh.{none_found}

@@ -22,11 +22,11 @@ use Rattle.blz_value.proofs.Lists.{eq_turned, eq_first}
 use Rattle.blz_set.specs.declared.fault.SetFault.{SetFault}
 use Rattle.blz_set.specs.declared.fault.SetFault.TheVariants.{TooManyRows, NoMemory}
 use Rattle.blz_set.specs.RecordSet.{row_limit}
-use Rattle.blz_set.specs.Code.Pairs.{lefts_of, rights_of}
+use Rattle.blz_set.specs.Pairs.{lefts_of, rights_of}
 use Rattle.blz_set.specs.Answers.{Gives, Becomes}
-use Rattle.blz_set.specs.Code.Growth.{Grows}
+use Rattle.blz_set.specs.Growth.{Grows}
 use Rattle.blz_set.proofs.Joins.{too_many_grown, grown_by}
-use Rattle.bloom_growth.specs.Code.ByKey.{rows_found, AreByKey}
+use Rattle.bloom_growth.specs.ByKey.{rows_found, AreByKey}
 
 -- a right row agrees with a left row where it has the left row's key
 pub right_has : (pairs : Pairs) (left right : Row) → agree pairs left right ≡ eq_by_cmp record_cmp (cells (rights_of pairs) right) (cells (lefts_of pairs) left)

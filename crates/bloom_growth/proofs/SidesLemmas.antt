@@ -19,7 +19,7 @@ use Rattle.blz_set.specs.declared.fault.SetFault.{SetFault}
 use Rattle.blz_set.specs.declared.fault.SetFault.TheVariants.{TooManyRows, NoMemory}
 use Rattle.blz_set.proofs.Joins.{too_many_grown}
 use Rattle.blz_set.proofs.Runs.{same_row}
-use Rattle.bloom_growth.specs.Code.ByKey.{rows_found, AddsAt, AddsTo, AreByKey, MakesByKey, NoneIsEmpty}
+use Rattle.bloom_growth.specs.ByKey.{rows_found, AddsAt, AddsTo, AreByKey, MakesByKey, NoneIsEmpty}
 use Rattle.bloom_growth.specs.Sides.{SideGrows, SideGrown}
 use Rattle.bloom_growth.specs.declared.side.Side.{Side}
 use Rattle.bloom_growth.proofs.GrowSets.{set_more}

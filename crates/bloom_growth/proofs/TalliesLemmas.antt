@@ -17,7 +17,7 @@ use Rattle.blz_set.specs.RecordSet.{row_limit}
 use Rattle.bloom_growth.specs.declared.tally.Kept.TheVariants.{Sum}
 use Rattle.bloom_growth.specs.Tallies.{AreNumbers, IsKept}
 use Rattle.bloom_growth.specs.Code.Aggregates.{column_of}
-use Rattle.bloom_growth.specs.Code.Counts.{AreCounted}
+use Rattle.bloom_growth.specs.Counts.{AreCounted}
 use Rattle.bloom_growth.proofs.CountsLemmas.{found_has, has_found, none_given, no_entries}
 use Rattle.bloom_growth.proofs.AggregateLemmas.{least_is, greatest_is}
 

@@ -9,8 +9,8 @@ use Rattle.blz_value.proofs.Membership.{Has-append_left, Has-append_right, Has-a
 use Rattle.blz_value.proofs.OperatorsLemmas.{from_join, in_join, length-within}
 use Rattle.blz_value.proofs.RowSets.{same_set_of}
 use Rattle.blz_value.proofs.SetLaws.{sorted_set_of, Has-set_of, Has-from_set_of}
-use Rattle.blz_set.specs.Code.Growth.{Grows}
-use Rattle.blz_set.specs.Code.Missing.{missing_from}
+use Rattle.blz_set.specs.Growth.{Grows}
+use Rattle.blz_set.specs.Missing.{missing_from}
 use Rattle.blz_set.specs.RecordSet.{row_limit}
 use Rattle.blz_set.specs.declared.fault.SetFault.{SetFault}
 use Rattle.blz_set.specs.declared.fault.SetFault.TheVariants.{TooManyRows, NoMemory}
@@ -18,7 +18,7 @@ use Rattle.blz_set.proofs.Unions.{length_union}
 use Rattle.bloom_growth.specs.Code.Joins.{turned_rows, MakesFresh, PartGrows, MakesLost, lost_rows}
 use Rattle.bloom_growth.specs.Growth.{Extends}
 use Rattle.bloom_growth.specs.Kept.{Kept, KeepsForm, IsKeptOf, IsGrownTo, IsTurnedTo, PartTurns}
-use Rattle.bloom_growth.specs.Code.ByKey.{AreByKey}
+use Rattle.bloom_growth.specs.ByKey.{AreByKey}
 use Rattle.bloom_growth.specs.JoinTurns.{HaveWidth, JoinTurns}
 use Rattle.bloom_growth.specs.Turned.{Turned, TurnsInto}
 use Rattle.bloom_growth.proofs.Extending.{old_is_in, fresh_is_in, old_or_fresh, from_turned, in_turned}

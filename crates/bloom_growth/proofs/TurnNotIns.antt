@@ -16,15 +16,15 @@ use Rattle.blz_value.proofs.RowSets.{same_set_of}
 use Rattle.blz_value.proofs.SetLaws.{sorted_set_of, Has-set_of, Has-from_set_of}
 use Rattle.blz_value.proofs.Lists.{same-self as own_key}
 use Rattle.blz_set.specs.Answers.{Gives}
-use Rattle.blz_set.specs.Code.Missing.{missing_from}
-use Rattle.blz_set.specs.Code.Pairs.{lefts_of, rights_of}
+use Rattle.blz_set.specs.Missing.{missing_from}
+use Rattle.blz_set.specs.Pairs.{lefts_of, rights_of}
 use Rattle.blz_set.specs.RecordSet.{row_limit}
 use Rattle.blz_set.specs.declared.fault.SetFault.{SetFault}
 use Rattle.blz_set.specs.declared.fault.SetFault.TheVariants.{TooManyRows, NoMemory}
 use Rattle.blz_set.proofs.Joins.{grown_once}
 use Rattle.blz_set.proofs.Keys.{keys-push}
 use Rattle.blz_set.proofs.Runs.{same_row}
-use Rattle.bloom_growth.specs.Code.ByKey.{rows_found, AreByKey}
+use Rattle.bloom_growth.specs.ByKey.{rows_found, AreByKey}
 use Rattle.bloom_growth.specs.Kept.{Kept}
 use Rattle.bloom_growth.specs.NotInTurns.{NotInTurns}
 use Rattle.bloom_growth.specs.Code.NotIns.{free_at, free_rows, freed_at, freed_rows}

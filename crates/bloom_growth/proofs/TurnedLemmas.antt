@@ -11,7 +11,7 @@ use Rattle.blz_value.proofs.Membership.{Has-append_left, Has-append_right, Has-a
 use Rattle.blz_value.proofs.RowSets.{is_set_of}
 use Rattle.blz_value.proofs.SetLaws.{same_row_sets, sorted_set_of}
 use Rattle.blz_set.specs.Answers.{Gives}
-use Rattle.blz_set.specs.Code.Missing.{has_row, missing_from}
+use Rattle.blz_set.specs.Missing.{has_row, missing_from}
 use Rattle.blz_set.specs.RecordSet.{IsRecordSet}
 use Rattle.blz_set.specs.declared.fault.SetFault.{SetFault}
 use Rattle.blz_set.specs.declared.fault.SetFault.TheVariants.{TooManyRows, NoMemory}

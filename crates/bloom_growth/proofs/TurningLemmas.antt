@@ -27,7 +27,7 @@ use Rattle.bloom_growth.specs.declared.tally.Kept.TheVariants.{Nothing, Sum, Val
 use Rattle.bloom_growth.specs.declared.tally.Tally.{Tally}
 use Rattle.bloom_growth.specs.Tallies.{IsKept, IsTally}
 use Rattle.bloom_growth.specs.TurningGroups.{IsTalliedAt, AreTallied, tally_at}
-use Rattle.bloom_growth.specs.Code.Counts.{times, given}
+use Rattle.bloom_growth.specs.Counts.{times, given}
 use Rattle.bloom_growth.specs.Code.Tallies.{KeepsOthers, GoesOn, GoesBack, IsLeft, IsStep, LeavesAt, value_of}
 use Rattle.bloom_growth.proofs.CountsLemmas.{count_insert}
 use Rattle.bloom_growth.proofs.AggregateLemmas.{length_more, sum_insert}

@@ -10,7 +10,7 @@ use Rattle.bloom_growth.specs.declared.bag.Bag.{Bag}
 use Rattle.bloom_growth.specs.declared.bag.Passing.{Passing}
 use Rattle.bloom_growth.specs.Growth.{Extends}
 use Rattle.bloom_growth.specs.Turned.{Turned}
-use Rattle.bloom_growth.specs.Code.Counts.{AreCounted}
+use Rattle.bloom_growth.specs.Counts.{AreCounted}
 
 -- at each row stands how often these rows give it; the order in which they do is nothing
 pub record IsBag (rows : List Row) (bag : Bag) : Type 0 where

@@ -19,7 +19,7 @@ use Rattle.bloom_growth.specs.declared.turning_groups.TurningGroups.{TurningGrou
 use Rattle.bloom_growth.specs.Bags.{IsBag}
 use Rattle.bloom_growth.specs.Tallies.{IsKept}
 use Rattle.bloom_growth.specs.TurningGroups.{IsTalliedAt, AreTallied, TalliesStand, tally_at}
-use Rattle.bloom_growth.specs.Code.Counts.{AreCounted}
+use Rattle.bloom_growth.specs.Counts.{AreCounted}
 
 AreCounted-prop : {K : Type 0} (cmp : K → K → Ordering) (keys : List K) (counts : BTreeMap K ℕ) → IsProp (AreCounted cmp keys counts)
 AreCounted-prop cmp keys counts = hlevel props

@@ -5,7 +5,7 @@ use Rattle.blz_value.specs.Record.{Row}
 use Rattle.blz_set.specs.RecordSet.{row_limit}
 use Rattle.blz_set.specs.declared.fault.SetFault.{SetFault}
 use Rattle.blz_set.specs.declared.fault.SetFault.TheVariants.{TooManyRows, NoMemory}
-use Rattle.bloom_growth.specs.Code.ByKey.{AreByKey}
+use Rattle.bloom_growth.specs.ByKey.{AreByKey}
 use Rattle.bloom_growth.specs.Turned.{Turned}
 
 -- the columns by whose values rows stand, the rows at each key, and whether the part only grows

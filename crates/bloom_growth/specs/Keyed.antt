@@ -3,7 +3,7 @@ use Rattle.std.specs.Prelude.{ℕ, ◌≡◌, List}
 use Rattle.std.specs.BTreeMap.{IsEmpty}
 use Rattle.blz_value.specs.Record.{Row}
 use Rattle.bloom_growth.specs.declared.keyed.KeyedRows.{KeyedRows}
-use Rattle.bloom_growth.specs.Code.ByKey.{AreByKey}
+use Rattle.bloom_growth.specs.ByKey.{AreByKey}
 
 -- at each key stand those of these rows that have it in these columns
 abbrev pub IsKeyedBy : List ℕ → List Row → KeyedRows → Type 0

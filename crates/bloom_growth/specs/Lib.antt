@@ -10,4 +10,6 @@ pub mod Sides
 pub mod Tallies
 pub mod TurningGroups
 pub mod Facts
+pub mod ByKey
+pub mod Counts
 pub mod Code

@@ -2,7 +2,7 @@
 use Rattle.std.specs.Prelude.{◌≤◌, List, length}
 use Rattle.blz_value.specs.Operators.{Pairs}
 use Rattle.blz_value.specs.Record.{Row}
-use Rattle.blz_set.specs.Code.Pairs.{lefts_of, rights_of}
+use Rattle.blz_set.specs.Pairs.{lefts_of, rights_of}
 use Rattle.blz_set.specs.RecordSet.{row_limit}
 use Rattle.bloom_growth.specs.Kept.{Kept, IsKeptOf, PartTurns}
 

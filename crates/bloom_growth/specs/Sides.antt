@@ -7,7 +7,7 @@ use Rattle.blz_set.specs.declared.fault.SetFault.{SetFault}
 use Rattle.blz_set.specs.declared.fault.SetFault.TheVariants.{TooManyRows, NoMemory}
 use Rattle.bloom_growth.specs.declared.side.Side.{Side}
 use Rattle.bloom_growth.specs.Growth.{Extends}
-use Rattle.bloom_growth.specs.Code.ByKey.{rows_found, AreByKey}
+use Rattle.bloom_growth.specs.ByKey.{rows_found, AreByKey}
 
 -- the rows that a side has at a key
 abbrev pub rows_at : Side → (key : Row) → List Row

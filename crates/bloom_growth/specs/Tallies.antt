@@ -12,7 +12,7 @@ use Rattle.blz_value.specs.Value.{value_cmp}
 use Rattle.bloom_growth.specs.declared.tally.Kept.{Kept}
 use Rattle.bloom_growth.specs.declared.tally.Kept.TheVariants.{Nothing, Sum, Values}
 use Rattle.bloom_growth.specs.declared.tally.Tally.{Tally}
-use Rattle.bloom_growth.specs.Code.Counts.{AreCounted}
+use Rattle.bloom_growth.specs.Counts.{AreCounted}
 
 -- the numbers in a column are of 64 bits
 abbrev pub AreNumbers : ℕ → List Row → Type 0

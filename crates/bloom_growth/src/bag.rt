@@ -5,8 +5,8 @@ ghost use Rattle.blz_value.specs.Operators.{project_rows};
 ghost use Rattle.blz_value.specs.Record.{Row};
 ghost use Rattle.blz_value.specs.Sets.{set_of};
 ghost use Rattle.blz_set.specs.Answers.{Gives};
-ghost use Rattle.blz_set.specs.Code.Missing.{missing_from};
-ghost use Rattle.bloom_growth.specs.Code.Counts.{most_given};
+ghost use Rattle.blz_set.specs.Missing.{missing_from};
+ghost use Rattle.bloom_growth.specs.Counts.{most_given};
 ghost use Rattle.bloom_growth.specs.Growth.{Extends};
 ghost use Rattle.bloom_growth.specs.Turned.{TurnsInto};
 

@@ -3,9 +3,9 @@ ghost use Rattle.std.specs.Prelude.{◌≡◌, ◌↔◌, ◌<◌, ◌≤◌, �
 ghost use Rattle.blz_value.specs.Operators.{joined};
 ghost use Rattle.blz_value.specs.Record.{Row};
 ghost use Rattle.blz_value.specs.Sets.{IsRowSet};
-ghost use Rattle.blz_set.specs.Code.Missing.{missing_from};
+ghost use Rattle.blz_set.specs.Missing.{missing_from};
 ghost use Rattle.blz_set.specs.RecordSet.{row_limit};
-ghost use Rattle.bloom_growth.specs.Code.ByKey.{rows_found, AreByKey};
+ghost use Rattle.bloom_growth.specs.ByKey.{rows_found, AreByKey};
 ghost use Rattle.bloom_growth.specs.Growth.{Extends};
 ghost use Rattle.bloom_growth.specs.Kept.{Kept, KeepsForm, IsGrownTo, IsTurnedTo, PartTurns};
 

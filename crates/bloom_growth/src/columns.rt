@@ -2,7 +2,7 @@
 ghost use Rattle.std.specs.Prelude.{◌≡◌, ◌∷◌, ◌++◌, [], IfOk};
 ghost use Rattle.blz_value.specs.Operators.{cells};
 ghost use Rattle.blz_value.specs.Test.{cell};
-ghost use Rattle.blz_set.specs.Code.Pairs.{lefts_of, rights_of};
+ghost use Rattle.blz_set.specs.Pairs.{lefts_of, rights_of};
 
 use blz_value::{Record, Value};
 use std::alloc::{AllocError, Global};

@@ -2,7 +2,7 @@
 ghost use Rattle.std.specs.Prelude.{◌≡◌, ◌↔◌, false, IsTrue, IsSome, IfSome, IfNone, OnOk};
 ghost use Rattle.std.specs.BTreeMap.{get, IsUnchanged};
 ghost use Rattle.std.specs.declared.cmp.Ordering.TheVariants.{Equal};
-ghost use Rattle.bloom_growth.specs.Code.Counts.{CountsMore, CountsLess, IsStill, IsOnce};
+ghost use Rattle.bloom_growth.specs.Counts.{CountsMore, CountsLess, IsStill, IsOnce};
 
 use std::alloc::AllocError;
 use std::collections::BTreeMap;

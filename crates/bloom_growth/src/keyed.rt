@@ -3,8 +3,8 @@
 ghost use Rattle.std.specs.Prelude.{◌≡◌, ◌∷◌, ◌++◌, [], IsTrue, ℕ, List, IfOk, OnOk};
 ghost use Rattle.blz_value.specs.Record.{Row};
 ghost use Rattle.blz_value.specs.Sets.{set_of, IsRowSet};
-ghost use Rattle.blz_set.specs.Code.Missing.{missing_from};
-ghost use Rattle.bloom_growth.specs.Code.ByKey.{rows_found, AddsAt, AreByKey, NoneIsEmpty};
+ghost use Rattle.blz_set.specs.Missing.{missing_from};
+ghost use Rattle.bloom_growth.specs.ByKey.{rows_found, AddsAt, AreByKey, NoneIsEmpty};
 
 use crate::columns::copy_cells;
 use crate::row_tree::{RowTree, push_copies};

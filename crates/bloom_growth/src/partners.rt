@@ -3,11 +3,11 @@ ghost use Rattle.std.specs.Prelude.{◌≡◌, ◌<◌, ◌++◌, List, map, len
 ghost use Rattle.blz_value.specs.Operators.{is_paired, unpaired, joined, join_rows};
 ghost use Rattle.blz_value.specs.Record.{Row};
 ghost use Rattle.blz_value.specs.Sets.{set_of};
-ghost use Rattle.blz_set.specs.Code.Growth.{Grows};
-ghost use Rattle.blz_set.specs.Code.Pairs.{lefts_of, rights_of};
+ghost use Rattle.blz_set.specs.Growth.{Grows};
+ghost use Rattle.blz_set.specs.Pairs.{lefts_of, rights_of};
 ghost use Rattle.blz_set.specs.RecordSet.{IsRecordSet, row_limit};
 ghost use Rattle.blz_set.specs.declared.fault.SetFault.TheVariants.{TooManyRows};
-ghost use Rattle.bloom_growth.specs.Code.ByKey.{AreByKey};
+ghost use Rattle.bloom_growth.specs.ByKey.{AreByKey};
 ghost use Rattle.bloom_growth.specs.Code.Joins.{turned_rows};
 
 use crate::by_key::RowsByKey;

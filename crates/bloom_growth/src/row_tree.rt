@@ -1,7 +1,7 @@
 //! A set of records that rows enter and leave, kept in a tree, so that such a row moves no other.
 ghost use Rattle.std.specs.Prelude.{◌≡◌, ◌↔◌, ◌∷◌, ◌++◌, [], IsTrue, OnErr, OnOk, length};
 ghost use Rattle.blz_value.specs.Sets.{set_of};
-ghost use Rattle.blz_set.specs.Code.Missing.{missing_from};
+ghost use Rattle.blz_set.specs.Missing.{missing_from};
 
 use blz_value::Record;
 use std::alloc::{AllocError, Global};

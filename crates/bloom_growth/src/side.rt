@@ -3,7 +3,7 @@ ghost use Rattle.std.specs.Prelude.{◌≡◌, ◌∷◌, ◌++◌, [], ℕ, Lis
 ghost use Rattle.blz_value.specs.Operators.{cells};
 ghost use Rattle.blz_value.specs.Record.{Row};
 ghost use Rattle.blz_value.specs.Sets.{set_of, IsRowSet};
-ghost use Rattle.bloom_growth.specs.Code.ByKey.{rows_found, AreByKey, AddsTo, MakesByKey};
+ghost use Rattle.bloom_growth.specs.ByKey.{rows_found, AreByKey, AddsTo, MakesByKey};
 
 use crate::columns::copy_cells;
 use crate::turn::one_row;

@@ -7,7 +7,7 @@ ghost use Rattle.blz_value.specs.Test.{cell};
 ghost use Rattle.blz_value.specs.Value.{value_cmp};
 ghost use Rattle.blz_set.specs.RecordSet.{row_limit};
 ghost use Rattle.bloom_growth.specs.Code.Aggregates.{column_of};
-ghost use Rattle.bloom_growth.specs.Code.Counts.{AreCounted};
+ghost use Rattle.bloom_growth.specs.Counts.{AreCounted};
 
 use crate::columns::copy_cell;
 use crate::counts::{put_key, take_key};

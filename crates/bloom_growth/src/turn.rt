@@ -1,7 +1,7 @@
 //! What a part gets and what it loses in a step.
 ghost use Rattle.std.specs.Prelude.{◌≡◌, ◌∷◌, [], IfSome};
 ghost use Rattle.blz_set.specs.Answers.{Gives};
-ghost use Rattle.blz_set.specs.Code.Missing.{missing_from};
+ghost use Rattle.blz_set.specs.Missing.{missing_from};
 ghost use Rattle.blz_set.specs.RecordSet.{IsRecordSet};
 ghost use Rattle.bloom_growth.specs.Turned.{TurnsInto};
 

@@ -8,7 +8,7 @@ ghost use Rattle.blz_value.specs.Operators.{cells, project_rows};
 ghost use Rattle.blz_value.specs.Record.{Row};
 ghost use Rattle.blz_value.specs.Sets.{set_of, IsRowSet};
 ghost use Rattle.blz_set.specs.Answers.{Gives};
-ghost use Rattle.blz_set.specs.Code.Missing.{has_row};
+ghost use Rattle.blz_set.specs.Missing.{has_row};
 ghost use Rattle.blz_set.specs.RecordSet.{row_limit};
 ghost use Rattle.bloom_growth.specs.Code.Aggregates.{grouped, rows_of};
 ghost use Rattle.bloom_growth.specs.Tallies.{IsTally};

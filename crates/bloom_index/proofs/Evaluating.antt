@@ -12,7 +12,7 @@ use Rattle.blz_set.proofs.Unions.{handed_on}
 use Rattle.bloom_forms.specs.declared.numbered.NumberedExpr.{NumberedExpr}
 use Rattle.bloom_forms.specs.declared.numbered.NumberedExpr as expr
 use Rattle.bloom_forms.specs.Step.{Sets}
-use Rattle.bloom_eval.specs.Code.NumberedRows.{numbered_rows, numbered_sets, TestsFit}
+use Rattle.bloom_eval.specs.NumberedRows.{numbered_rows, numbered_sets, TestsFit}
 use Rattle.bloom_eval.specs.StepAnswers.{AllFit, SomeIsOver}
 use Rattle.bloom_growth.proofs.TurnedLemmas.{came, went}
 use Rattle.bloom_parts.specs.declared.change.Change.{Change}

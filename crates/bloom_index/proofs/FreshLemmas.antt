@@ -10,7 +10,7 @@ use Rattle.blz_value.specs.Operators.{Pairs, select_rows, project_rows, join_row
 use Rattle.blz_value.specs.Record.{Row}
 use Rattle.blz_value.specs.Sets.{set_of}
 use Rattle.blz_value.specs.Test.{test_holds}
-use Rattle.blz_set.specs.Code.Pairs.{lefts_of, rights_of}
+use Rattle.blz_set.specs.Pairs.{lefts_of, rights_of}
 use Rattle.bloom_forms.specs.declared.module.Kind.{Kind}
 use Rattle.bloom_forms.specs.declared.module.Kind.TheVariants.{Input, Output, Table, Scratch}
 use Rattle.bloom_forms.specs.declared.numbered.NumberedExpr.{NumberedExpr}
@@ -29,7 +29,7 @@ use Rattle.bloom_forms.specs.Step.{Sets, set_at, begun, ended, at_start, rules_a
 use Rattle.bloom_forms.proofs.Ends.Equated.{starts}
 use Rattle.bloom_forms.proofs.Ends.SameEnds.{none_at}
 use Rattle.bloom_forms.proofs.Reach.Quiet.{empty_rows}
-use Rattle.bloom_eval.specs.Code.NumberedRows.{numbered_rows}
+use Rattle.bloom_eval.specs.NumberedRows.{numbered_rows}
 use Rattle.bloom_growth.specs.declared.turn_joins.KeptJoin.{KeptJoin}
 use Rattle.bloom_growth.specs.declared.turn_notins.KeptNotIn.{KeptNotIn}
 use Rattle.bloom_growth.specs.Bags.{IsBag}

@@ -13,7 +13,7 @@ use Rattle.blz_set.proofs.Unions.{handed_on}
 use Rattle.bloom_forms.specs.declared.numbered.NumberedRule.{NumberedRule}
 use Rattle.bloom_forms.specs.Lookup.{declared}
 use Rattle.bloom_forms.specs.Step.{rows_named, rules_at}
-use Rattle.bloom_eval.specs.Code.Counted.{Adds}
+use Rattle.bloom_eval.specs.Counted.{Adds}
 use Rattle.bloom_parts.specs.declared.change.Change.{Change}
 use Rattle.bloom_parts.specs.Turns.{rows_in}
 use Rattle.bloom_index.specs.declared.memo.Memo.{Memo}

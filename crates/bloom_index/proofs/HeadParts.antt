@@ -29,7 +29,7 @@ use Rattle.bloom_forms.specs.Lookup.{declared}
 use Rattle.bloom_forms.specs.Numbered.{AreNumbered}
 use Rattle.bloom_forms.specs.Rows.{rows_of}
 use Rattle.bloom_forms.specs.Step.{Sets, rows_named, rules_at, ruled_at, union_of}
-use Rattle.bloom_eval.specs.Code.NumberedRows.{numbered_rows, numbered_sets}
+use Rattle.bloom_eval.specs.NumberedRows.{numbered_rows, numbered_sets}
 use Rattle.bloom_eval.specs.StepAnswers.{AllFit, part_sets, rule_sets}
 use Rattle.bloom_eval.proofs.ByNumbers.{same_rows, same_sets}
 use Rattle.bloom_parts.specs.declared.change.Change.{Change}

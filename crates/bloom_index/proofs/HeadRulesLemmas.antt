@@ -23,8 +23,8 @@ use Rattle.bloom_forms.specs.Query.Query.{base, select, project, join, notin, gr
 use Rattle.bloom_forms.specs.Widths.{AreWide}
 use Rattle.bloom_forms.proofs.Ends.Wide.{wide_rows}
 use Rattle.bloom_forms.specs.Step.{Sets, rows_named, rules_at}
-use Rattle.bloom_eval.specs.Code.Counted.{AddsRows, Adds}
-use Rattle.bloom_eval.specs.Code.NumberedRows.{numbered_rows, numbered_sets}
+use Rattle.bloom_eval.specs.Counted.{AddsRows, Adds}
+use Rattle.bloom_eval.specs.NumberedRows.{numbered_rows, numbered_sets}
 use Rattle.bloom_eval.specs.StepAnswers.{AllFit}
 use Rattle.bloom_eval.proofs.ByNumbers.{same_rows, tests_fit}
 use Rattle.bloom_eval.proofs.Rules.{adds_none, adds_one, first_refused, IsFormAt, form_at, own_rule, other_rule, none_from, adds_named}

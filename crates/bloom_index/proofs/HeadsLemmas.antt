@@ -13,7 +13,7 @@ use Rattle.blz_set.specs.declared.fault.SetFault.{SetFault}
 use Rattle.blz_set.specs.declared.fault.SetFault.TheVariants.{TooManyRows, NoMemory}
 use Rattle.blz_set.proofs.Unions.{handed_on}
 use Rattle.bloom_forms.specs.declared.numbered.NumberedExpr.{NumberedExpr}
-use Rattle.bloom_eval.specs.Code.NumberedRows.{numbered_rows, numbered_sets}
+use Rattle.bloom_eval.specs.NumberedRows.{numbered_rows, numbered_sets}
 use Rattle.bloom_eval.specs.StepAnswers.{AllFit}
 use Rattle.bloom_parts.specs.declared.change.Change.{Change}
 use Rattle.bloom_parts.specs.Turns.{HasTurned}

@@ -38,7 +38,7 @@ use Rattle.bloom_forms.proofs.Ends.OverTables.{over_solved, end_over}
 use Rattle.bloom_forms.proofs.Ends.Wide.{wide_rows}
 use Rattle.bloom_forms.proofs.Reach.Quiet.{input_momentary, scratch_momentary, names_momentary}
 use Rattle.bloom_forms.proofs.Reach.ReadsLemmas.{by_names}
-use Rattle.bloom_eval.specs.Code.Taken.{AreSetsOfAll}
+use Rattle.bloom_eval.specs.Taken.{AreSetsOfAll}
 use Rattle.bloom_eval.proofs.Widths.{columns_at, columns-number, wide_at, wide_named, set_wide, kinds_wide, are_begun}
 use Rattle.bloom_index.specs.Code.Growth.{kind_grows}
 use Rattle.bloom_index.specs.Code.Kept.{held_over}

@@ -14,7 +14,7 @@ use Rattle.blz_value.proofs.SetLaws.{sorted_set_of}
 use Rattle.bloom_forms.specs.declared.numbered.NumberedExpr.{NumberedExpr}
 use Rattle.bloom_forms.specs.declared.numbered.NumberedExpr as expr
 use Rattle.bloom_forms.specs.Step.{Sets, set_at}
-use Rattle.bloom_eval.specs.Code.NumberedRows.{numbered_rows}
+use Rattle.bloom_eval.specs.NumberedRows.{numbered_rows}
 use Rattle.bloom_index.specs.Code.Growth.{grows_at, grows, IsGrown}
 
 more_often : (keys : List ℕ) (bound : ℕ) (old new : List Row) → IsGrown old new → (key : Row) → nat_le bound (length (with_key keys key old)) ≡ true → nat_le bound (length (with_key keys key new)) ≡ true

@@ -15,7 +15,7 @@ use Rattle.blz_value.specs.Test.{test_holds}
 use Rattle.blz_set.specs.declared.fault.SetFault.{SetFault}
 use Rattle.bloom_forms.specs.declared.numbered.NumberedExpr.{NumberedExpr}
 use Rattle.bloom_forms.specs.declared.numbered.NumberedExpr as expr
-use Rattle.bloom_eval.specs.Code.NumberedRows.{numbered_rows, numbered_sets}
+use Rattle.bloom_eval.specs.NumberedRows.{numbered_rows, numbered_sets}
 use Rattle.bloom_growth.specs.declared.bag.Bag.{Bag}
 use Rattle.bloom_growth.specs.declared.turn_joins.KeptJoin.{KeptJoin}
 use Rattle.bloom_growth.specs.declared.turn_notins.KeptNotIn.{KeptNotIn}

@@ -18,7 +18,7 @@ use Rattle.bloom_forms.specs.Query.{Query}
 use Rattle.bloom_forms.specs.Query.Query.{base, select, project, join, notin, group, at_least}
 use Rattle.bloom_forms.specs.Rows.{column_numbers, item_numbers, numbered_agg, rows_of}
 use Rattle.bloom_forms.specs.Step.{Sets, rows_named}
-use Rattle.bloom_eval.specs.Code.NumberedRows.{numbered_rows}
+use Rattle.bloom_eval.specs.NumberedRows.{numbered_rows}
 use Rattle.bloom_eval.proofs.ByNumbers.{same_rows}
 use Rattle.bloom_growth.specs.declared.bag.Bag.{Bag}
 use Rattle.bloom_growth.specs.Bags.{IsBag}

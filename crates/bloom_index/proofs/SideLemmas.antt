@@ -9,7 +9,7 @@ use Rattle.blz_value.specs.Members.{Has}
 use Rattle.blz_value.specs.Operators.{Pairs}
 use Rattle.blz_value.specs.Record.{Row}
 use Rattle.blz_value.proofs.Membership.{Has-append_left, Has-append_right}
-use Rattle.blz_set.specs.Code.Pairs.{lefts_of, rights_of}
+use Rattle.blz_set.specs.Pairs.{lefts_of, rights_of}
 use Rattle.bloom_forms.specs.declared.module.Collection.{Collection}
 use Rattle.bloom_forms.specs.declared.numbered.NumberedExpr.{NumberedExpr, Base, Select', Project', Join', NotIn', Group', AtLeast'}
 use Rattle.bloom_forms.specs.declared.numbered.NumberedRule.{NumberedRule}
@@ -21,7 +21,7 @@ use Rattle.bloom_forms.specs.Numbered.{IsNumbered, AreNumbered}
 use Rattle.bloom_forms.specs.Query.{Query}
 use Rattle.bloom_forms.specs.Query.Query.{base, select, project, join, notin, group, at_least}
 use Rattle.bloom_forms.specs.Step.{Sets}
-use Rattle.bloom_eval.specs.Code.NumberedRows.{numbered_rows}
+use Rattle.bloom_eval.specs.NumberedRows.{numbered_rows}
 use Rattle.bloom_eval.proofs.ByNumbers.{same_rows}
 use Rattle.bloom_growth.specs.declared.side.Side.{Side}
 use Rattle.bloom_index.specs.Growing.{is_growing}

@@ -17,7 +17,7 @@ use Rattle.bloom_parts.specs.PartForms.{kept_of}
 use Rattle.bloom_index.specs.declared.memo.Memo.{Memo}
 use Rattle.bloom_index.specs.declared.memo.Memo as shape
 use Rattle.bloom_growth.specs.declared.side.Side.{Side}
-use Rattle.bloom_eval.specs.Code.NumberedRows.{numbered_rows}
+use Rattle.bloom_eval.specs.NumberedRows.{numbered_rows}
 use Rattle.bloom_index.specs.Code.Evaluation.{Stands}
 use Rattle.bloom_index.specs.Code.Growth.{grows}
 use Rattle.bloom_growth.specs.Sides.{IsSideOf}

@@ -10,7 +10,7 @@ use Rattle.blz_value.specs.Operators.{Pairs, select_rows, project_rows, join_row
 use Rattle.blz_value.specs.Groups.{group_rows, at_least_rows}
 use Rattle.blz_value.specs.declared.aggregate.Agg.TheVariants.{Count}
 use Rattle.blz_value.proofs.Membership.{Has-append_left, Has-append_right}
-use Rattle.blz_set.specs.Code.Pairs.{lefts_of, rights_of}
+use Rattle.blz_set.specs.Pairs.{lefts_of, rights_of}
 use Rattle.blz_set.specs.RecordSet.{row_limit}
 use Rattle.bloom_forms.specs.declared.module.Collection.{Collection}
 use Rattle.bloom_forms.specs.declared.numbered.NumberedExpr.{NumberedExpr}
@@ -22,12 +22,12 @@ use Rattle.bloom_forms.specs.Numbered.{IsNumbered}
 use Rattle.bloom_forms.specs.Query.{Name, Query}
 use Rattle.bloom_forms.specs.Query.Query.{base, select, project, join, notin, group, at_least}
 use Rattle.bloom_forms.specs.Step.{Sets, set_at}
-use Rattle.bloom_eval.specs.Code.NumberedRows.{numbered_rows}
+use Rattle.bloom_eval.specs.NumberedRows.{numbered_rows}
 use Rattle.bloom_growth.specs.declared.bag.Bag.{Bag}
 use Rattle.bloom_growth.specs.declared.turn_joins.KeptJoin.{KeptJoin}
 use Rattle.bloom_growth.specs.declared.turn_notins.KeptNotIn.{KeptNotIn}
 use Rattle.bloom_growth.specs.Bags.{IsBag}
-use Rattle.bloom_growth.specs.Code.ByKey.{AreByKey}
+use Rattle.bloom_growth.specs.ByKey.{AreByKey}
 use Rattle.bloom_growth.specs.Kept.{Kept}
 use Rattle.bloom_growth.specs.Keyed.{IsKeyedBy}
 use Rattle.bloom_growth.specs.TurningGroups.{TalliesStand}

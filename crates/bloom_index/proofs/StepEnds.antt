@@ -26,7 +26,7 @@ use Rattle.bloom_forms.specs.Widths.{AreWide}
 use Rattle.bloom_forms.proofs.Collections.Numbers.{derived_or, set-of_kind}
 use Rattle.bloom_forms.proofs.Ends.Equated.{starts, length-at_end}
 use Rattle.bloom_forms.proofs.Ends.SameEnds.{one_kind}
-use Rattle.bloom_eval.specs.Code.Taken.{AreSetsOfAll}
+use Rattle.bloom_eval.specs.Taken.{AreSetsOfAll}
 use Rattle.bloom_eval.specs.StepAnswers.{AllFit, counted_sets}
 use Rattle.bloom_eval.proofs.Runnable.{runnable}
 use Rattle.bloom_eval.proofs.Taking.{at_first, at_last}

@@ -34,8 +34,8 @@ use Rattle.bloom_forms.specs.Widths.{AreSetsOf}
 use Rattle.bloom_forms.proofs.Collections.Numbers.{derived-some, derived-no_port, set-of_kind, get-within}
 use Rattle.bloom_forms.proofs.Ends.Equated.{same_union, names_none, untouched, starts, ends, length-at_end}
 use Rattle.bloom_forms.proofs.Reach.ReadsLemmas.{reads}
-use Rattle.bloom_eval.specs.Code.Counted.{TakesHead}
-use Rattle.bloom_eval.specs.Code.NumberedRows.{numbered_rows}
+use Rattle.bloom_eval.specs.Counted.{TakesHead}
+use Rattle.bloom_eval.specs.NumberedRows.{numbered_rows}
 use Rattle.bloom_eval.specs.StepAnswers.{AllFit, SomeIsOver}
 use Rattle.bloom_eval.proofs.ByNumbers as numbers
 use Rattle.bloom_eval.proofs.Taking.{IsAt, same_rule_sets}

@@ -21,7 +21,7 @@ use Rattle.bloom_forms.specs.Kinds.{kind_at}
 use Rattle.bloom_forms.specs.Step.{Sets, set_at, at_start, ruled_at, at_end}
 use Rattle.bloom_forms.specs.Widths.{AreWide}
 use Rattle.bloom_forms.proofs.Ends.Equated.{untouched}
-use Rattle.bloom_eval.specs.Code.Taken.{AreSetsOfAll, TakesHeads}
+use Rattle.bloom_eval.specs.Taken.{AreSetsOfAll, TakesHeads}
 use Rattle.bloom_eval.specs.StepAnswers.{AllFit, SomeIsOver, counted_sets}
 use Rattle.bloom_eval.proofs.Runnable.{runnable}
 use Rattle.bloom_eval.proofs.Taking.{IsAt, at_next, at_refused}

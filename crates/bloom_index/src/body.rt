@@ -9,7 +9,7 @@ ghost use Rattle.bloom_forms.specs.ProgramStep.{empty_tables};
 ghost use Rattle.bloom_forms.specs.Step.{set_at, sets_of_kind, tables_after, outputs_of};
 ghost use Rattle.bloom_forms.specs.Widths.{AreSetsOf};
 ghost use Rattle.bloom_eval.specs.Arrivals.{timestep_of};
-ghost use Rattle.bloom_eval.specs.Code.Finish.{placed};
+ghost use Rattle.bloom_eval.specs.Finish.{placed};
 ghost use Rattle.bloom_eval.specs.Puts.{puts_in, ArePutFrom};
 ghost use Rattle.bloom_eval.specs.declared.fault.StepFault.TheVariants.{TooManyRows};
 ghost use Rattle.bloom_eval.specs.StepAnswers.{AllFit, SomeIsOver, counted_sets};

@@ -4,7 +4,7 @@ ghost use Rattle.std.specs.Option.{ForSome};
 ghost use Rattle.blz_pool.specs.Entries.{row_with_id};
 ghost use Rattle.bloom_forms.specs.declared.module.Kind.TheVariants.{Output};
 ghost use Rattle.bloom_forms.specs.Step.{set_at, sets_of_kind};
-ghost use Rattle.bloom_eval.specs.Code.Finish.{placed};
+ghost use Rattle.bloom_eval.specs.Finish.{placed};
 ghost use Rattle.bloom_eval.specs.Puts.{put_rows, puts_in, IsPutFrom, ArePutFrom};
 ghost use Rattle.bloom_parts.specs.Turns.{rows_in};
 ghost use Rattle.bloom_index.specs.Code.StepSets.{held_sets};

@@ -30,8 +30,7 @@ impl IndexShell {
         IndexShell { alloc, body: None }
     }
 
-    /// How many sides the program has: the growing parts that are a side of a join or the right side
-    /// of a notin.
+    /// How many sides the program has: parts that grow and stand in a join, or on the right of a notin.
     pub fn sides(&self) -> u32
         requires program { IsSome (⟦<IndexShell as Component>⟧.program self.now) }
         ensures { result ≡ length (sides_of (⟦<IndexShell as Component>⟧.program self.now)) }
@@ -43,8 +42,8 @@ impl IndexShell {
     }
 
     /// The rows of a side, over what is kept, with these values in the columns that its join or notin
-    /// equates, in the order of the pairs. Sides are numbered from 0, rules as they are written, and
-    /// within a rule by their place in the text.
+    /// equates, in the order of the pairs. Sides are numbered from 0, in the order in which the text of the
+    /// module has them.
     pub fn side(&self, side: u32, key: &Record) -> &RecordSet
         requires program { IsSome (⟦<IndexShell as Component>⟧.program self.now) }
         requires within { side < length (sides_of (⟦<IndexShell as Component>⟧.program self.now)) }

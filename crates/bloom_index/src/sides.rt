@@ -111,8 +111,7 @@ fn find_side<'a>(
     }
 }
 
-/// The side with a number, counted from 0, rules as they are written and within a rule by the place
-/// in the text.
+/// The side with a number, counted from 0 in the order in which the text of the module has them.
 pub(crate) fn side_at<'a>(
     rules: &[NumberedRule],
     growing: &[bool],

@@ -6,7 +6,7 @@ ghost use Rattle.bloom_forms.specs.Kinds.{of_kind};
 ghost use Rattle.bloom_forms.specs.Program.{columns_of_kind};
 ghost use Rattle.bloom_forms.specs.Step.{set_at, begun, tables_after};
 ghost use Rattle.bloom_forms.specs.Widths.{AreSetsOf};
-ghost use Rattle.bloom_eval.specs.Code.Begin.{place_after};
+ghost use Rattle.bloom_eval.specs.Begin.{place_after};
 ghost use Rattle.bloom_eval.specs.declared.fault.StepFault.TheVariants.{TooManyRows};
 ghost use Rattle.bloom_eval.specs.StepAnswers.{AllFit, SomeIsOver, counted_sets};
 ghost use Rattle.bloom_parts.specs.Turns.{rows_in};

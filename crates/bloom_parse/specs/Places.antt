@@ -21,7 +21,7 @@ abbrev pub NoneGoesOn : List Terminal → List Terminal → Type 0
 NoneGoesOn front [] = (m : Form) → IsModuleText front m → ⊥
 NoneGoesOn front (t ∷ behind) = Begins (front ++ t ∷ []) → ⊥
 
--- the token with so many tokens from it on to the end is the first that no module text has there: some begins with the tokens before it, and none with these and the token itself
+-- the token with so many tokens from it on to the end is the first that no module text has there: what stands before it can still become a module text, and together with the token it can't
 pub record IsFault (ts : List Terminal) (left : ℕ) : Type 0 where
   pub front : List Terminal
   pub behind : List Terminal

@@ -368,7 +368,7 @@ fn push_rules(rules: &[Rule], into: &mut Vec<u8>) -> Result<(), AllocError>
     Ok(())
 }
 
-/// The text of a module: the heading, each declaration and each rule on a line of its own. What
+/// The text of a module, a line for its name and one for each collection and each rule. What
 /// `parse` reads of it is the module again.
 pub fn print(alloc: Global, module: &Checked) -> Result<Vec<u8>, AllocError>
     ensures text { IfOk result (λ text. text.items ≡ spec.printed module.now.form) }

@@ -16,7 +16,7 @@ use Rattle.blz_value.proofs.OperatorsLemmas.{length-within}
 use Rattle.blz_value.proofs.RowSets.{same_set_of, set_of-sorted, set_of-append_set}
 use Rattle.blz_value.proofs.SetLaws.{sorted_set_of, Has-set_of, Has-from_set_of}
 use Rattle.blz_set.specs.Answers.{Becomes}
-use Rattle.blz_set.specs.Code.Missing.{has_row, missing_from}
+use Rattle.blz_set.specs.Missing.{has_row, missing_from}
 use Rattle.blz_set.specs.RecordSet.{row_limit}
 use Rattle.blz_set.specs.declared.fault.SetFault.{SetFault}
 use Rattle.blz_set.specs.declared.fault.SetFault.TheVariants.{TooManyRows, NoMemory}
@@ -25,7 +25,7 @@ use Rattle.blz_set.proofs.Unions.{length_union}
 use Rattle.bloom_growth.specs.declared.bag.Bag.{Bag}
 use Rattle.bloom_growth.specs.declared.turn.Turn.{Turn}
 use Rattle.bloom_growth.specs.Bags.{IsBag, BecomesBag}
-use Rattle.bloom_growth.specs.Code.Counts.{most_given}
+use Rattle.bloom_growth.specs.Counts.{most_given}
 use Rattle.bloom_growth.specs.Growth.{Extends}
 use Rattle.bloom_growth.specs.Turned.{Turned, TurnsInto}
 use Rattle.bloom_growth.proofs.BagRows.{GiveAlike, times-append, alike_rows, alike_bag}

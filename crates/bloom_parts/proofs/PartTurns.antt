@@ -3,7 +3,7 @@ use Rattle.std.proofs.Common.{◌≡◌, ◌∙◌, ℕ, Bool, true, IsTrue, Lis
 use Rattle.std.proofs.lemmas.Bool.{true≢false}
 use Rattle.blz_value.specs.Operators.{Pairs}
 use Rattle.blz_value.specs.Record.{Row}
-use Rattle.blz_set.specs.Code.Pairs.{lefts_of, rights_of}
+use Rattle.blz_set.specs.Pairs.{lefts_of, rights_of}
 use Rattle.bloom_growth.specs.declared.turn_joins.KeptJoin.{KeptJoin}
 use Rattle.bloom_growth.specs.declared.turn_notins.KeptNotIn.{KeptNotIn}
 use Rattle.bloom_growth.specs.JoinTurns.{JoinTurns, JoinIsKept}

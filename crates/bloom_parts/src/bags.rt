@@ -4,7 +4,7 @@ ghost use Rattle.blz_value.specs.Members.{IsWithin};
 ghost use Rattle.blz_value.specs.Record.{Row};
 ghost use Rattle.blz_value.specs.Sets.{set_of};
 ghost use Rattle.bloom_growth.specs.Bags.{IsBag, BecomesBag, left_rows, entered_rows};
-ghost use Rattle.bloom_growth.specs.Code.Counts.{most_given};
+ghost use Rattle.bloom_growth.specs.Counts.{most_given};
 ghost use Rattle.bloom_growth.specs.Growth.{Extends};
 ghost use Rattle.bloom_growth.specs.Turned.{TurnsInto};
 ghost use Rattle.bloom_parts.specs.Bodies.{BodyRows, BodiesTurn, olds_of, news_of, AddsGiven};

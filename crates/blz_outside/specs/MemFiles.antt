@@ -16,8 +16,8 @@ file_of pair = record { name = string_bytes pair.0; bytes = pair.1.items }
 abbrev pub bytes_at : List MemFile → List ℕ → Option (List ℕ)
 bytes_at files name = option_map (λ file. file.bytes) (find (λ file. bytes_eq file.name name) files)
 
--- the files in order, the numbers of the calls that are to fail, counted from 1, how many calls
--- there were, and how many faults
+-- the files in order, which calls fail (the first call has the number 1), how many calls there were,
+-- and how many faults
 pub record MemFilesView : Type 0 where
   pub files : List MemFile
   pub failing : List ℕ

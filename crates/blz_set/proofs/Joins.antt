@@ -20,9 +20,9 @@ use Rattle.blz_set.specs.RecordSet.{row_limit}
 use Rattle.blz_set.specs.declared.entry.Entry.{Entry}
 use Rattle.blz_set.specs.Code.Entry.{row_of, rows_of}
 use Rattle.blz_set.specs.Code.Index.{has_key, HaveSameRuns}
-use Rattle.blz_set.specs.Code.Pairs.{lefts_of, rights_of}
+use Rattle.blz_set.specs.Pairs.{lefts_of, rights_of}
 use Rattle.blz_set.specs.Answers.{Gives, Becomes}
-use Rattle.blz_set.specs.Code.Growth.{Grows}
+use Rattle.blz_set.specs.Growth.{Grows}
 use Rattle.blz_set.proofs.Keys.{rows_of_more}
 
 -- the values from a column on whose columns stand in no pair

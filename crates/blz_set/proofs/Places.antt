@@ -16,7 +16,7 @@ use Rattle.blz_value.specs.Sets.{set_of, IsRowSet}
 use Rattle.blz_value.proofs.Membership.{Has-from_Contains}
 use Rattle.blz_value.proofs.SetLemmas.{turned}
 use Rattle.blz_value.proofs.RowSets.{set_of-sorted}
-use Rattle.blz_set.specs.Code.Missing.{has_row}
+use Rattle.blz_set.specs.Missing.{has_row}
 use Rattle.blz_set.proofs.RecordSets.{has_row-from_Has, has_row-from_lacks}
 
 module _ (x : Row) where

@@ -16,7 +16,7 @@ use Rattle.blz_value.proofs.Membership.{any_from_Has, Has-from_any}
 use Rattle.blz_value.proofs.SetLaws.{sorted_set_of}
 use Rattle.blz_value.proofs.RowSets.{length-set_of-le, set_of-sorted}
 use Rattle.blz_set.specs.RecordSet.{IsRecordSet, row_limit}
-use Rattle.blz_set.specs.Code.Missing.{has_row}
+use Rattle.blz_set.specs.Missing.{has_row}
 use Rattle.blz_set.specs.Answers.{Gives}
 
 pub none_is_set : IsRecordSet []

@@ -7,7 +7,7 @@ use Rattle.blz_value.specs.Sets.{set_of, IsRowSet}
 use Rattle.blz_value.proofs.Membership.{Has-append_left, Has-append_right, Has-append_cases, Has-filter, Has-from_filter}
 use Rattle.blz_value.proofs.RowSets.{same_set_of, set_of-push, length-set_of-disjoint}
 use Rattle.blz_set.specs.RecordSet.{row_limit}
-use Rattle.blz_set.specs.Code.Missing.{has_row, missing_from}
+use Rattle.blz_set.specs.Missing.{has_row, missing_from}
 use Rattle.blz_set.specs.References.{shown}
 use Rattle.blz_set.specs.Answers.{Becomes}
 use Rattle.blz_set.specs.declared.fault.SetFault.{SetFault}

@@ -3,8 +3,8 @@ ghost use Rattle.std.specs.Prelude.{◌≡◌, ◌++◌, map, IfOk, OnOk};
 ghost use Rattle.blz_value.specs.Operators.{is_paired, unpaired, joined};
 ghost use Rattle.blz_set.specs.RecordSet.{IsRecordSet};
 ghost use Rattle.blz_set.specs.Code.Entry.{rows_of};
-ghost use Rattle.blz_set.specs.Code.Pairs.{lefts_of, rights_of};
-ghost use Rattle.blz_set.specs.Code.Growth.{Grows};
+ghost use Rattle.blz_set.specs.Pairs.{lefts_of, rights_of};
+ghost use Rattle.blz_set.specs.Growth.{Grows};
 
 use crate::entry::Entry;
 use crate::fault::SetFault;

@@ -7,7 +7,7 @@ ghost use Rattle.blz_value.specs.Test.{test_holds, TestFits};
 ghost use Rattle.blz_value.specs.Operators.{select_rows, project_rows, join_rows, notin_rows};
 ghost use Rattle.blz_value.specs.Groups.{group_rows, at_least_rows};
 ghost use Rattle.blz_set.specs.RecordSet.{IsRecordSet};
-ghost use Rattle.blz_set.specs.Code.Missing.{has_row, missing_from};
+ghost use Rattle.blz_set.specs.Missing.{has_row, missing_from};
 ghost use Rattle.blz_set.specs.References.{shown};
 ghost use Rattle.blz_set.specs.Answers.{Gives, Becomes};
 
@@ -230,7 +230,7 @@ impl RecordSet {
         Ok(RecordSet { rows })
     }
 
-    /// For each key tuple that occurs, the keys and the aggregate over its rows. A column past the end
+    /// A row for each key that some row has: the key's values and the aggregate over the rows with that key. A column past the end
     /// of a row counts as the number 0.
     pub fn group(&self, keys: &[u32], agg: Agg) -> Result<RecordSet, SetFault>
         ensures { Gives (set_of (group_rows keys.now agg self.now)) result }

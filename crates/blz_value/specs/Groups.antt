@@ -56,7 +56,7 @@ aggregate (Max column) rows = greatest (column_values column rows)
 abbrev pub with_key : List ℕ → Row → List Row → List Row
 with_key keys key rows = filter (λ row. eq_by_cmp record_cmp (cells keys row) key) rows
 
--- group: for each key tuple that occurs, the keys and the aggregate over its rows
+-- group: a row for each key that some row has, of the key's values and the aggregate over the rows with that key
 abbrev pub group_rows : List ℕ → Agg → List Row → List Row
 group_rows keys agg rows = map (λ key. key ++ aggregate agg (with_key keys key rows) ∷ []) (project_rows keys rows)
 

@@ -2,7 +2,7 @@
 use Rattle.std.specs.Prelude.{ℕ, ◌==◌, ◌&&◌, ◌||◌, nat_le, Bool, false, List, [], ◌∷◌, length}
 use Rattle.std.specs.List.{list_all}
 
--- a letter of a to z or A to Z, or `_`
+-- an ASCII letter, or `_`
 abbrev pub is_name_start : ℕ → Bool
 is_name_start byte = (nat_le 97 byte && nat_le byte 122) || ((nat_le 65 byte && nat_le byte 90) || byte == 95)
 

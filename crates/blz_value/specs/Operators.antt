@@ -42,6 +42,6 @@ joined pairs left right = left ++ unpaired pairs right
 abbrev pub join_rows : Pairs → List Row → List Row → List Row
 join_rows pairs lefts rights = flat_map (λ left. map (joined pairs left) (filter (agree pairs left) rights)) lefts
 
--- notin: the left rows that agree on all pairs with no right row
+-- notin: the rows on the left that no row on the right matches in every pair
 abbrev pub notin_rows : Pairs → List Row → List Row → List Row
 notin_rows pairs lefts rights = filter (λ left. not (list_any (agree pairs left) rights)) lefts

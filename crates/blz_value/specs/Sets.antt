@@ -1,4 +1,4 @@
--- Sets: a set is a sorted list without repeats, so equal sets are equal lists.
+-- Sets as lists that are sorted and repeat nothing, so that two with the same members are one list.
 use Rattle.std.specs.Prelude.{List, [], ◌∷◌}
 use Rattle.std.specs.BTreeSet.{insert_key}
 use Rattle.std.specs.List.Sorted.{IsStrictlySortedBy}

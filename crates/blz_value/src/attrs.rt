@@ -2,8 +2,7 @@
 ghost use Rattle.std.specs.Prelude.{ℕ, ◌≡◌, ◌<◌, ◌^◌, ◌↔◌, IsTrue, bit_and, bit_or};
 ghost use Rattle.std.specs.Int.{IsBitSet};
 
-/// A set of attribute numbers below 64. Attribute a is in it exactly where bit a, counted from the
-/// lowest, is 1.
+/// A set of attribute numbers below 64, as bits of a word: the lowest bit tells whether 0 is in it.
 #[derive(Clone, Copy, PartialEq, Eq)]
 pub struct Attrs {
     /// One bit for each attribute.

@@ -21,7 +21,7 @@ pub data Reaches (v : View) (to : ℕ) : ℕ → Type 0 where
   itself : Reaches v to to
   onward : (from : ℕ) (stream next : ℕ) → Has stream (streams_from v from) → IsTrue (goes_into v next stream) → Reaches v to next → Reaches v to from
 
--- the component of a stream, if any, and every component from which it can be reached have a body
+-- each component upstream of a stream has a body, and so has its own, where it has one
 abbrev pub IsBodied : View → (stream : ℕ) → Type 0
 IsBodied v s = (c from : ℕ) → IsTrue (comes_from v c s) → Reaches v c from → IsTrue (has_body v from)
 

@@ -78,7 +78,7 @@ plan_component steps v c = if is_order v c then v else with_key steps v c (kept_
 abbrev pub order_member : View → (component : ℕ) → View
 order_member v c = if has_order_note v c then with_mode v c Order else v
 
--- a cyclic region that is replicated and whose label is worse than Async
+-- a replicated region on a cycle that as it stands is neither Seal nor Async
 abbrev pub cycle_wants_order : View → (set : ℕ) → Bool
 cycle_wants_order v set = is_replicated_set v set && is_bad (region_label v (labels_of v) set)
 

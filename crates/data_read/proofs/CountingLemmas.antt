@@ -1,14 +1,14 @@
--- Rows and parts that nowhere pass the limit are few, and each once they are no more.
-use Rattle.std.proofs.Common.{◌≡◌, ◌≤◌, ◌+◌, ℕ, Bool, true, false, nat_lt, cond, List, [], ◌∷◌, map, Option, Some, None, Ok, refl, subst, sym, arith}
+-- Rows and parts that nowhere pass the limit are few, and each once they are no more, and distinct.
+use Rattle.std.proofs.Common.{◌≡◌, ◌≤◌, ◌+◌, ℕ, zero, suc, Bool, true, false, nat_lt, cond, List, [], ◌∷◌, map, Option, Some, None, Ok, refl, subst, sym, arith}
 use Rattle.std.specs.List.{sum_by}
 use Rattle.std.proofs.lemmas.Bool.{ltb-false}
 use Rattle.std.proofs.lemmas.List.Sums.{sum_by-cons}
-use Rattle.topo_forms.specs.Data.{Data, SourceData}
+use Rattle.topo_forms.specs.Data.{AreDistinct, Data, SourceData}
 use Rattle.topo_forms.specs.View.{View}
 use Rattle.data_read.specs.Counting.{passed_at, few, counted}
 use Rattle.topo_forms.specs.DataCounts.{source_limit, count_of, AreFew}
 use Rattle.data_read.specs.Making.{distinct_lists}
-use Rattle.topo_forms.proofs.DistinctRows.{no_more_rows}
+use Rattle.topo_forms.proofs.DistinctRows.{no_more_rows, rows_apart}
 
 few_from : (so_far s : ℕ) (lists : List SourceData) → so_far ≤ source_limit → passed_at so_far s lists ≡ None → so_far + sum_by count_of lists ≤ source_limit
 few_from so_far s [] le none = omega arith
@@ -35,3 +35,11 @@ no_more (d ∷ ds) = omega (arith, no_more ds, no_more_rows d.rows, no_more_rows
 
 pub few_once : (lists distinct : Data) → distinct ≡ map distinct_lists lists → AreFew lists → AreFew distinct
 few_once lists distinct same few = subst AreFew (sym same) (omega (arith, no_more lists, few))
+
+lists_apart : (lists : List SourceData) → AreDistinct (map distinct_lists lists)
+lists_apart [] k d lt = absurd (omega (arith, lt))
+lists_apart (held ∷ lists) zero d lt = (rows_apart held.rows, rows_apart held.parts)
+lists_apart (held ∷ lists) (suc k) d lt = lists_apart lists k d (omega (arith, lt))
+
+pub apart_once : (lists distinct : Data) → distinct ≡ map distinct_lists lists → AreDistinct distinct
+apart_once lists distinct same = subst AreDistinct (sym same) (lists_apart lists)

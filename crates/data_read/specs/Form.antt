@@ -1,4 +1,4 @@
--- The rows and the parts of each source that a JSON value gives, or its first break: sources in file order, then names of no source in byte order.
+-- The rows and the parts of each source that a JSON value gives, or its first break: of the sources, as the file has them, and then of names that are none, by their bytes.
 use Rattle.std.specs.Prelude.{ℕ, ◌+◌, List, [], ◌∷◌, map, Option, Some, None, Result, Ok, Err}
 use Rattle.bloom_forms.specs.Query.{Name}
 use Rattle.blz_value.specs.Record.{Row}

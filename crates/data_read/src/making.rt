@@ -30,7 +30,7 @@ fn upheld(alloc: Global, valid: &Valid, sources: &[SourceLists]) -> Result<(), D
     }
 }
 
-#[tactic(auto, unfolding(crate::specs::Making::data_from), using(crate::proofs::MakingLemmas::few_lists, crate::proofs::MakingLemmas::few_distinct, crate::proofs::CountingLemmas::few_once))]
+#[tactic(auto, unfolding(crate::specs::Making::data_from), using(crate::proofs::MakingLemmas::few_lists, crate::proofs::MakingLemmas::few_distinct, crate::proofs::CountingLemmas::few_once, crate::proofs::CountingLemmas::apart_once))]
 fn made_of(alloc: Global, valid: &Valid, sources: Vec<SourceLists>) -> Result<Data, DataFault>
     requires { IsData valid.now.view sources.items }
     ensures { Gives (λ d. d) result (data_from valid.now.view sources.items) }
@@ -90,7 +90,7 @@ fn sources_of(
 ///
 /// TooMany comes where there are more than 65,536 rows and parts, repeats included, with the source at
 /// which they pass this number. FdBroken comes else for the first dependency that is broken, with the
-/// first record that disagrees with an earlier one and the earliest such.
+/// first record that breaks it beside one before, and the earliest of those.
 pub fn of_lists(
     alloc: Global,
     valid: &Valid,

@@ -61,7 +61,7 @@ fn wide_sources(alloc: Global, valid: &Valid, top: &Json) -> Result<Vec<SourceLi
 /// NotJson comes where the bytes are no JSON text. DataForm comes at the first break of the form:
 /// sources in file order, then names of no source in byte order. TooMany comes where rows and parts pass
 /// 65,536, repeats included, with the source at which they do. FdBroken comes for the first dependency
-/// that is broken, with the first record that disagrees with an earlier one, and the earliest such. Of
+/// that is broken, with the first record that breaks it beside one before, and the earliest of those. Of
 /// several the first in this order is the answer. Takes a look-up by hash for each record, and at most two
 /// more for each dependency and one for each attribute of dependencies.
 #[tactic(auto, unfolding(crate::specs::Reading::data_of))]

@@ -35,7 +35,7 @@ use Rattle.messages.proofs.MessagesLemmas.{is_same_message-is, is_same_message-i
 use Rattle.inbox.proofs.Lists.Growing.{get_or-each_by_place, length-each_by_place, emit_step-continues}
 use Rattle.inbox.proofs.Lists.Rows.{rows-with_rows, rows-seal_all}
 use Rattle.inbox.proofs.TimestepLemmas.Whole.{Has-from_filter_map}
-use Rattle.inbox.specs.Code.Running.{StandingIsEmitted}
+use Rattle.inbox.specs.Running.{StandingIsEmitted}
 use Rattle.inbox.proofs.OutputSets.{output_is_set}
 
 -- ---- the rows of a set that a list doesn't have

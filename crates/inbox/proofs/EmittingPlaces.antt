@@ -6,7 +6,7 @@ use Rattle.bloom_forms.specs.declared.program.Program.{Program}
 use Rattle.bloom_forms.specs.Step.{Sets}
 use Rattle.topo_forms.specs.Messages.{Message}
 use Rattle.inbox.specs.Timesteps.{SetOff}
-use Rattle.inbox.specs.Code.Running.{EmitsAt, Emits, MeetsFirst, MeetsAt}
+use Rattle.inbox.specs.Running.{EmitsAt, Emits, MeetsFirst, MeetsAt}
 use Rattle.inbox.specs.Limits.{Limit}
 use Rattle.messages.specs.declared.fault.EventFault.{EventFault}
 use Rattle.inbox.specs.declared.outlets.Outlet.{Outlet}

@@ -16,7 +16,7 @@ use Rattle.messages.specs.declared.fault.EventFault.{EventFault}
 use Rattle.inbox.specs.Growth.{Continues}
 use Rattle.inbox.specs.SetOffs.{released_read, AreReleasedFrom, AreGivenTo}
 use Rattle.inbox.specs.Timesteps.{one_timestep, one_by_one}
-use Rattle.inbox.specs.Code.Running.{HasGone, HasMet}
+use Rattle.inbox.specs.Running.{HasGone, HasMet}
 use Rattle.inbox.specs.declared.outlets.Outlet.{Outlet}
 use Rattle.inbox.specs.declared.set_off.Released.{Released}
 use Rattle.inbox.specs.declared.set_off.SetOff.{SetOff as ByIds}

@@ -19,7 +19,7 @@ use Rattle.inbox.specs.Limits.{messages_in}
 use Rattle.messages.specs.Lists.{list_at, total}
 use Rattle.inbox.specs.Outlets.{emit_outlets, seal_outlets, AreApart, ShowsOutlet, ShowsOutlets, OthersStay, own_messages}
 use Rattle.inbox.specs.declared.outlets.Outlet.{Outlet}
-use Rattle.inbox.specs.Code.Running.{StandingIsEmitted}
+use Rattle.inbox.specs.Running.{StandingIsEmitted}
 use Rattle.inbox.proofs.Emitting.{changes_append}
 use Rattle.messages.proofs.ListsLemmas.{total-same}
 

@@ -26,7 +26,7 @@ use Rattle.messages.specs.declared.fault.EventFault.{EventFault}
 use Rattle.messages.specs.declared.fault.EventFault.TheVariants.{NoInstance, NoMessage, NothingToTake, TooManyRows, TooManyMessages, NoMemory}
 use Rattle.messages.proofs.ListsLemmas.{few_read}
 use Rattle.inbox.specs.Outlets.{emit_outlets, ShowsOutlets, own_messages}
-use Rattle.inbox.specs.Code.Running.{IsCourse, GoesOnTo, GoesOn, MeetsLimit, HasGone, HasMet, outputs_of_outlets}
+use Rattle.inbox.specs.Running.{IsCourse, GoesOnTo, GoesOn, MeetsLimit, HasGone, HasMet, outputs_of_outlets}
 use Rattle.inbox.specs.declared.outlets.Outlet.{Outlet}
 use Rattle.inbox.proofs.Emitting.{standing-step}
 use Rattle.inbox.proofs.Lists.Growing.{continues_itself, continues_on}

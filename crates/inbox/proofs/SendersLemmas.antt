@@ -4,7 +4,7 @@ use Rattle.std.specs.List.{flat_map}
 use Rattle.topo_forms.specs.Feeds.{Feed, are_paired, feeds_from, feeds, log_feeds}
 use Rattle.blz_value.specs.NumberSets.{below}
 use Rattle.topo_forms.specs.View.{View, port_numbers, streams_to, stream_replicas, replicas_of, is_order}
-use Rattle.inbox.specs.Code.Senders.{senders_for}
+use Rattle.inbox.specs.Senders.{senders_for}
 use Rattle.inbox.specs.Wiring.{feeds_for}
 
 all_kept : (xs : List ℕ) → filter (λ x. true) xs ≡ xs

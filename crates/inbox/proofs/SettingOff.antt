@@ -18,7 +18,7 @@ use Rattle.messages.specs.declared.fault.EventFault.{EventFault}
 use Rattle.messages.specs.declared.fault.EventFault.TheVariants.{NoInstance, NoMessage, NothingToTake, TooManyRows, TooManyMessages, NoMemory}
 use Rattle.messages.proofs.FaultLemmas.{handed_on}
 use Rattle.inbox.specs.Outlets.{seal_outlets, ShowsOutlets, own_messages}
-use Rattle.inbox.specs.Code.Running.{IsCourse, GoesOnTo, GoesOn, MeetsLimit, HasMet, outputs_of_outlets, HaveOwnKeys, IsCourseOf, HasEmitted, Emits, MeetsFirst}
+use Rattle.inbox.specs.Running.{IsCourse, GoesOnTo, GoesOn, MeetsLimit, HasMet, outputs_of_outlets, HaveOwnKeys, IsCourseOf, HasEmitted, Emits, MeetsFirst}
 use Rattle.inbox.specs.declared.outlets.Outlet.{Outlet}
 use Rattle.inbox.proofs.Emitting.{standing-sealed}
 use Rattle.inbox.proofs.OutletsLemmas.{seals-show, others-sealed, others-count, own-shown}

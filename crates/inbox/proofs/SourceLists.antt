@@ -18,7 +18,7 @@ use Rattle.topo_forms.proofs.KeyOfSource.{source_stream}
 use Rattle.messages.specs.Lists.{message_limit}
 use Rattle.messages.specs.Lists.{Listed, OneListBecomes, read_lists, list_at, total}
 use Rattle.inbox.specs.Places.{list_place, list_count}
-use Rattle.inbox.specs.Code.Sources.{SourcesEmitted}
+use Rattle.inbox.specs.Sources.{SourcesEmitted}
 use Rattle.messages.proofs.ListsLemmas.{total-read, length-read_lists}
 use Rattle.inbox.proofs.PlacesLemmas.{one_place, place-before}
 use Rattle.inbox.proofs.SourceMessages.{all_rows, few_rows, few_messages}

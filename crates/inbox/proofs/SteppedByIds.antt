@@ -13,7 +13,7 @@ use Rattle.bloom_eval.specs.declared.puts.Put.{Put}
 use Rattle.bloom_forms.specs.declared.program.Program.{Program}
 use Rattle.bloom_forms.specs.Step.{Sets, set_at}
 use Rattle.topo_forms.specs.Messages.{Message}
-use Rattle.inbox.specs.Code.Running.{MeetsLimit}
+use Rattle.inbox.specs.Running.{MeetsLimit}
 use Rattle.inbox.specs.Limits.{too_many_rows}
 use Rattle.inbox.specs.declared.outlets.Outlet.{Outlet}
 use Rattle.inbox.proofs.RunningLemmas.{AreStepChanges, met_rows}

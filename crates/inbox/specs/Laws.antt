@@ -32,7 +32,7 @@ AllIsSent = (w : Wiring) (given : Data) (steps : List Step) (x : Execution) → 
 abbrev pub AllWasSentBefore : Type 0
 AllWasSentBefore = (w : Wiring) (given : Data) (steps : List Step) (step : Step) (x y : Execution) → execution_of w given steps ≡ Ok x → after_step w given step x ≡ Ok y → WasSentBefore w given x y
 
--- no emitted list has a record twice, nor two seals of one partition
+-- in an emitted list no record and no seal of a partition comes again
 abbrev pub ListsDontRepeat : Type 0
 ListsDontRepeat = (w : Wiring) (given : Data) (x : Execution) (stream replica : ℕ) → NoRepeats (emitted_list w given x stream replica)
 
@@ -40,7 +40,7 @@ ListsDontRepeat = (w : Wiring) (given : Data) (x : Execution) (stream replica : 
 abbrev pub SealedTimesteps : Type 0
 SealedTimesteps = (i : Instance) (key : Attrs) (batches : List Batch) (entry : Entry) → i.mode ≡ Seal key → entry.0 < length i.ports → Stands (timesteps i batches) entry ↔ Goes i (all_pairs batches) entry
 
--- the contents of a replica are those of one timestep for each of the first entries of the log, as many as it took in the life in which it took most
+-- what a replica has put out is what its program gives over a beginning of the log, one entry a timestep: as far as the longest of its lives came
 abbrev pub SequencerLaw : Type 0
 SequencerLaw = (w : Wiring) (d : Data) (x : Execution) (s c o i : ℕ) (program : Program) → IsOrderOutput w s c o i program
     → contents w d x s i ≡ fold_rows program (take (most_taken (x.lives c i)) (x.logs c)) o

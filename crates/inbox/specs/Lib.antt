@@ -11,6 +11,9 @@ pub mod OrderReplicas
 pub mod Growth
 pub mod Standing
 pub mod Laws
+pub mod Running
+pub mod Senders
+pub mod Sources
 pub mod Code
 pub mod Inbox
 pub mod Pools

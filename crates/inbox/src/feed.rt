@@ -1,8 +1,8 @@
 //! On which ways messages come to an instance.
 use std::marker::Model;
 
-/// A feed of an instance: one port of it, one stream into that port, and one sending replica of the
-/// stream, all by their numbers.
+/// A feed of an instance, by numbers: a port, a stream that goes there, and of the replicas that send
+/// the stream one.
 #[derive(Clone, Copy)]
 pub struct Feed {
     pub port: u32,

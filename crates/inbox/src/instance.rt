@@ -8,7 +8,7 @@ ghost use Rattle.blz_value.specs.NumberSets.{set_of_numbers, below};
 ghost use Rattle.topo_forms.specs.View as view;
 ghost use Rattle.inbox.specs.Wiring.{places_in_port, port_for, feeds_for};
 ghost use Rattle.messages.specs.Ports.{port_key, port_keys};
-ghost use Rattle.inbox.specs.Code.Senders.{is_sender, senders_for};
+ghost use Rattle.inbox.specs.Senders.{is_sender, senders_for};
 
 use crate::feed::Feed;
 use bloom_forms::Mode;

@@ -18,8 +18,8 @@ ghost use Rattle.inbox.specs.Pools.{
 
 /// In all executions, complete or not, with forgets or without: each legal step only lengthens emitted
 /// lists and logs; what was heard or logged stands in the emitted list of its feed, and what it is after
-/// a step stood there before the step (`before`); no emitted list
-/// has a record twice, nor two seals of one partition; and under Seal a record stands in a timestep
+/// a step stood there before the step (`before`); in an emitted list no
+/// record and no seal of a partition comes again; and under Seal a record stands in a timestep
 /// exactly where it was heard and waits for nothing.
 pub fn execution_law()
     ensures grow { ListsGrow }
@@ -29,8 +29,8 @@ pub fn execution_law()
     ensures sealed { SealedTimesteps }
 {}
 
-/// The contents of a replica of an Order component are those of one timestep for each of the first
-/// entries of the log, as many as it took in the life in which it took most.
+/// What a replica of an Order component has put out is what its program gives over a beginning of the log,
+/// one entry a timestep: as far as the longest of its lives came.
 pub fn sequencer_law()
     ensures { SequencerLaw }
 {}

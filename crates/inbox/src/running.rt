@@ -15,7 +15,7 @@ ghost use Rattle.inbox.specs.SetOffs.{AreGivenTo, going_entries, released_read, 
 ghost use Rattle.messages.specs.Lists.{IsExact, read_lists, total};
 ghost use Rattle.inbox.specs.Outlets.{OthersStay};
 ghost use Rattle.messages.specs.Faults.{IsLegal};
-ghost use Rattle.inbox.specs.Code.Running.{HasGone, HasMet, Emits, MeetsFirst, EmitsAt, MeetsAt};
+ghost use Rattle.inbox.specs.Running.{HasGone, HasMet, Emits, MeetsFirst, EmitsAt, MeetsAt};
 ghost use Rattle.messages.specs.declared.fault.EventFault.TheVariants.{TooManyRows, TooManyMessages};
 
 use crate::outlets::{Outlet, are_sets, emit_puts, emit_seals};

@@ -11,7 +11,7 @@ ghost use Rattle.messages.specs.Lists.{message_limit};
 ghost use Rattle.messages.specs.Lists.{OneListBecomes, IsExact, read_lists, list_at, total};
 ghost use Rattle.inbox.specs.Places.{ArePlaces};
 ghost use Rattle.messages.specs.EmittedCounts.{seals_of};
-ghost use Rattle.inbox.specs.Code.Sources.{SourcesEmitted};
+ghost use Rattle.inbox.specs.Sources.{SourcesEmitted};
 
 use crate::keys::key_columns;
 use crate::places::{Places, list_count};

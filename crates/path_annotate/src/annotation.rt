@@ -32,8 +32,8 @@ fn module_roots(
     Vec::from_slice(alloc, roots_numbered(&table, number))
 }
 
-/// The root of each column of an output, numbered from 0: the attribute under which it entered a
-/// port and of which it is a copy, if it is one.
+/// The root of each column of an output, numbered from 0: where its values are copies, the attribute of the
+/// port's column from which they come.
 pub fn roots(
     alloc: Global,
     program: &Program,

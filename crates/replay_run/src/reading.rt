@@ -1,8 +1,8 @@
 //! Reading the steps of a text.
 ghost use Rattle.sched_text.specs.Reading.{GivesEntries};
-ghost use Rattle.sched_run.specs.StepReading as spec;
+ghost use Rattle.sched_net.specs.StepReading as spec;
 
-use sched_run::Step;
+use sched_net::Step;
 use sched_text::{ScheduleFault, read_lines};
 use std::alloc::Global;
 

@@ -58,7 +58,7 @@ abbrev pub port_uses : View → List Label → (component port : ℕ) → Option
 port_uses v labels c p None = []
 port_uses v labels c p (Some note) = flat_map (λ s. use_line v labels note (port_attrs v c p) (mode_of v c) (usable_fds v c) s (c, p)) (streams_to v c p)
 
--- the uses of an output: streams into ports with a note towards it, by port and then by stream
+-- the uses of an output: port by port, where there is a note from the port to the output, its streams
 abbrev pub output_uses : View → List Label → (component output : ℕ) → Text
 output_uses v labels c o = flat_map (λ p. port_uses v labels c p (note_at v c p o)) (port_numbers v c)
 

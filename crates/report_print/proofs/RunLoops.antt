@@ -6,8 +6,8 @@ use Rattle.blz_value.specs.NumberSets.{below}
 use Rattle.blz_value.proofs.Ranges.{map_below_more, flat_below_more}
 use Rattle.topo_forms.specs.View.{View}
 use Rattle.inbox.specs.Executions.{Execution}
-use Rattle.sched_run.specs.Reading.{IsRead}
-use Rattle.sched_run.specs.declared.books.Books.{Books}
+use Rattle.sched_net.specs.Reading.{IsRead}
+use Rattle.sched_net.specs.declared.books.Books.{Books}
 use Rattle.report_lines.specs.Words.{Text}
 
 module _ (v : View) (b : Books) (of : Data → Execution → ℕ → Text) (first : Text) where

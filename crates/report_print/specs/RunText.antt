@@ -10,7 +10,7 @@ use Rattle.topo_forms.specs.View.{View, component_at, component_numbers, replica
 use Rattle.inbox.specs.Completeness.{held_count_at, left_count}
 use Rattle.inbox.specs.Executions.{Execution, contents}
 use Rattle.inbox.specs.Wiring.{wiring_of}
-use Rattle.sched_run.specs.Reading.{is_complete}
+use Rattle.sched_net.specs.Reading.{is_complete}
 use Rattle.report_lines.specs.Words.{Text, line, inner_line}
 
 -- ---- contents

@@ -11,7 +11,7 @@ use Rattle.inbox.specs.Completeness.{left_count}
 use Rattle.inbox.specs.Executions.{Execution, contents}
 use Rattle.inbox.specs.Wiring.{wiring_of}
 use Rattle.inbox.specs.Limits.{all_messages}
-use Rattle.sched_run.specs.Reading.{is_complete}
+use Rattle.sched_net.specs.Reading.{is_complete}
 use Rattle.report_print.specs.RunText.{end_lines}
 use Rattle.report_lines.specs.Words.{Text, label_word, line}
 

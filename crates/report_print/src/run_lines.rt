@@ -10,15 +10,15 @@ ghost use Rattle.topo_forms.specs.View.{component_numbers, stream_numbers, strea
 ghost use Rattle.inbox.specs.Completeness.{held_count_at, left_count};
 ghost use Rattle.inbox.specs.Executions.{contents};
 ghost use Rattle.inbox.specs.Wiring.{wiring_of};
-ghost use Rattle.sched_run.specs.Net.{BooksRun};
-ghost use Rattle.sched_run.specs.Reading.{IsRead, is_complete};
+ghost use Rattle.sched_net.specs.Net.{BooksRun};
+ghost use Rattle.sched_net.specs.Reading.{IsRead, is_complete};
 ghost use Rattle.report_print.specs.RunText as spec;
 ghost use Rattle.report_lines.specs.Words.{inner_line};
 ghost use Rattle.report_print.specs.Code.Runs.{IsNetOf, run_after};
 
 use blz_value::Record;
 use report_lines::{Word, push_inner_line, push_line};
-use sched_run::Net;
+use sched_net::Net;
 use std::alloc::{AllocError, Global};
 use topo_forms::Valid;
 

@@ -1,34 +1,23 @@
-//! The runner: every instance of a topology with what it heard and sent, and the events and steps of a
-//! schedule that is given, applied to it in order.
+//! The front of runs, and the schedule of a seed: turn by turn a draw chooses among what is open in a net.
+//! Nets, and the events and steps that are applied to them, lie in `sched_net`.
 #![tactic(auto)]
 
-mod as_step;
-mod books;
-mod closing;
-mod fault;
-mod forgetting;
-mod hearing;
-mod net;
-mod numbered;
-mod opening;
-mod ordering;
-mod parts;
-mod reading;
-mod remaining;
-mod running;
-mod seated;
-mod seating;
-mod step;
-mod step_reading;
+mod groups;
+mod lanes;
+mod limits;
+mod looking;
+mod made;
+mod making;
+mod naming;
+mod stale;
+mod tables;
+mod watch;
+mod works;
+mod writing;
 
-pub use as_step::{AsStep, StepRef};
-pub use books::Books;
-pub use fault::ForgetFault;
-pub use messages::EventFault;
-pub use net::Net;
-pub use numbered::{NumberedEvent, NumberedPart};
-pub use ordering::is_order;
-pub use running::{StepRefusal, run};
-pub use sched_bench::OpenFault;
-pub use seated::Ear;
-pub use step::Step;
+pub use made::Made;
+pub use making::{make, make_numbered};
+pub use sched_net::{
+    AsStep, Books, Ear, EventFault, ForgetFault, MakeFault, Net, NumberedEvent, NumberedPart,
+    OpenFault, Step, StepRef, StepRefusal, is_order, run,
+};

@@ -7,7 +7,7 @@ use Rattle.std.proofs.lemmas.Bool.{le-leb, lt-leb}
 use Rattle.sched_text.specs.declared.event.Part.{Part}
 use Rattle.sched_text.specs.declared.fault.LineFault.{LineFault}
 use Rattle.sched_text.specs.declared.fault.LineFault.TheVariants as line
-use Rattle.sched_text.specs.Code.Given.{TakesFront, GivesAll}
+use Rattle.sched_text.specs.Given.{TakesFront, GivesAll}
 use Rattle.sched_text.specs.Fields.{Field, name_of, number_of, only_if, ◌>>=◌}
 use Rattle.sched_text.specs.Kinds.{Front, part_at, parts_of, groups_of, is_empty, part_limit}
 

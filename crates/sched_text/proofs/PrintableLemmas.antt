@@ -15,7 +15,7 @@ use Rattle.sched_text.specs.Fields.{Field, Spot, name_of, spot_of, is_dot, field
 use Rattle.sched_text.specs.Kinds.{first_as, name_at, number_at, spot_at, word_at, at_end, sent_at, part_at, parts_of, groups_of, part_limit, deliver_of, order_of, take_of, batch_of, event_of, is_empty}
 use Rattle.sched_text.specs.Lines.{Line, lines_of, without_return}
 use Rattle.sched_text.specs.Reading.{LineReading, passed_over, stands_for, bad, is_bad, is_comment, reading_from, reading_of_fields, event_reading, line_limit, entries_from, with_entry, ReadsAs}
-use Rattle.sched_text.specs.Code.Given.{GivesLine}
+use Rattle.sched_text.specs.Given.{GivesLine}
 use Rattle.sched_text.specs.Text.{has_names_sent, has_names_part, is_printable, IsPrintable}
 
 -- ---- what a reading that gave something says of its steps

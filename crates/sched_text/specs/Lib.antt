@@ -4,4 +4,4 @@ pub mod Kinds
 pub mod Reading
 pub mod Text
 pub mod Small
-pub mod Code
+pub mod Given

@@ -1,4 +1,4 @@
--- The lines of a text. They end with LF or CR LF, and the last may end with the text.
+-- The lines of a text. Each goes on to an LF, in front of which a CR is no part of it, or to the end of the text.
 use Rattle.std.specs.Prelude.{ℕ, ◌==◌, Bool, true, false, List, [], ◌∷◌, if◌then◌else◌}
 use Rattle.std.specs.List.{slice_split}
 use Rattle.std.specs.Str.Lines.{strip_carriage_return}

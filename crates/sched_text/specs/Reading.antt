@@ -27,7 +27,7 @@ abbrev pub is_comment : Field → Bool
 is_comment [] = false
 is_comment (byte ∷ others) = byte == 35
 
--- a line without fields, or whose first field begins with `#`, is passed over
+-- an empty line, and a comment, whose first field begins with `#`, stand for nothing
 abbrev pub reading_of_fields : {X : Type 0} → (Field → List Field → Option X) → List Field → LineReading X
 reading_of_fields meaning [] = passed_over
 reading_of_fields meaning (first ∷ others) = if is_comment first then passed_over else reading_from (meaning first others)

@@ -2,7 +2,7 @@
 ghost use Rattle.std.specs.Prelude.{◌≡◌};
 ghost use Rattle.sched_text.specs.declared.fault.LineFault.TheVariants as faults;
 ghost use Rattle.sched_text.specs.declared.fault.ScheduleFault.TheVariants.{NoMemory};
-ghost use Rattle.sched_text.specs.Code.Given.{fault_at};
+ghost use Rattle.sched_text.specs.Given.{fault_at};
 
 use std::alloc::{AllocError, AllocFailed};
 use thiserror::Error;

@@ -5,7 +5,7 @@ ghost use Rattle.std.specs.Str.{bytes_eq};
 ghost use Rattle.sched_text.specs.Fields as spec;
 ghost use Rattle.sched_text.specs.Lines.{without_return};
 ghost use Rattle.sched_text.specs.Kinds.{name_at, number_at, spot_at, word_at, is_empty};
-ghost use Rattle.sched_text.specs.Code.Given.{TakesFront};
+ghost use Rattle.sched_text.specs.Given.{TakesFront};
 
 use crate::fault::LineFault;
 use blz_value::{Str, is_name};

@@ -3,7 +3,7 @@ ghost use Rattle.std.specs.Prelude.{◌≡◌, ◌∷◌, ◌≤◌, [], ℕ, Li
 ghost use Rattle.std.specs.List.{prefix_len};
 ghost use Rattle.sched_text.specs.Lines as spec;
 ghost use Rattle.sched_text.specs.Reading.{LineReading, GivesEntries};
-ghost use Rattle.sched_text.specs.Code.Given.{GivesLine};
+ghost use Rattle.sched_text.specs.Given.{GivesLine};
 
 use crate::fault::{LineFault, ScheduleFault};
 use memchr::memchr;
@@ -78,8 +78,8 @@ pub trait FromLine: Drop + Sized {
         ensures { GivesLine result (reading line.now) };
 }
 
-/// What the lines of a text stand for, each with its number, counted from 1. A line ends with LF or
-/// CR LF, and the last may end with the text. The fault names the first line that stands for nothing
+/// What the lines of a text stand for, each with its number, counted from 1. A line goes on to an LF,
+/// in front of which a CR is no part of it, or to the end of the text. The fault names the first line that stands for nothing
 /// and isn't passed over, as each line past the 1,000,000th. One pass, without a copy of the text.
 pub fn read_lines<T: FromLine>(alloc: Global, text: &[u8]) -> Result<Vec<(u32, T)>, ScheduleFault>
     ensures { GivesEntries (λ entries. entries.items) T.reading text.now result }

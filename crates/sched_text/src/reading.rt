@@ -3,7 +3,7 @@ ghost use Rattle.std.specs.Prelude.{◌≡◌, true, IfOk, IfSome};
 ghost use Rattle.sched_text.specs.Kinds as spec;
 ghost use Rattle.sched_text.specs.Reading.{event_reading, GivesEntries, GivesEvent};
 ghost use Rattle.sched_text.specs.Text.{is_printable, IsPrintable};
-ghost use Rattle.sched_text.specs.Code.Given.{TakesFront, GivesAll};
+ghost use Rattle.sched_text.specs.Given.{TakesFront, GivesAll};
 
 use crate::event::{Event, Part, Sent};
 use crate::fault::{LineFault, ScheduleFault};

@@ -1,4 +1,4 @@
--- The first dependency that is broken, by the first record that disagrees with an earlier one and the earliest such.
+-- The first dependency that is broken, by the first record that breaks it beside one before, and the earliest of those.
 use Rattle.std.specs.Prelude.{ℕ, ◌+◌, Bool, true, false, not, List, [], ◌∷◌, ◌++◌, map, Option, Some, None, if◌then◌else◌}
 use Rattle.std.specs.List.{flat_map, enumerate_from}
 use Rattle.std.specs.Option.{option_or}

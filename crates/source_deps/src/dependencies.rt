@@ -233,8 +233,8 @@ fn broken_by(
     }
 }
 
-/// The first dependency that is broken, with the first record that disagrees with an earlier one and the
-/// earliest such. Each record is looked up by hash at most once for each attribute of the dependencies, and
+/// The first dependency that is broken, with the first record that breaks it beside one before, and the
+/// earliest record beside which it does. Each record is looked up by hash at most once for each attribute of the dependencies, and
 /// twice for each dependency with a side whose attributes all repeat a value.
 pub fn first_broken(
     alloc: Global,

@@ -1,11 +1,15 @@
--- The distinct records of a list, and how many they are.
-use Rattle.std.proofs.Common.{◌≤◌, suc, Bool, true, false, not, cond, List, [], ◌∷◌, filter, length, arith, ◌≡◌, ◌||◌, ◌++◌, if◌then◌else◌, refl, ap, ◌∙◌, inl, inr}
-use Rattle.blz_value.specs.Record.{Row}
+-- The distinct records of a list: how many they are, and that none stands twice.
+use Rattle.std.proofs.Common.{◌≤◌, ◌≢◌, zero, suc, Bool, true, false, not, cond, List, [], ◌∷◌, filter, length, get_or, arith, ◌≡◌, ◌||◌, ◌++◌, if◌then◌else◌, refl, ap, ◌∙◌, sym, subst, inl, inr}
+use Rattle.blz_value.specs.Record.{Row, record_cmp}
+use Rattle.blz_value.specs.RecordOrder.{record_cmp_total}
 use Rattle.topo_forms.specs.Messages.{distinct_rows, is_same_row}
-use Rattle.std.specs.List.{list_any}
+use Rattle.std.specs.Cmp.{Equal-is, tied_itself}
+use Rattle.std.specs.List.{AllPairs, list_any}
+use Rattle.std.proofs.lemmas.Bool.{true≢false}
 use Rattle.std.proofs.lemmas.List.Elements.{filter-append}
+use Rattle.std.proofs.lemmas.List.Kept.{AllPairs-filter}
 use Rattle.blz_value.specs.Members.{Has}
-use Rattle.blz_value.proofs.Membership.{Has-from_filter}
+use Rattle.blz_value.proofs.Membership.{Has-from_filter, Has-get_or}
 
 filtered : {X : Type 0} (p : X → Bool) (xs : List X) → length (filter p xs) ≤ length xs
 filtered p [] = omega arith
@@ -42,3 +46,17 @@ pub Has-from_distinct : (q : Row) (xs : List Row) → Has q (distinct_rows xs) �
 Has-from_distinct q [] h = h
 Has-from_distinct q (x ∷ xs) (inl e) = inl e
 Has-from_distinct q (x ∷ xs) (inr h) = inr (Has-from_distinct q xs (Has-from_filter (λ y. not (is_same_row x y)) q (distinct_rows xs) h).0)
+
+row_itself : (row : Row) → is_same_row row row ≡ true
+row_itself row = (Equal-is (record_cmp row row)).1 (tied_itself record_cmp_total row)
+
+-- distinct records are pairwise different
+pub rows_apart : (rows : List Row) → AllPairs (λ a b. a ≢ b) (distinct_rows rows)
+rows_apart [] i j d lt le = absurd (omega (arith, le))
+rows_apart (x ∷ xs) i zero d lt le = absurd (omega (arith, lt))
+rows_apart (x ∷ xs) zero (suc j) d lt le = λ same.
+    let rest : List Row = filter (λ y. not (is_same_row x y)) (distinct_rows xs) in
+    let other = (Has-from_filter (λ y. not (is_same_row x y)) (get_or rest j d) (distinct_rows xs) (Has-get_or rest j d (omega (arith, le)))).1 in
+    true≢false (sym (subst (λ (y : Row). not (is_same_row x y) ≡ true) (sym same) other) ∙ ap not (row_itself x))
+rows_apart (x ∷ xs) (suc i) (suc j) d lt le =
+    AllPairs-filter (λ a b. a ≢ b) (λ y. not (is_same_row x y)) (distinct_rows xs) (rows_apart xs) i j d (omega (arith, lt)) (omega (arith, le))

@@ -1,6 +1,6 @@
 -- Data of a topology: what its sources hold.
-use Rattle.std.specs.Prelude.{ℕ, ◌≡◌, ◌&&◌, ◌<◌, Bool, IsTrue, Option, None, Some, List, [], map, filter, length, slice_index_or, unwrap_or}
-use Rattle.std.specs.List.{All, position_from}
+use Rattle.std.specs.Prelude.{ℕ, ◌≡◌, ◌≢◌, ◌&&◌, ◌<◌, Bool, IsTrue, Option, None, Some, List, [], map, filter, length, slice_index_or, unwrap_or}
+use Rattle.std.specs.List.{All, AllPairs, position_from}
 use Rattle.std.specs.Ordering.{eq_by_cmp}
 use Rattle.blz_value.specs.Members.{Has}
 use Rattle.blz_value.specs.Record.{Row, record_cmp}
@@ -27,6 +27,10 @@ no_data = record { rows = []; parts = [] }
 -- what the source with a number holds
 abbrev pub source_data : Data → ℕ → SourceData
 source_data d s = slice_index_or d s no_data
+
+-- each source has each of its records once, and each of its partitions
+abbrev pub AreDistinct : Data → Type 0
+AreDistinct d = All (λ held. AllPairs (λ a b. a ≢ b) held.rows × AllPairs (λ a b. a ≢ b) held.parts) d
 
 -- ---- keys
 

@@ -17,7 +17,7 @@ lacks v fd s = not (has_both fd (stream_attrs v s).bits)
 abbrev pub upholds_alone : View → Fd → (stream : ℕ) → Bool
 upholds_alone v fd s = lacks v fd s || is_none (origin_of v s)
 
--- an output may hand it on: its component has a body, isn't Order and isn't in a cyclic region, and each column of the dependency has itself as its root
+-- an output may hand it on: each column of the dependency is its own root, and the component has a body, another mode than order, and stands on no cycle
 abbrev pub hands_on : View → Fd → Option End → Bool
 hands_on v fd None = false
 hands_on v fd (Some output) =

@@ -17,7 +17,7 @@ distinct_rows (x ∷ xs) = x ∷ filter (λ y. not (is_same_row x y)) (distinct_
 abbrev pub partitions : Roots → (key : ℕ) → SourceData → List Row
 partitions columns key d = set_of (map (key_value columns key) d.rows ++ d.parts)
 
--- a seal per partition in the order of key values, with the number of its distinct records
+-- the seals of a source, by the order of their keys, each with how many distinct records its partition has
 abbrev pub source_seals : Roots → Option Attrs → SourceData → List Message
 source_seals columns None d = []
 source_seals columns (Some key) d = map (λ value. seal value (length (rows_with_key columns key.bits value (distinct_rows d.rows)))) (partitions columns key.bits d)

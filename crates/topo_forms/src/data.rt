@@ -1,15 +1,15 @@
 //! Data: what each source holds.
 ghost use Rattle.std.specs.Prelude.{◌≡◌, ◌<◌, IfOk, length};
 ghost use Rattle.topo_forms.specs.DataCounts.{AreFew};
-ghost use Rattle.topo_forms.specs.Data.{source_data};
+ghost use Rattle.topo_forms.specs.Data.{AreDistinct, source_data};
 
 use crate::source_lists::SourceLists;
 use blz_value::{Record, copies_of};
 use std::alloc::AllocError;
 use std::marker::Model;
 
-/// What the sources of a topology hold: of each its distinct records and its distinct declared
-/// partitions, both in file order. They are at most 65,536 together.
+/// What the sources of a topology hold: of each the records and the declared partitions, each of these
+/// once, where it first stood. They are at most 65,536 together.
 #[derive(Drop)]
 pub struct Data {
     sources: Vec<SourceLists>,
@@ -17,28 +17,31 @@ pub struct Data {
 
 impl Model for Data {
     ghost use Rattle.std.specs.Prelude.{List};
-    ghost use Rattle.topo_forms.specs.Data.{SourceData};
+    ghost use Rattle.topo_forms.specs.Data.{AreDistinct, SourceData};
     ghost use Rattle.topo_forms.specs.DataCounts.{AreFew};
 
     ghost Value = { List SourceData };
 
     ghost view = { λ d. d.sources.items };
 
-    ghost invariant = { λ d. AreFew d.sources.items };
+    ghost invariant = { λ d. AreFew d.sources.items × AreDistinct d.sources.items };
 }
 
 impl Data {
-    /// The data of these sources.
+    /// The data of these sources, of which each has its records and its partitions once.
     pub fn new(sources: Vec<SourceLists>) -> Data
-        requires { AreFew sources.items }
+        requires few { AreFew sources.items }
+        requires distinct { AreDistinct sources.items }
         ensures { result ≡ sources.items }
     {
         Data { sources }
     }
 
-    /// How many records and partitions all sources together hold at most; the call does nothing.
+    /// How many records and partitions all sources together hold at most, and that each holds its own
+    /// once; the call does nothing.
     pub fn known(&self)
-        ensures { AreFew self.now }
+        ensures few { AreFew self.now }
+        ensures distinct { AreDistinct self.now }
     {
         let _ = &self.sources;
     }
@@ -63,6 +66,7 @@ impl Data {
     pub fn into_sources(self) -> Vec<SourceLists>
         ensures lists { result.items ≡ self }
         ensures few { AreFew self }
+        ensures distinct { AreDistinct self }
     {
         self.sources
     }

@@ -20,7 +20,7 @@ pub(crate) struct Line {
     pub(crate) columns: u64,
     /// Whether it is a source.
     pub(crate) source: bool,
-    /// Whether its component has a body, isn't Order and isn't in a cyclic region.
+    /// Whether its component can hand on: with a body, outside of cyclic regions and in another mode than order.
     pub(crate) hands: bool,
     /// The attributes that its output has with themselves as their roots.
     pub(crate) own: u64,

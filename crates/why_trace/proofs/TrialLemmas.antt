@@ -15,14 +15,14 @@ use Rattle.topo_forms.specs.Messages.{is_same_row}
 use Rattle.topo_forms.specs.View.{View, stream_replicas}
 use Rattle.inbox.specs.Executions.{Execution, first_execution, contents}
 use Rattle.inbox.specs.Wiring.{wiring_of}
-use Rattle.sched_run.specs.Net.{Stands, execution_in}
-use Rattle.sched_run.specs.declared.books.Books.{Books}
-use Rattle.sched_run.specs.ScheduleLines.{Line, steps_of}
-use Rattle.sched_run.specs.Steps.{after_lines, Applied, Applies}
-use Rattle.sched_run.specs.Reading.{IsRead}
-use Rattle.sched_run.specs.declared.running.StepRefusal.{StepRefusal}
-use Rattle.sched_run.specs.declared.step.Step.TheVariants as named
-use Rattle.sched_run.proofs.FirstLemmas.{applied_first}
+use Rattle.sched_net.specs.Net.{Stands, execution_in}
+use Rattle.sched_net.specs.declared.books.Books.{Books}
+use Rattle.sched_net.specs.ScheduleLines.{Line, steps_of}
+use Rattle.sched_net.specs.Steps.{after_lines, Applied, Applies}
+use Rattle.sched_net.specs.Reading.{IsRead}
+use Rattle.sched_net.specs.declared.running.StepRefusal.{StepRefusal}
+use Rattle.sched_net.specs.declared.step.Step.TheVariants as named
+use Rattle.sched_net.proofs.FirstLemmas.{applied_first}
 use Rattle.why_trace.specs.Trim.{Wanted, has_record, has_at_end, yields}
 use Rattle.why_trace.specs.Code.Trials.{Sought, is_yielded_by, TellsFound}
 

@@ -7,9 +7,9 @@ use Rattle.blz_value.specs.NumberSets.{below}
 use Rattle.topo_forms.specs.View.{View, stream_replicas}
 use Rattle.inbox.specs.Executions.{Execution, contents}
 use Rattle.inbox.specs.Wiring.{wiring_of}
-use Rattle.sched_run.specs.Net.{BooksRun, execution_in}
-use Rattle.sched_run.specs.declared.books.Books.{Books}
-use Rattle.sched_run.specs.Reading.{IsRead}
+use Rattle.sched_net.specs.Net.{BooksRun, execution_in}
+use Rattle.sched_net.specs.declared.books.Books.{Books}
+use Rattle.sched_net.specs.Reading.{IsRead}
 use Rattle.witness_check.specs.Difference.{HasPlaces, snapshot}
 use Rattle.witness_check.proofs.DifferenceLemmas.{has_places}
 

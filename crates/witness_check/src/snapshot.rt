@@ -1,12 +1,12 @@
 //! What the sending replicas of all streams emitted, kept apart from the net that it is read of.
 ghost use Rattle.std.specs.Prelude.{◌≡◌, ◌<◌, ◌^◌, IfOk, length};
-ghost use Rattle.sched_run.specs.Net.{BooksRun};
-ghost use Rattle.sched_run.specs.Reading.{IsRead};
+ghost use Rattle.sched_net.specs.Net.{BooksRun};
+ghost use Rattle.sched_net.specs.Reading.{IsRead};
 ghost use Rattle.witness_check.specs.Difference as spec;
 
 use blz_set::RecordSet;
 use blz_value::Items;
-use sched_run::Net;
+use sched_net::Net;
 use std::alloc::{AllocError, Global};
 use std::marker::Model;
 use topo_forms::Valid;

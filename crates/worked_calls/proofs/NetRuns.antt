@@ -4,12 +4,12 @@ use Rattle.bloom_forms.specs.declared.program.Program.{Program}
 use Rattle.bloom_forms.specs.Step.{Sets}
 use Rattle.topo_forms.specs.Data.{Data}
 use Rattle.topo_forms.specs.View.{View}
-use Rattle.sched_run.specs.Net.{BooksRun, Stands}
-use Rattle.sched_run.specs.declared.books.Books.{Books}
-use Rattle.sched_make.specs.Making.{RunsFirst}
-use Rattle.sched_run.specs.Steps.{Applies, steps_in}
-use Rattle.sched_run.specs.declared.running.StepRefusal.{StepRefusal}
-use Rattle.sched_run.specs.declared.step.Step.{Step as NamedStep}
+use Rattle.sched_net.specs.Net.{BooksRun, Stands}
+use Rattle.sched_net.specs.declared.books.Books.{Books}
+use Rattle.sched_run.specs.Making.{RunsFirst}
+use Rattle.sched_net.specs.Steps.{Applies, steps_in}
+use Rattle.sched_net.specs.declared.running.StepRefusal.{StepRefusal}
+use Rattle.sched_net.specs.declared.step.Step.{Step as NamedStep}
 
 pub first_runs : (v w : View) (given : Data) (loaded : List (Option Program)) (tables : List Sets) (b : Books) → w ≡ v → Stands v given [] loaded tables b → RunsFirst w loaded tables b
 first_runs v w given loaded tables b same stands =

@@ -1,7 +1,7 @@
 //! What is shown of a net: the schedule that it makes, how many records it keeps, and what was emitted.
 ghost use Rattle.std.specs.Prelude.{◌≡◌, ◌<◌, OnOk, length, map};
-ghost use Rattle.sched_run.specs.Net.{BooksRun};
-ghost use Rattle.sched_make.specs.Making.{RunsFirst};
+ghost use Rattle.sched_net.specs.Net.{BooksRun};
+ghost use Rattle.sched_run.specs.Making.{RunsFirst};
 ghost use Rattle.topo_forms.specs.Data.{IsData};
 
 use crate::benches::PoorShell;
@@ -14,8 +14,7 @@ use data_read::Data;
 use inbox::Message;
 use messages::MessageList;
 use replay_run::{StepRefusal, run};
-use sched_make::make;
-use sched_run::Net;
+use sched_run::{Net, make};
 use sched_text::{Event, print};
 use std::alloc::Global;
 use topo_types::Valid;

@@ -3,7 +3,7 @@ use Rattle.std.proofs.Common.{◌≡◌, ℕ, List, Option, None, Some, Result, 
 use Rattle.data_read.specs.Reading.{data_of}
 use Rattle.data_read.specs.declared.fault.DataFault.{DataFault}
 use Rattle.data_read.proofs.HoldingLemmas.{read_data}
-use Rattle.sched_run.specs.ScheduleLines.{Line}
+use Rattle.sched_net.specs.ScheduleLines.{Line}
 use Rattle.sched_text.specs.Reading.{bad_line, entries_of, event_reading}
 use Rattle.sched_text.specs.Text.{IsPrintable}
 use Rattle.sched_text.proofs.PrintableLemmas.{reads_printable}

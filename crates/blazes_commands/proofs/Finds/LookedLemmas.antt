@@ -14,12 +14,12 @@ use Rattle.report_lines.specs.Refusals.{refusal_line}
 use Rattle.report_lines.specs.declared.refusal.Refusal.TheVariants as refusal
 use Rattle.report_lines.specs.declared.refusal.WhyKind.TheVariants as why_kinds
 use Rattle.sched_bench.specs.Bench.{fault_of_opening}
-use Rattle.sched_run.specs.Net.{execution_in}
-use Rattle.sched_run.specs.declared.books.Books.{Books}
-use Rattle.sched_run.specs.ScheduleLines.{Line, steps_of}
-use Rattle.sched_run.specs.Steps.{after_lines, Applied}
-use Rattle.sched_run.specs.declared.running.StepRefusal.{StepRefusal}
-use Rattle.sched_run.specs.declared.step.Step.TheVariants as named
+use Rattle.sched_net.specs.Net.{execution_in}
+use Rattle.sched_net.specs.declared.books.Books.{Books}
+use Rattle.sched_net.specs.ScheduleLines.{Line, steps_of}
+use Rattle.sched_net.specs.Steps.{after_lines, Applied}
+use Rattle.sched_net.specs.declared.running.StepRefusal.{StepRefusal}
+use Rattle.sched_net.specs.declared.step.Step.TheVariants as named
 use Rattle.topo_forms.specs.Data.{Data}
 use Rattle.topo_forms.specs.View.{View, find_stream, stream_replicas}
 use Rattle.why_trace.specs.Trim as trim

@@ -12,12 +12,12 @@ use Rattle.inbox.specs.Wiring.{wiring_of}
 use Rattle.inbox.proofs.Executions.Results.{and_then_Ok}
 use Rattle.sched_bench.specs.Bench.{fault_of_opening}
 use Rattle.sched_bench.specs.declared.fault.OpenFault.{OpenFault}
-use Rattle.sched_run.specs.Numbered.{numbered}
+use Rattle.sched_net.specs.Numbered.{numbered}
 use Rattle.inbox.specs.Limits.{Limit, limit_of_event}
-use Rattle.sched_run.specs.ScheduleLines.{Line, steps_of}
-use Rattle.sched_run.specs.Steps.{after_line, after_lines, in_line, made_by}
-use Rattle.sched_run.specs.declared.running.StepRefusal.{StepRefusal}
-use Rattle.sched_run.specs.declared.step.Step.TheVariants as named
+use Rattle.sched_net.specs.ScheduleLines.{Line, steps_of}
+use Rattle.sched_net.specs.Steps.{after_line, after_lines, in_line, made_by}
+use Rattle.sched_net.specs.declared.running.StepRefusal.{StepRefusal}
+use Rattle.sched_net.specs.declared.step.Step.TheVariants as named
 use Rattle.topo_forms.specs.Data.{Data}
 use Rattle.topo_forms.specs.View.{View}
 use Rattle.witness_check.specs.declared.difference.Which.{Which}

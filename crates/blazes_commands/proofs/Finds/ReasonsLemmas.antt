@@ -11,15 +11,15 @@ use Rattle.bloom_eval.specs.declared.kind.ProgramKind.{ProgramKind}
 use Rattle.blz_value.specs.Record.{Row}
 use Rattle.blz_value.proofs.Membership.{any_from_Has}
 use Rattle.blz_value.proofs.SetLaws.{Has-set_of}
-use Rattle.sched_run.proofs.SeatsLemmas.{has-by_number}
+use Rattle.sched_net.proofs.SeatsLemmas.{has-by_number}
 use Rattle.inbox.specs.Executions.{Execution, contents, emitted_list, first_execution}
 use Rattle.inbox.specs.Wiring.{wiring_of}
 use Rattle.inbox.proofs.TimestepLemmas.Entries.{Has-rows_in}
 use Rattle.messages.proofs.MessagesLemmas.{is_same_row-itself}
 use Rattle.sched_bench.specs.Bench.{fault_of_opening}
-use Rattle.sched_run.specs.ScheduleLines.{Line}
-use Rattle.sched_run.specs.Steps.{after_lines}
-use Rattle.sched_run.specs.declared.step.Step.TheVariants as named
+use Rattle.sched_net.specs.ScheduleLines.{Line}
+use Rattle.sched_net.specs.Steps.{after_lines}
+use Rattle.sched_net.specs.declared.step.Step.TheVariants as named
 use Rattle.sched_text.specs.Text.{IsPrintable, is_printable}
 use Rattle.topo_forms.specs.Data.{Data}
 use Rattle.topo_forms.specs.Messages.{Message, row, seal, is_same_row, row_in, rows_in}

@@ -6,11 +6,11 @@ use Rattle.bloom_eval.specs.declared.kind.ProgramKind.{ProgramKind}
 use Rattle.confluence.specs.Laws.{RegionLaw}
 use Rattle.inbox.specs.Executions.{Execution, contents, first_execution}
 use Rattle.sched_bench.specs.Bench.{fault_of_opening}
-use Rattle.sched_run.specs.ScheduleLines.{Line}
-use Rattle.sched_run.specs.Steps.{after_lines}
-use Rattle.sched_run.specs.declared.step.Step.TheVariants as named
-use Rattle.sched_run.specs.Reading.{is_complete}
-use Rattle.sched_run.proofs.LeftSeen.{tells_complete}
+use Rattle.sched_net.specs.ScheduleLines.{Line}
+use Rattle.sched_net.specs.Steps.{after_lines}
+use Rattle.sched_net.specs.declared.step.Step.TheVariants as named
+use Rattle.sched_net.specs.Reading.{is_complete}
+use Rattle.sched_net.proofs.LeftSeen.{tells_complete}
 use Rattle.topo_forms.specs.Data.{Data, Holds, IsData}
 use Rattle.topo_forms.specs.Valid.{IsValid}
 use Rattle.topo_forms.specs.View.{View}

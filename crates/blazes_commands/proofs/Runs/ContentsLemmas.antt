@@ -1,6 +1,6 @@
 -- The status of an execution is told by a test, and replicas of Order components have what their program puts out over the log.
 use Rattle.std.proofs.Common.{◌≡◌, ◌<◌, ◌∙◌, ◌↔◌, inl, inr, ℕ, Bool, true, false, IsTrue, refl}
-use Rattle.sched_run.proofs.EmittedSeen.{is_order_output}
+use Rattle.sched_net.proofs.EmittedSeen.{is_order_output}
 use Rattle.inbox.specs.Completeness.{IsComplete}
 use Rattle.inbox.specs.Executions.{Execution}
 use Rattle.inbox.specs.Wiring.{wiring_of}

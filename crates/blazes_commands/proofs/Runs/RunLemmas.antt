@@ -11,13 +11,13 @@ use Rattle.inbox.specs.Executions.{Execution, first_execution}
 use Rattle.report_lines.specs.declared.refusal.Refusal.TheVariants as refusal
 use Rattle.report_lines.specs.declared.refusal.EventKind.TheVariants as event_kinds
 use Rattle.sched_bench.specs.Bench.{fault_of_opening}
-use Rattle.sched_run.specs.Net.{Stands, execution_in}
-use Rattle.sched_run.specs.declared.books.Books.{Books}
-use Rattle.sched_run.specs.Steps.{Applied, Applies, after_lines, steps_in}
-use Rattle.sched_run.specs.declared.running.StepRefusal.{StepRefusal}
-use Rattle.sched_run.specs.declared.step.Step.{Step as NamedStep}
-use Rattle.sched_run.proofs.FirstLemmas.{applied_first}
-use Rattle.sched_run.proofs.TablesLemmas.{tables_are_last}
+use Rattle.sched_net.specs.Net.{Stands, execution_in}
+use Rattle.sched_net.specs.declared.books.Books.{Books}
+use Rattle.sched_net.specs.Steps.{Applied, Applies, after_lines, steps_in}
+use Rattle.sched_net.specs.declared.running.StepRefusal.{StepRefusal}
+use Rattle.sched_net.specs.declared.step.Step.{Step as NamedStep}
+use Rattle.sched_net.proofs.FirstLemmas.{applied_first}
+use Rattle.sched_net.proofs.TablesLemmas.{tables_are_last}
 use Rattle.topo_forms.specs.Data.{Data}
 use Rattle.topo_forms.specs.View.{View}
 use Rattle.command_checks.specs.FileChecks.{line_of}

@@ -2,9 +2,9 @@
 use Rattle.std.specs.Prelude.{◌≡◌, List, Result, Ok, Err}
 use Rattle.topo_forms.specs.View.{View}
 use Rattle.inbox.specs.Events.{Event}
-use Rattle.sched_make.specs.Making.{IsTextOf}
-use Rattle.sched_run.specs.declared.books.Books.{Books}
-use Rattle.sched_make.specs.declared.fault.MakeFault.{MakeFault}
+use Rattle.sched_run.specs.Making.{IsTextOf}
+use Rattle.sched_net.specs.declared.books.Books.{Books}
+use Rattle.sched_net.specs.declared.fault.MakeFault.{MakeFault}
 use Rattle.blazes_commands.specs.Checks.{make_refusal}
 use Rattle.command_checks.specs.Reply.{Answer}
 use Rattle.command_checks.specs.Ran.{answer_of, IsStopAt}

@@ -3,9 +3,9 @@ use Rattle.std.specs.Prelude.{ℕ, List, Result}
 use Rattle.topo_forms.specs.Data.{Data}
 use Rattle.topo_forms.specs.View.{View}
 use Rattle.inbox.specs.Events.{Step, Event}
-use Rattle.sched_run.specs.Net.{BooksStand, execution_in}
-use Rattle.sched_run.specs.declared.books.Books.{Books}
-use Rattle.sched_make.specs.declared.fault.MakeFault.{MakeFault}
+use Rattle.sched_net.specs.Net.{BooksStand, execution_in}
+use Rattle.sched_net.specs.declared.books.Books.{Books}
+use Rattle.sched_net.specs.declared.fault.MakeFault.{MakeFault}
 use Rattle.command_checks.specs.Reply.{Answer}
 use Rattle.blazes_commands.specs.Commands.{HasSummary}
 use Rattle.blazes_commands.specs.Code.Made.{IsMade}

@@ -8,10 +8,10 @@ use Rattle.topo_forms.specs.View.{View, find_stream, stream_replicas}
 use Rattle.inbox.specs.Executions.{Execution, emitted_list, first_execution}
 use Rattle.inbox.specs.Wiring.{wiring_of}
 use Rattle.sched_text.specs.Reading.{bad_line, entries_of, event_reading}
-use Rattle.sched_run.specs.ScheduleLines.{Line}
-use Rattle.sched_run.specs.Steps.{after_lines}
-use Rattle.sched_run.specs.declared.running.StepRefusal.{StepRefusal}
-use Rattle.sched_run.specs.declared.step.Step.TheVariants as named
+use Rattle.sched_net.specs.ScheduleLines.{Line}
+use Rattle.sched_net.specs.Steps.{after_lines}
+use Rattle.sched_net.specs.declared.running.StepRefusal.{StepRefusal}
+use Rattle.sched_net.specs.declared.step.Step.TheVariants as named
 use Rattle.messages.specs.declared.fault.EventFault.{EventFault}
 use Rattle.messages.specs.declared.fault.EventFault.TheVariants as event_faults
 use Rattle.why_trace.specs.Trim.{Wanted}

@@ -9,8 +9,8 @@ use Rattle.label_walk.specs.Labels.{AreLabels}
 use Rattle.label_walk.specs.Paths.{label_at}
 use Rattle.confluence.specs.Sound.{IsBodied, IsSteady}
 use Rattle.inbox.specs.Executions.{Execution}
-use Rattle.sched_run.specs.ScheduleLines.{Line}
-use Rattle.sched_run.specs.Reading.{is_complete}
+use Rattle.sched_net.specs.ScheduleLines.{Line}
+use Rattle.sched_net.specs.Reading.{is_complete}
 use Rattle.witness_check.specs.Difference.{difference, snapshot}
 use Rattle.witness_check.specs.declared.difference.Difference.{Difference}
 use Rattle.why_trace.specs.Passes.{IsSublist}

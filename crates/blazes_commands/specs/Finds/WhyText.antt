@@ -4,7 +4,7 @@ use Rattle.std.specs.Fmt.{decimal}
 use Rattle.std.specs.List.{flat_map}
 use Rattle.blz_value.specs.Text.{record_text}
 use Rattle.topo_forms.specs.View.{View, stream_at}
-use Rattle.sched_run.specs.ScheduleLines.{Line}
+use Rattle.sched_net.specs.ScheduleLines.{Line}
 use Rattle.sched_text.specs.Text.{event_text}
 use Rattle.why_trace.specs.Trim.{Wanted}
 use Rattle.report_lines.specs.Words.{Text, line, inner_line}

@@ -5,7 +5,7 @@ use Rattle.blz_value.specs.Text.{record_text}
 use Rattle.topo_forms.specs.Data.{Data}
 use Rattle.topo_forms.specs.View.{View, stream_at}
 use Rattle.inbox.specs.Executions.{Execution}
-use Rattle.sched_run.specs.Reading.{is_complete}
+use Rattle.sched_net.specs.Reading.{is_complete}
 use Rattle.witness_check.specs.Difference.{difference, snapshot}
 use Rattle.witness_check.specs.declared.difference.Difference.{Difference}
 use Rattle.witness_check.specs.declared.difference.Which.{Which}

@@ -4,8 +4,8 @@ use Rattle.bloom_eval.specs.declared.kind.ProgramKind.{ProgramKind}
 use Rattle.messages.specs.declared.fault.EventFault.{EventFault}
 use Rattle.messages.specs.declared.fault.EventFault.TheVariants as event_faults
 use Rattle.inbox.specs.Executions.{Execution, first_execution}
-use Rattle.sched_run.specs.StepReading.{step_reading}
-use Rattle.sched_run.specs.Steps.{StepLine, after_lines, itself}
+use Rattle.sched_net.specs.StepReading.{step_reading}
+use Rattle.sched_net.specs.Steps.{StepLine, after_lines, itself}
 use Rattle.report_lines.specs.declared.refusal.Refusal.{Refusal}
 use Rattle.report_lines.specs.declared.refusal.Refusal.TheVariants as refusal
 use Rattle.report_lines.specs.declared.refusal.EventKind.TheVariants as event_kinds
@@ -13,10 +13,10 @@ use Rattle.report_lines.specs.Refusals.{refusal_line}
 use Rattle.sched_bench.specs.Bench.{fault_of_opening}
 use Rattle.sched_bench.specs.declared.fault.OpenFault.{OpenFault}
 use Rattle.sched_bench.specs.declared.fault.OpenFault.TheVariants as open_faults
-use Rattle.sched_run.specs.ScheduleLines.{Line}
-use Rattle.sched_run.specs.declared.running.StepRefusal.{StepRefusal}
-use Rattle.sched_run.specs.declared.step.Step.{Step as NamedStep}
-use Rattle.sched_run.specs.declared.step.Step.TheVariants.{Event}
+use Rattle.sched_net.specs.ScheduleLines.{Line}
+use Rattle.sched_net.specs.declared.running.StepRefusal.{StepRefusal}
+use Rattle.sched_net.specs.declared.step.Step.{Step as NamedStep}
+use Rattle.sched_net.specs.declared.step.Step.TheVariants.{Event}
 use Rattle.sched_text.specs.Reading.{bad_line, entries_of}
 use Rattle.topo_forms.specs.Data.{Data}
 use Rattle.topo_forms.specs.View.{View, component_at}

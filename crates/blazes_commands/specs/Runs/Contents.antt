@@ -8,9 +8,9 @@ use Rattle.inbox.specs.Folds.{fold_rows}
 use Rattle.inbox.specs.OrderReplicas.{most_taken}
 use Rattle.inbox.specs.Wiring.{wiring_of}
 use Rattle.report_print.specs.RunText.{run_text}
-use Rattle.sched_run.specs.Net.{BooksStand, execution_in}
-use Rattle.sched_run.specs.declared.books.Books.{Books}
-use Rattle.sched_run.specs.Reading.{IsOrdered}
+use Rattle.sched_net.specs.Net.{BooksStand, execution_in}
+use Rattle.sched_net.specs.declared.books.Books.{Books}
+use Rattle.sched_net.specs.Reading.{IsOrdered}
 use Rattle.topo_forms.specs.Data.{Data}
 use Rattle.topo_forms.specs.View.{View}
 use Rattle.command_checks.specs.Reply.{Answer}
@@ -26,7 +26,7 @@ IsStatusOf v given x status = ((status ≡ Done) × IsComplete (wiring_of v) giv
 abbrev pub TellsStatus : View → Books → Status → Type 0
 TellsStatus v b status = (given : Data) (steps : List Step) (stand : BooksStand v given steps b) → IsStatusOf v given (execution_in stand) status
 
--- the contents of each replica of an Order component are what its program puts out over the first entries of the log, as many as it took in the life in which it took most
+-- what each replica of an Order component has put out is what its program gives over a beginning of the log, as far as the longest of its lives came
 abbrev pub HasOrderReplicas : View → Data → Execution → Type 0
 HasOrderReplicas v given x = (stream replica component output : ℕ) (program : Program) → IsOrdered v stream replica component output program
     → contents (wiring_of v) given x stream replica ≡ fold_rows program (take (most_taken (x.lives component replica)) (x.logs component)) output

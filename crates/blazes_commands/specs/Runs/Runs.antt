@@ -2,8 +2,8 @@
 use Rattle.std.specs.Prelude.{List}
 use Rattle.bloom_eval.specs.declared.kind.ProgramKind.{ProgramKind}
 use Rattle.inbox.specs.Executions.{Execution}
-use Rattle.sched_run.specs.Steps.{StepLine}
-use Rattle.sched_run.specs.ScheduleLines.{Line}
+use Rattle.sched_net.specs.Steps.{StepLine}
+use Rattle.sched_net.specs.ScheduleLines.{Line}
 use Rattle.topo_forms.specs.Data.{Data}
 use Rattle.topo_forms.specs.View.{View}
 use Rattle.blazes_words.specs.Words.{RunFiles}

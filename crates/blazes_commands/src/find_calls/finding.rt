@@ -1,6 +1,6 @@
 //! The record of an execution that is looked for.
 ghost use Rattle.std.specs.Prelude.{◌≡◌, ◌<◌, OnOk, Some, length, map, option_copied};
-ghost use Rattle.sched_run.specs.Net.{BooksRun};
+ghost use Rattle.sched_net.specs.Net.{BooksRun};
 ghost use Rattle.topo_forms.specs.Data.{IsData};
 ghost use Rattle.topo_forms.specs.View.{find_stream};
 ghost use Rattle.blazes_words.specs.Requests.{why_shown};
@@ -16,7 +16,7 @@ use bloom_eval::Component;
 use blz_value::{Record, Str};
 use command_checks::{Stop, refused, stop_at};
 use report_lines::{Refusal, WhyKind};
-use sched_run::{Net, StepRefusal, run};
+use sched_net::{Net, StepRefusal, run};
 use sched_text::Event;
 use std::alloc::Global;
 use topo_forms::{Data, Valid};

@@ -1,7 +1,7 @@
 //! What is taken of one of two executions that are compared.
 ghost use Rattle.std.specs.Prelude.{◌≡◌, IfOk, OnOk, map};
-ghost use Rattle.sched_run.specs.Net.{BooksRun};
-ghost use Rattle.sched_run.specs.Reading.{IsRead};
+ghost use Rattle.sched_net.specs.Net.{BooksRun};
+ghost use Rattle.sched_net.specs.Reading.{IsRead};
 ghost use Rattle.topo_forms.specs.Data.{IsData};
 ghost use Rattle.blazes_commands.specs.Finds.Code.Kinds.{LosesNone};
 ghost use Rattle.blazes_commands.specs.Finds.Code.Seen as spec;
@@ -11,7 +11,7 @@ use crate::run_calls::{event_refusal, opened};
 use bloom_eval::Component;
 use command_checks::{Stop, stop_at};
 use report_lines::Refusal;
-use sched_run::{Net, StepRefusal, run};
+use sched_net::{Net, StepRefusal, run};
 use sched_text::Event;
 use std::alloc::{AllocError, Global};
 use topo_forms::{Data, Valid};

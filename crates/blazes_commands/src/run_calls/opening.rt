@@ -2,7 +2,7 @@
 ghost use Rattle.std.specs.Prelude.{◌≡◌, ◌++◌, [], IfOk, OnErr, map};
 ghost use Rattle.std.specs.List.Sorted.{IsPermutation};
 ghost use Rattle.sched_bench.specs.Bench.{fault_of_opening};
-ghost use Rattle.sched_run.specs.Net.{Stands};
+ghost use Rattle.sched_net.specs.Net.{Stands};
 ghost use Rattle.topo_forms.specs.Data.{IsData};
 ghost use Rattle.topo_forms.specs.View.{component_at};
 ghost use Rattle.blazes_commands.specs.Runs.Checks as check;
@@ -13,7 +13,7 @@ use blz_value::Str;
 use command_checks::{Stop, stop_at};
 use report_lines::Refusal;
 use sched_bench::OpenFault;
-use sched_run::Net;
+use sched_net::Net;
 use std::alloc::{AllocError, Global};
 use topo_forms::{Data, Valid};
 

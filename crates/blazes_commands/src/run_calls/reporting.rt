@@ -1,7 +1,7 @@
 //! What is said of a net after its events or steps: their refusal, or its status and its contents.
 ghost use Rattle.std.specs.Prelude.{◌≡◌, IfOk, OnOk, Some};
 ghost use Rattle.report_lines.specs.declared.refusal.Refusal.TheVariants as refusal;
-ghost use Rattle.sched_run.specs.Net.{BooksRun};
+ghost use Rattle.sched_net.specs.Net.{BooksRun};
 ghost use Rattle.command_checks.specs.Ran.{answer_of};
 ghost use Rattle.blazes_commands.specs.Runs.Checks as check;
 ghost use Rattle.blazes_commands.specs.Runs.Code.Ran.{IsOutcomeOf, ReportsBooks};
@@ -11,7 +11,7 @@ use command_checks::{Reply, Status, Stop, stop_at};
 use messages::EventFault;
 use report_lines::{EventKind, Refusal};
 use report_print::run_text;
-use sched_run::{Net, StepRefusal};
+use sched_net::{Net, StepRefusal};
 use std::alloc::{AllocError, Global};
 use topo_forms::Valid;
 

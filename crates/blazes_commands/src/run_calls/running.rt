@@ -15,7 +15,7 @@ use blazes_words::RunFiles;
 use bloom_eval::Component;
 use blz_outside::Files;
 use command_checks::{Reply, Stop, data_file, schedule_file, valid_topology};
-use sched_run::AsStep;
+use sched_net::AsStep;
 use std::alloc::Global;
 use topo_forms::{Data, Valid};
 

@@ -7,7 +7,7 @@ use blz_outside::Files;
 use command_checks::{Stop, read_file, refused};
 use replay_run::read;
 use report_lines::Refusal;
-use sched_run::Step;
+use sched_net::Step;
 use sched_text::ScheduleFault;
 use std::alloc::Global;
 

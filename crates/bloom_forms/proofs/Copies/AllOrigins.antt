@@ -10,6 +10,6 @@ use Rattle.bloom_forms.proofs.Copies.StockOrigins.{split_outputs, latest_outputs
 
 pub outputs_origins : (names : List Name) (program : Program) → IsProper program → OutputsHaveOrigins names program
 outputs_origins names (Module a) proper = module_outputs names a proper
-outputs_origins names (Split columns split) proper = split_outputs names columns split proper.0.1
+outputs_origins names (Split columns split) proper = split_outputs names columns split proper.1
 outputs_origins names (Latest columns keys) proper = latest_outputs names columns keys
 outputs_origins names (Number columns) proper = number_outputs names columns

@@ -1,2 +1,1 @@
 -- Neither of two tests holds where none does.
-use Rattle.std.proofs.Common.{◌≡◌, ◌||◌}

@@ -1,4 +1,4 @@
--- No port of a proper program has a column twice, and its stock body is as it should be.
+-- No port of a proper program of distinct columns has a column twice, and the stock body of a proper one is as it should be.
 use Rattle.std.proofs.Common.{◌≡◌, ◌<◌, ◌+◌, ◌≤◌, ℕ, zero, suc, Bool, true, false, cond, Some, List, [], ◌∷◌, length, map, filter, get_or, refl, ap, ◌∙◌, sym, subst, inl, inr, arith}
 use Rattle.std.specs.Prelude.{◌==◌}
 use Rattle.std.specs.List.{list_any, range_with_len, position_from}
@@ -19,15 +19,15 @@ use Rattle.bloom_forms.specs.Form.{Accepted}
 use Rattle.bloom_forms.specs.Kinds.{same_kind}
 use Rattle.bloom_forms.specs.Query.{Name}
 use Rattle.bloom_forms.specs.Program.{IsStock, port_columns}
-use Rattle.bloom_forms.specs.Proper.{IsProper}
+use Rattle.bloom_forms.specs.Proper.{IsProper, HasDistinctColumns}
 use Rattle.bloom_forms.specs.declared.program.Program.{Program}
 
 -- a stock body that is proper is as it should be
 pub proper_is_stock : (program : Program) → IsProper program → IsStock program
 proper_is_stock (Module a) proper = tt
-proper_is_stock (Split columns split) proper = proper.0
-proper_is_stock (Latest columns keys) proper = proper.0
-proper_is_stock (Number columns) proper = proper.0
+proper_is_stock (Split columns split) proper = proper
+proper_is_stock (Latest columns keys) proper = proper
+proper_is_stock (Number columns) proper = proper
 
 -- no port has a column twice
 abbrev pub HasOwnColumns : Program → Type 0
@@ -110,9 +110,16 @@ module _ (columns : List Name) (distinct : repeats columns ≡ false) where
   number_own_columns own (inl e) = subst (λ (c : List Name). repeats c ≡ false) e distinct
   number_own_columns own (inr never) = absurd never
 
--- no port of a proper program has a column twice
-pub own_columns : (program : Program) → IsProper program → HasOwnColumns program
-own_columns (Module a) checked = module_own_columns a checked
-own_columns (Split columns split) proper = split_own_columns columns proper.1 split
-own_columns (Latest columns keys) proper = latest_own_columns columns proper.1 keys
-own_columns (Number columns) proper = number_own_columns columns proper.1
+-- no port of a proper program of distinct columns has a column twice
+pub own_columns : (program : Program) → IsProper program → HasDistinctColumns program → HasOwnColumns program
+own_columns (Module a) checked distinct = module_own_columns a checked
+own_columns (Split columns split) proper distinct = split_own_columns columns distinct split
+own_columns (Latest columns keys) proper distinct = latest_own_columns columns distinct keys
+own_columns (Number columns) proper distinct = number_own_columns columns distinct
+
+-- where no port has a column twice, the columns are distinct
+pub distinct_columns : (program : Program) → HasOwnColumns program → HasDistinctColumns program
+distinct_columns (Module a) own = tt
+distinct_columns (Split columns split) own = own columns (inl refl)
+distinct_columns (Latest columns keys) own = own columns (inl refl)
+distinct_columns (Number columns) own = own columns (inl refl)

@@ -1,12 +1,12 @@
 -- A key that is a set of attributes is the list of its members.
-use Rattle.std.proofs.Common.{◌≡◌, List}
+use Rattle.std.proofs.Common.{List}
 use Rattle.blz_value.proofs.Membership.{all_member, all_from}
 use Rattle.blz_value.specs.Bits.{members}
 use Rattle.blz_value.specs.Closure.{within, closure}
 use Rattle.blz_value.proofs.MembersInOrder.{from_members, within_by_members, members_within}
 use Rattle.blz_value.proofs.Booleans.{same_truth}
 use Rattle.bloom_forms.specs.declared.program.Program.{Program}
-use Rattle.bloom_forms.specs.Proper.{IsProper}
+use Rattle.bloom_forms.specs.Proper.{IsProper, HasDistinctColumns}
 use Rattle.bloom_forms.specs.Query.{Name}
 use Rattle.bloom_forms.specs.Annotation.{gate_of_output}
 use Rattle.bloom_forms.specs.Attributes.{has_attribute}
@@ -26,6 +26,6 @@ set_by_members key gate fds small = (
   λ inside. members_within key.bits (closure gate fds) inside,
 )
 
-pub answers_by_set : (names : List Name) (program : Program) → IsProper program → AnswersBySet names program
-answers_by_set names program proper output now fds key small arrivals keyed inside row =
-    answers_split names program proper output now fds (members key.bits) arrivals keyed ((set_by_members key (gate_of_output names program output) fds small).1 inside) row
+pub answers_by_set : (names : List Name) (program : Program) → IsProper program → HasDistinctColumns program → AnswersBySet names program
+answers_by_set names program proper distinct output now fds key small arrivals keyed inside row =
+    answers_split names program proper distinct output now fds (members key.bits) arrivals keyed ((set_by_members key (gate_of_output names program output) fds small).1 inside) row

@@ -15,7 +15,7 @@ use Rattle.bloom_forms.specs.Program.{port_columns}
 use Rattle.bloom_forms.specs.Query.{Name}
 use Rattle.bloom_forms.specs.Step.{Sets, set_at}
 use Rattle.bloom_forms.specs.Steps.{AreArrivals}
-use Rattle.bloom_forms.specs.Proper.{IsProper}
+use Rattle.bloom_forms.specs.Proper.{IsProper, HasDistinctColumns}
 use Rattle.bloom_forms.proofs.Reach.ProperLemmas.{HasOwnColumns, module_own_columns, own_columns}
 use Rattle.bloom_forms.specs.Copies.{IsCopyOf, HasOrigin}
 use Rattle.bloom_forms.specs.Roots.{Roots}
@@ -64,8 +64,8 @@ rules_keep_keys names a checked rule stands earlier now key numbers value row ar
     let part : Sets → Sets = λ n. of_class names (Module a) key (λ values. values) value n in
     has_value names (Module a) own key value earlier now _ _ row numbers (module_rules names a checked (map part earlier) (part now) rule row (value_arrivals names (Module a) own key value earlier now arrivals) stands h) are
 
-pub outputs_keep_keys : (names : List Name) (program : Program) → IsProper program → OutputsKeepKeys names program
-outputs_keep_keys names program proper output earlier now key numbers value row arrivals are h =
-    let own = own_columns program proper in
+pub outputs_keep_keys : (names : List Name) (program : Program) → IsProper program → HasDistinctColumns program → OutputsKeepKeys names program
+outputs_keep_keys names program proper distinct output earlier now key numbers value row arrivals are h =
+    let own = own_columns program proper distinct in
     let part : Sets → Sets = λ n. of_class names program key (λ values. values) value n in
     has_value names program own key value earlier now _ _ row numbers (outputs_origins names program proper (map part earlier) (part now) output row (value_arrivals names program own key value earlier now arrivals) h) are

@@ -1,7 +1,6 @@
--- A stock body may not have a column twice: Latest by the second of two columns k doesn't split by k, whose value is that of the first.
-use Rattle.std.proofs.Common.{◌≡◌, refl, ℕ, zero, suc, true, pos, List, [], ◌∷◌, length, get_or, codes, ap, ◌∙◌, sym, subst, inl, inr}
+-- The split law wants distinct columns: Latest by the second of two columns k doesn't split by k, whose value is that of the first.
+use Rattle.std.proofs.Common.{◌≡◌, ◌<◌, refl, ℕ, zero, suc, true, pos, List, [], ◌∷◌, length, get_or, codes, ap, ◌∙◌, sym, subst, inl, inr, arith}
 use Rattle.std.specs.List.{All}
-use Rattle.std.proofs.lemmas.Bool.{true≢false}
 use Rattle.blz_value.specs.declared.value.Value.TheVariants.{Int}
 use Rattle.blz_value.specs.Members.{Has}
 use Rattle.blz_value.specs.Record.{Row}
@@ -99,6 +98,10 @@ twice_fails splits =
     let found = law.0 (inl refl) in
     no_class found.0 found.1
 
--- it is not proper, since a column stands twice
-pub not_proper : IsProper program → ⊥
-not_proper proper = true≢false proper.1
+-- and it is proper: two columns, of which its key is one
+pub proper : IsProper program
+proper = (omega arith, below, λ i j d lt lj. absurd (omega (arith, lt, lj)))
+  where
+    below : All (λ key. key < 2) (1 ∷ [])
+    below zero d lt = omega arith
+    below (suc i) d lt = absurd (omega (arith, lt))

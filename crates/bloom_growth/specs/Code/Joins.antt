@@ -4,7 +4,7 @@ use Rattle.std.specs.List.{flat_map}
 use Rattle.blz_value.specs.Operators.{Pairs, agree, joined, join_rows}
 use Rattle.blz_value.specs.Record.{Row}
 use Rattle.blz_value.specs.Sets.{set_of}
-use Rattle.blz_set.specs.Code.Missing.{missing_from}
+use Rattle.blz_set.specs.Missing.{missing_from}
 use Rattle.blz_set.specs.RecordSet.{row_limit}
 use Rattle.blz_set.specs.declared.fault.SetFault.{SetFault}
 use Rattle.blz_set.specs.declared.fault.SetFault.TheVariants.{TooManyRows, NoMemory}

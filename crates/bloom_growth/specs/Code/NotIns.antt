@@ -6,8 +6,8 @@ use Rattle.blz_value.specs.Groups.{with_key}
 use Rattle.blz_value.specs.Operators.{Pairs, project_rows}
 use Rattle.blz_value.specs.Record.{Row}
 use Rattle.blz_value.specs.Sets.{set_of}
-use Rattle.blz_set.specs.Code.Pairs.{lefts_of, rights_of}
-use Rattle.bloom_growth.specs.Code.ByKey.{rows_found}
+use Rattle.blz_set.specs.Pairs.{lefts_of, rights_of}
+use Rattle.bloom_growth.specs.ByKey.{rows_found}
 
 -- the left rows at a key that no right row has
 abbrev pub free_at : (lefts rights : BTreeMap Row (List Row)) → Row → List Row

@@ -7,7 +7,7 @@ use Rattle.blz_set.specs.declared.fault.SetFault.TheVariants.{TooManyRows, NoMem
 use Rattle.bloom_forms.specs.declared.numbered.NumberedExpr.{NumberedExpr}
 use Rattle.bloom_forms.specs.declared.numbered.NumberedExpr as expr
 use Rattle.bloom_forms.specs.Step.{Sets, set_at}
-use Rattle.bloom_eval.specs.Code.NumberedRows.{numbered_rows, numbered_sets, TestsFit}
+use Rattle.bloom_eval.specs.NumberedRows.{numbered_rows, numbered_sets, TestsFit}
 use Rattle.bloom_eval.specs.StepAnswers.{AllFit, SomeIsOver}
 use Rattle.bloom_growth.specs.Bags.{IsBag}
 use Rattle.bloom_growth.specs.TurningGroups.{TalliesStand}

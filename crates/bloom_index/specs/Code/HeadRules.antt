@@ -11,8 +11,8 @@ use Rattle.bloom_forms.specs.Form.{Accepted}
 use Rattle.bloom_forms.specs.Lookup.{declared}
 use Rattle.bloom_forms.specs.Numbered.{AreNumbered}
 use Rattle.bloom_forms.specs.Step.{Sets, rows_named, rules_at, ruled_at}
-use Rattle.bloom_eval.specs.Code.NumberedRows.{numbered_rows}
-use Rattle.bloom_eval.specs.Code.Taken.{AreSetsOfAll}
+use Rattle.bloom_eval.specs.NumberedRows.{numbered_rows}
+use Rattle.bloom_eval.specs.Taken.{AreSetsOfAll}
 use Rattle.bloom_eval.specs.StepAnswers.{AllFit, SomeIsOver, rule_sets}
 use Rattle.bloom_growth.specs.declared.bag.Bag.{Bag}
 use Rattle.bloom_growth.specs.Bags.{IsBag}

@@ -9,7 +9,7 @@ use Rattle.blz_set.specs.declared.fault.SetFault.TheVariants.{TooManyRows, NoMem
 use Rattle.bloom_forms.specs.declared.numbered.NumberedExpr.{NumberedExpr}
 use Rattle.bloom_forms.specs.declared.numbered.NumberedRule.{NumberedRule}
 use Rattle.bloom_forms.specs.Step.{Sets}
-use Rattle.bloom_eval.specs.Code.NumberedRows.{numbered_rows, numbered_sets}
+use Rattle.bloom_eval.specs.NumberedRows.{numbered_rows, numbered_sets}
 use Rattle.bloom_eval.specs.StepAnswers.{AllFit, SomeIsOver}
 use Rattle.bloom_growth.specs.Growth.{Extends}
 use Rattle.bloom_parts.specs.declared.change.Change.{Change}

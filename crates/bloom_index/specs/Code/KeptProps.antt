@@ -13,7 +13,7 @@ use Rattle.bloom_forms.specs.Form.{Accepted}
 use Rattle.bloom_forms.specs.Program.{columns_of_kind}
 use Rattle.bloom_forms.specs.Step.{Sets}
 use Rattle.bloom_forms.specs.Widths.{AreSetsOf-prop}
-use Rattle.bloom_eval.specs.Code.NumberedRows.{numbered_rows}
+use Rattle.bloom_eval.specs.NumberedRows.{numbered_rows}
 use Rattle.bloom_growth.specs.declared.bag.Bag.{Bag}
 use Rattle.bloom_growth.specs.Facts.{IsBag-prop, TalliesStand-prop}
 use Rattle.bloom_index.specs.declared.memo.Memo.{Memo}

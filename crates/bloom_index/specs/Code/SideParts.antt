@@ -4,11 +4,11 @@ use denote.Ref.{Bor}
 use Rattle.std.specs.List.{AllZip, flat_map}
 use Rattle.std.specs.declared.ops.ControlFlow.{ControlFlow}
 use Rattle.std.specs.declared.ops.ControlFlow.TheVariants.{Continue, Break}
-use Rattle.blz_set.specs.Code.Pairs.{lefts_of, rights_of}
+use Rattle.blz_set.specs.Pairs.{lefts_of, rights_of}
 use Rattle.bloom_forms.specs.declared.numbered.NumberedExpr.{NumberedExpr, Base, Select', Project', Join', NotIn', Group', AtLeast'}
 use Rattle.bloom_forms.specs.declared.numbered.NumberedRule.{NumberedRule}
 use Rattle.bloom_forms.specs.Step.{Sets}
-use Rattle.bloom_eval.specs.Code.NumberedRows.{numbered_rows}
+use Rattle.bloom_eval.specs.NumberedRows.{numbered_rows}
 use Rattle.bloom_parts.specs.declared.part_rows.PartRows.{PartRows}
 use Rattle.bloom_parts.specs.declared.part_rows.PartRows.TheVariants.{Growing, Keyed}
 use Rattle.bloom_index.specs.declared.memo.Memo.{Memo}

@@ -24,6 +24,7 @@ use Rattle.bloom_forms.specs.Classes.{IsInClosure, of_class}
 use Rattle.bloom_forms.specs.Ports.{AreSilentAt}
 use Rattle.bloom_forms.specs.Runs.{rows_over, at_once}
 use Rattle.bloom_forms.proofs.Split.ClassesLemmas.{from_class}
+use Rattle.bloom_forms.proofs.Reach.ProperLemmas.{distinct_columns}
 use Rattle.topo_forms.specs.Carried.{is_confluent, port_carries}
 use Rattle.topo_forms.specs.Data.{Data, Holds}
 use Rattle.topo_forms.specs.Dependencies.{usable_fds}
@@ -149,9 +150,9 @@ module _ (v : View) (d : Data) (x : Execution) (history : IsHistory v d x) (s c 
       → ((rows : Sets → Sets → List Row) (given : ℕ → Option Note) (gate : ℕ) → IsPart v program o rows given gate → (life : Life) → Has life (all_lives (x.lives c j)) → IsDetermined program (λ nows. rows_over program rows nows) (timesteps i life.heard) all)
       → contents w d x s j ≡ set_at (answer_of program all) o
   contents_by_parts complete each =
-      let proper = (runs v d x history s c o j stands origin sender program body unordered).proper in
-      let whole = by_parts v program o proper (output_column v d x history s c o j stands origin sender program body unordered) in
-      determined_contents v d x history.valid s c o j stands origin sender program body unordered proper complete (λ life of_life. record {
+      let run = runs v d x history s c o j stands origin sender program body unordered in
+      let whole = by_parts v program o run.proper (distinct_columns program run.distinct) (output_column v d x history s c o j stands origin sender program body unordered) in
+      determined_contents v d x history.valid s c o j stands origin sender program body unordered run.proper complete (λ life of_life. record {
         within = whole (timesteps i life.heard) (all ∷ []) (λ rows given gate part. (each rows given gate part life of_life).within);
         whole = λ full. whole (all ∷ []) (timesteps i life.heard) (λ rows given gate part. (each rows given gate part life of_life).whole full);
       })

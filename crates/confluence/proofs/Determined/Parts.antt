@@ -39,7 +39,7 @@ use Rattle.bloom_forms.proofs.Ports.PortsLaw.{outputs_see, stock_silent}
 use Rattle.bloom_forms.proofs.Split.SplitLaw.{all_rules_split, all_split}
 use Rattle.bloom_forms.proofs.Rows.Outputs.{number}
 use Rattle.bloom_forms.proofs.Reach.ReadsLemmas.{rule_stands}
-use Rattle.bloom_forms.specs.Proper.{IsProper}
+use Rattle.bloom_forms.specs.Proper.{IsProper, HasDistinctColumns}
 use Rattle.bloom_forms.specs.Given.{AreAllC}
 use Rattle.bloom_forms.specs.Annotation.{rule_gate, rule_use}
 use Rattle.bloom_forms.specs.Note.{own_gate}
@@ -112,12 +112,12 @@ latest_gated keys port = by (port == 0)
     by false = refl
 
 -- the output of a stock body is one part
-stock_part : (v : View) (program : Program) (output : ℕ) → IsProper program → IsSilent program (λ port. note_of v.attributes program port output) (output_over program output)
+stock_part : (v : View) (program : Program) (output : ℕ) → IsProper program → HasDistinctColumns program → IsSilent program (λ port. note_of v.attributes program port output) (output_over program output)
     → ((port : ℕ) → IfSome (note_of v.attributes program port output) (λ note. IfSome (own_gate note) (λ own. own.bits ≡ gate_of_output v.attributes program output)))
     → IsPart v program output (output_rows program output) (λ port. note_of v.attributes program port output) (gate_of_output v.attributes program output)
-stock_part v program output proper silent gated = record {
+stock_part v program output proper distinct silent gated = record {
   confluent = all_confluent v.attributes program proper output;
-  splits = all_split v.attributes program proper output;
+  splits = all_split v.attributes program proper distinct output;
   sees = outputs_see v.attributes program proper output;
   silent = silent;
   covered = λ port. self_covered (note_of v.attributes program port output);
@@ -125,16 +125,16 @@ stock_part v program output proper silent gated = record {
   partitions = λ d x c j key batches value sealing body carrying. partitions_of_outputs v d x c j key batches program value sealing body output carrying;
 }
 
-pub by_parts : (v : View) (program : Program) (output : ℕ) → IsProper program → output < length (output_columns program) → ByParts v program output
-by_parts v (Module a) output proper there nows others each row h =
+pub by_parts : (v : View) (program : Program) (output : ℕ) → IsProper program → HasDistinctColumns program → output < length (output_columns program) → ByParts v program output
+by_parts v (Module a) output proper distinct there nows others each row h =
     let f = (outputs_by_rules a proper output there nows row).0 h in
     (outputs_by_rules a proper output there others row).1 (f.0, f.1, each (query_rows a f.0.1) (rule_use v.attributes a f.0) (rule_gate v.attributes a f.0) (rule_part v a proper output f.0 f.1) row f.2)
-by_parts v (Split columns split) output proper there nows others each row h =
+by_parts v (Split columns split) output proper distinct there nows others each row h =
     each (output_rows (Split columns split) output) (λ port. note_of v.attributes (Split columns split) port output) (gate_of_output v.attributes (Split columns split) output)
-    (stock_part v (Split columns split) output proper (stock_silent v.attributes (Split columns split) output) (λ port. tt)) row h
-by_parts v (Latest columns keys) output proper there nows others each row h =
+    (stock_part v (Split columns split) output proper distinct (stock_silent v.attributes (Split columns split) output) (λ port. tt)) row h
+by_parts v (Latest columns keys) output proper distinct there nows others each row h =
     each (output_rows (Latest columns keys) output) (λ port. note_of v.attributes (Latest columns keys) port output) (gate_of_output v.attributes (Latest columns keys) output)
-    (stock_part v (Latest columns keys) output proper (stock_silent v.attributes (Latest columns keys) output) (latest_gated (key_set v.attributes columns keys))) row h
-by_parts v (Number columns) output proper there nows others each row h =
+    (stock_part v (Latest columns keys) output proper distinct (stock_silent v.attributes (Latest columns keys) output) (latest_gated (key_set v.attributes columns keys))) row h
+by_parts v (Number columns) output proper distinct there nows others each row h =
     each (output_rows (Number columns) output) (λ port. note_of v.attributes (Number columns) port output) (gate_of_output v.attributes (Number columns) output)
-    (stock_part v (Number columns) output proper (stock_silent v.attributes (Number columns) output) (λ port. refl)) row h
+    (stock_part v (Number columns) output proper distinct (stock_silent v.attributes (Number columns) output) (λ port. refl)) row h

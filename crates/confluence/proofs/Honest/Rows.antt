@@ -25,6 +25,7 @@ use Rattle.bloom_forms.specs.Runs.{output_rows, output_over, at_once}
 use Rattle.bloom_forms.proofs.Confluent.ConfluentLaw.{all_confluent}
 use Rattle.bloom_forms.proofs.Split.ClassesLemmas.{from_class, arrivals_of_class}
 use Rattle.bloom_forms.proofs.Ports.PortsLaw.{outputs_see}
+use Rattle.bloom_forms.proofs.Reach.ProperLemmas.{distinct_columns}
 use Rattle.bloom_forms.proofs.Split.SplitLaw.{all_split}
 use Rattle.bloom_forms.specs.declared.mode.Mode.TheVariants.{Pass, Seal}
 use Rattle.topo_forms.specs.Carried.{carries_key, port_carries, streams_towards, is_confluent, allows_notes, may_carry}
@@ -209,10 +210,10 @@ module _ (v : View) (d : Data) (x : Execution) (history : IsHistory v d x) (hold
 
     -- by the split law
     split_to : (r : Row) → Has r (over (timesteps i batches)) → (k : Row) × Has r (over (map (of k) (timesteps i batches)))
-    split_to r h = ((all_split names program runs.proper o).runs (timesteps i batches) (usable_fds v c) attributes (λ values. values) arrive keyed_closed.0 keyed_closed.1 r).0 h
+    split_to r h = ((all_split names program runs.proper (distinct_columns program runs.distinct) o).runs (timesteps i batches) (usable_fds v c) attributes (λ values. values) arrive keyed_closed.0 keyed_closed.1 r).0 h
 
     split_from : (k r : Row) → Has r (over (map (of k) (timesteps i batches))) → Has r (over (timesteps i batches))
-    split_from k r h = ((all_split names program runs.proper o).runs (timesteps i batches) (usable_fds v c) attributes (λ values. values) arrive keyed_closed.0 keyed_closed.1 r).1 (k, h)
+    split_from k r h = ((all_split names program runs.proper (distinct_columns program runs.distinct) o).runs (timesteps i batches) (usable_fds v c) attributes (λ values. values) arrive keyed_closed.0 keyed_closed.1 r).1 (k, h)
 
     own_key : (k r : Row) → cells (key_places (output_at v c o).columns key.bits) r ≡ k → Has r (over (timesteps i batches)) → Has r (over (map (of k) (timesteps i batches)))
     own_key k r is h = let s = split_to r h in subst (λ z. Has r (over (map (of z) (timesteps i batches)))) (sym (class_key s.0 r s.1).is ∙ is) s.1

@@ -15,6 +15,7 @@ use Rattle.bloom_forms.specs.Step.{Sets, set_at}
 use Rattle.bloom_forms.specs.declared.note.Note.{Note}
 use Rattle.bloom_forms.specs.Runs.{output_over}
 use Rattle.bloom_forms.proofs.Confluent.ConfluentLaw.{one_step_answers}
+use Rattle.bloom_forms.proofs.Reach.ProperLemmas.{distinct_columns}
 use Rattle.topo_forms.specs.Carried.{is_confluent}
 use Rattle.topo_forms.specs.Data.{Data}
 use Rattle.topo_forms.specs.Feeds.{no_feed}
@@ -181,7 +182,7 @@ module _ (v : View) (d : Data) (valid : IsValid v) (order_acyclic : OrderIsAcycl
               subst (λ (p : ℕ). Has q (set_at all p)) a.feed_port
               (in_port v d y valid m k (feed_numbered (instance_at w m i) a.number).port (feed_numbered (instance_at w m i) a.number).stream q unordered there a.stream_there a.goes (heard m i a.number q lt lt_i member a.heard)) in
               let run = runs v d y hy s m o k stands origin there program e unordered in
-              let up = by_parts v program o run.proper (output_column v d y hy s m o k stands origin there program e unordered) nows (all ∷ [])
+              let up = by_parts v program o run.proper (distinct_columns program run.distinct) (output_column v d y hy s m o k stands origin there program e unordered) nows (all ∷ [])
               (λ rows given gate part. (confluent_part v program o rows given gate part
               (c_part v d y hy s m o k stands origin there program e unordered rows given gate part (λ port note below_it is. member_c m lt member port o note is)) nows all into).within) r f.2 in
               subst (λ (l : List Row). Has r l) (one_step_answers program run.proper o all ∙ sym (confluent_contents y hy complete s m o k stands origin there member program e)) up
@@ -211,7 +212,7 @@ module _ (v : View) (d : Data) (valid : IsValid v) (order_acyclic : OrderIsAcycl
           let lt = (inside v d x valid s m o i stands origin lt_i).0 in
           let unordered = member_unordered m lt member in
           let run = runs v d x hx s m o i stands origin lt_i program body unordered in
-          by_parts v program o run.proper (output_column v d x hx s m o i stands origin lt_i program body unordered) nows []
+          by_parts v program o run.proper (distinct_columns program run.distinct) (output_column v d x hx s m o i stands origin lt_i program body unordered) nows []
           (λ rows given gate part. nothing_part v d x hx s m o i stands origin lt_i program body unordered rows given gate part nows quiet) r h
 
       emits_never : (z : Execution) → HeardFine v d valid set IsNever z → EmittedFine v d valid set IsNever z

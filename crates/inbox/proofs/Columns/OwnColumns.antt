@@ -20,13 +20,13 @@ use Rattle.bloom_forms.specs.HeadRoots.{attribute_roots}
 use Rattle.bloom_forms.specs.Roots.{Roots, root_at}
 use Rattle.topo_forms.specs.Data.{place_of_attribute}
 use Rattle.inbox.proofs.Columns.Attributes.{first_place, one_place}
-use Rattle.bloom_forms.specs.Proper.{IsProper}
-use Rattle.bloom_forms.proofs.Reach.ProperLemmas.{own_columns}
+use Rattle.bloom_forms.specs.Proper.{IsProper, HasDistinctColumns}
+use Rattle.bloom_forms.proofs.Reach.ProperLemmas.{HasOwnColumns}
 
--- the columns of each port are distinct
-pub port_distinct : (program : Program) → IsProper program → (p : ℕ) → repeats (get_or (port_columns program) p []) ≡ false
-port_distinct program proper p = elim (cases_lt p (length (port_columns program))) [
-  | inl lt ↦ own_columns program proper (get_or (port_columns program) p []) (Has-get_or (port_columns program) p [] lt)
+-- the columns of each port are distinct, also where there is none
+pub port_distinct : (program : Program) → HasOwnColumns program → (p : ℕ) → repeats (get_or (port_columns program) p []) ≡ false
+port_distinct program own p = elim (cases_lt p (length (port_columns program))) [
+  | inl lt ↦ own (get_or (port_columns program) p []) (Has-get_or (port_columns program) p [] lt)
   | inr past ↦ rw (get_or_past (port_columns program) p [] past) refl
 ]
 
@@ -74,13 +74,13 @@ module _ (names : List Name) where
       prefix_root (attribute_roots names columns) (attribute_roots names more) rest n (place_of_attribute all a) a none root first.0
       (subst (λ (z : Roots). root_at z (place_of_attribute all a) ≡ Some a) parts first.1)
 
-  pub own_first : (program : Program) → IsProper program → (o n a : ℕ)
+  pub own_first : (program : Program) → IsProper program → HasDistinctColumns program → (o n a : ℕ)
       → root_at (attribute_roots names (get_or (output_columns program) o [])) n ≡ Some a → root_at (roots_of_output names program o) n ≡ Some a
       → root_at (roots_of_output names program o) (place_of_attribute (attribute_roots names (get_or (output_columns program) o [])) a) ≡ Some a
-  own_first (Module m) proper o n a is root = by_distinct (get_or (columns_of_kind Output m.form.collections) o []) (roots_of_output names (Module m) o) n a (module_distinct m proper o) is root
-  own_first (Split columns split) proper zero n a is root = by_prefix (remove columns split) _ (None ∷ None ∷ []) n a two_none is root
-  own_first (Split columns split) proper (suc o) n a is root = cc
-  own_first (Latest columns keys) proper zero n a is root = by_distinct columns (roots_of_output names (Latest columns keys) 0) n a (own_columns (Latest columns keys) proper columns (inl refl)) is root
-  own_first (Latest columns keys) proper (suc o) n a is root = cc
-  own_first (Number columns) proper zero n a is root = by_prefix columns _ (None ∷ []) n a one_none is root
-  own_first (Number columns) proper (suc o) n a is root = cc
+  own_first (Module m) proper distinct o n a is root = by_distinct (get_or (columns_of_kind Output m.form.collections) o []) (roots_of_output names (Module m) o) n a (module_distinct m proper o) is root
+  own_first (Split columns split) proper distinct zero n a is root = by_prefix (remove columns split) _ (None ∷ None ∷ []) n a two_none is root
+  own_first (Split columns split) proper distinct (suc o) n a is root = cc
+  own_first (Latest columns keys) proper distinct zero n a is root = by_distinct columns (roots_of_output names (Latest columns keys) 0) n a distinct is root
+  own_first (Latest columns keys) proper distinct (suc o) n a is root = cc
+  own_first (Number columns) proper distinct zero n a is root = by_prefix columns _ (None ∷ []) n a one_none is root
+  own_first (Number columns) proper distinct (suc o) n a is root = cc

@@ -100,7 +100,7 @@ step_wide (Split columns split) proper kept now tables ports = (
   (
     wide_by_rows _ _ (λ q h.
         let m = Has-from_flat_map (split_row split) q (set_at now 0) (Has-from_set_of q _ h) in
-        split_wide columns split now _ refl proper.0.1 ports m.0 m.1 q m.2),
+        split_wide columns split now _ refl proper.1 ports m.0 m.1 q m.2),
     tt,
   ),
 )

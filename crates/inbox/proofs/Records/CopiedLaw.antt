@@ -16,6 +16,7 @@ use Rattle.bloom_forms.specs.Gates.{set_of_roots}
 use Rattle.bloom_forms.specs.HeadRoots.{attribute_roots}
 use Rattle.bloom_forms.specs.Roots.{Roots, root_at}
 use Rattle.bloom_forms.proofs.Copies.AllOrigins.{outputs_origins}
+use Rattle.bloom_forms.proofs.Reach.ProperLemmas.{distinct_columns}
 use Rattle.bloom_forms.proofs.Copies.Copying.{root-within}
 use Rattle.bloom_forms.proofs.Copies.AttributesLemmas.{in_roots}
 use Rattle.topo_forms.specs.Data.{place_of_attribute}
@@ -60,7 +61,7 @@ module _ (v : View) (c o : ℕ) (program : Program) (earlier : List Sets) (now :
       let roots : (output_at v c o).roots ≡ roots_of_output names program o = (runs v valid c there program has).roots o is_output in
       let column : root_at (attribute_roots names output_columns_at) own_at.0 ≡ Some a = subst (λ (z : Roots). root_at z own_at.0 ≡ Some a) columns_are own_at.1 in
       let root : root_at (roots_of_output names program o) own_at.0 ≡ Some a = subst (λ (z : Roots). root_at z own_at.0 ≡ Some a) roots own_at.2 in
-      let first = own_first names program (runs v valid c there program has).proper o own_at.0 a column root in
+      let first = own_first names program (runs v valid c there program has).proper (distinct_columns program (runs v valid c there program has).distinct) o own_at.0 a column root in
       let copy = origin.is (place_of_attribute (attribute_roots names output_columns_at) a) a first in
       record {
         place = copy.0;
@@ -68,7 +69,7 @@ module _ (v : View) (c o : ℕ) (program : Program) (earlier : List Sets) (now :
         same =
             ap (λ (z : Roots). value_at z r a) columns_are
             ∙ copy.2
-            ∙ sym (value_of_place names (port_columns_at origin.port) (port_distinct program (runs v valid c there program has).proper origin.port) origin.copied copy.0 a copy.1)
+            ∙ sym (value_of_place names (port_columns_at origin.port) (port_distinct program (runs v valid c there program has).distinct origin.port) origin.copied copy.0 a copy.1)
             ∙ sym (ap (λ (z : Roots). value_at z origin.copied a) ports_are);
       }
 

@@ -7,9 +7,9 @@ use Rattle.label_rules.specs.declared.label.Label.{Label}
 use Rattle.inbox.specs.Completeness.{left_count}
 use Rattle.inbox.specs.Executions.{Execution}
 use Rattle.inbox.specs.Wiring.{wiring_of}
-use Rattle.sched_run.specs.Net.{BooksRun}
-use Rattle.sched_run.specs.Reading.{is_complete}
-use Rattle.sched_run.specs.declared.books.Books.{Books}
+use Rattle.sched_net.specs.Net.{BooksRun}
+use Rattle.sched_net.specs.Reading.{is_complete}
+use Rattle.sched_net.specs.declared.books.Books.{Books}
 use Rattle.report_lines.specs.Words.{Text}
 use Rattle.report_print.specs.RunText.{stream_lines, held_lines, end_lines}
 use Rattle.report_print.specs.SoakText.{batches_line, stream_line, messages_line}

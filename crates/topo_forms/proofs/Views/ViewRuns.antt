@@ -44,7 +44,6 @@ use Rattle.topo_forms.specs.ViewOf.{port_view, output_view}
 use Rattle.topo_forms.proofs.Columns.AttributeNames.{roots-are}
 use Rattle.topo_forms.proofs.Faults.NoFault.{above}
 use Rattle.topo_forms.proofs.Regions.Numbering.{any-none}
-use Rattle.topo_forms.proofs.Columns.OwnPorts.{stock_distinct}
 use Rattle.topo_forms.proofs.Views.ViewParts.{same_bytes}
 
 -- ---- names that stand once
@@ -88,8 +87,8 @@ from_names (n ∷ names) columns e name (inl same) =
     subst (λ (x : Name). Has x columns) (sym (same_bytes n found.0 found.2) ∙ same) found.1
 from_names (n ∷ names) columns e name (inr has) = from_names names columns (both_true (list_any (bytes_eq n) columns) (names_within names columns) e).1 name has
 
-proper_latest : (columns keys : List Name) → length columns ≤ 8 → names_within keys columns ≡ true → AllPairs (λ a b. a ≢ b) keys → repeats columns ≡ false → IsProper (program.Latest columns (map (column_number columns) keys))
-proper_latest columns keys few known apart distinct = ((few, numbers_below, numbers_apart), distinct)
+proper_latest : (columns keys : List Name) → length columns ≤ 8 → names_within keys columns ≡ true → AllPairs (λ a b. a ≢ b) keys → IsProper (program.Latest columns (map (column_number columns) keys))
+proper_latest columns keys few known apart = (few, numbers_below, numbers_apart)
   where
     at : (i : ℕ) (d : ℕ) → i < length keys → get_or (map (column_number columns) keys) i d ≡ column_number columns (get_or keys i [])
     at i d lt = get_or-map (column_number columns) keys i [] d lt
@@ -109,16 +108,13 @@ proper_latest columns keys few known apart distinct = ((few, numbers_below, numb
 
 pub proper_stock : (s : Stock) → has_wide (program_ports (stock_program s)) ≡ false → repeats_in_stock s ≡ false → unknown_in_stock s ≡ false → IsProper (stock_program s)
 proper_stock (stock.Split columns split) narrow once known = (
-  (
-    above 8 (length columns) (neither (is_wide columns) false narrow).0,
-    (let found = Has-from_any (bytes_eq split) columns (not_false (list_any (bytes_eq split) columns) known) in
-        (column_there columns split (subst (λ (x : Name). Has x columns) (sym (same_bytes split found.0 found.2)) found.1)).0),
-  ),
-  stock_distinct (stock.Split columns split) once,
+  above 8 (length columns) (neither (is_wide columns) false narrow).0,
+  (let found = Has-from_any (bytes_eq split) columns (not_false (list_any (bytes_eq split) columns) known) in
+      (column_there columns split (subst (λ (x : Name). Has x columns) (sym (same_bytes split found.0 found.2)) found.1)).0),
 )
 proper_stock (stock.Latest columns keys) narrow once known =
-    proper_latest columns keys (above 8 (length columns) (neither (is_wide columns) _ narrow).0) (not_false (names_within keys columns) known) (names_apart keys (neither (not (names_are_distinct columns)) (not (names_are_distinct keys)) once).1) (stock_distinct (stock.Latest columns keys) once)
-proper_stock (stock.Number columns) narrow once known = (above 8 (length columns) (neither (is_wide columns) false narrow).0, stock_distinct (stock.Number columns) once)
+    proper_latest columns keys (above 8 (length columns) (neither (is_wide columns) _ narrow).0) (not_false (names_within keys columns) known) (names_apart keys (neither (not (names_are_distinct columns)) (not (names_are_distinct keys)) once).1)
+proper_stock (stock.Number columns) narrow once known = above 8 (length columns) (neither (is_wide columns) false narrow).0
 
 -- ---- what a site runs
 

@@ -120,7 +120,7 @@ repeats_in_gate notes = list_any (λ d. not (names_are_distinct d.gate)) notes
 abbrev pub repeats_in_notes : ComponentEntry → Bool
 repeats_in_notes c = not (notes_are_distinct c.notes) || (not (names_are_distinct c.key) || repeats_in_gate c.notes)
 
--- an earlier component's name; two ports or two outputs of one name; a column twice in one of them, in `columns` or in `keys`; two notes of one path; a name twice in `key` or in a gate
+-- the name of a component before it; ports, or outputs, that share a name; a column that stands again in a port, an output, `columns` or `keys`; two notes of one path; a name that stands again in `key` or in a gate
 abbrev pub twice_component : List ComponentEntry → ComponentEntry → Bool
 twice_component earlier c =
     has_component earlier c.name

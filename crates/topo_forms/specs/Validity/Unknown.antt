@@ -46,7 +46,7 @@ unknown_in_body body.None = false
 abbrev pub unknown_source : List Site → SourceEntry → Bool
 unknown_source sites s = not (names_within s.seal s.columns) || misses_port sites s.to
 
--- a name in `split` or `keys` that isn't in `columns`; a name in `key` or in a gate that is no attribute; a note of a port or of an output that isn't there
+-- `split` or `keys` with a name that `columns` lacks; `key` or a gate with one that is no attribute; a note of a port or of an output that isn't there
 abbrev pub unknown_component : (attributes : List Name) → Site → Bool
 unknown_component attributes site =
     unknown_in_body site.entry.body

@@ -189,7 +189,7 @@ fn is_understated(alloc: Global, names: &AttrNames, site: &Site<'_>) -> Result<b
     Ok(any_short(names, site, &derived, notes))
 }
 
-/// The first component with a declared note that doesn't cover the derived note of its path.
+/// The first component of which a declared note tells less than its body gives the path.
 pub(crate) fn first_understated(
     alloc: Global,
     names: &AttrNames,

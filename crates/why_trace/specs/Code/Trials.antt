@@ -3,10 +3,10 @@ use Rattle.std.specs.Prelude.{◌≡◌, ◌≢◌, Bool, false, Result, Ok, Err
 use Rattle.topo_forms.specs.Data.{Data}
 use Rattle.topo_forms.specs.View.{View}
 use Rattle.messages.specs.declared.fault.EventFault.TheVariants.{NoMemory}
-use Rattle.sched_run.specs.declared.books.Books.{Books}
-use Rattle.sched_run.specs.ScheduleLines.{Line}
-use Rattle.sched_run.specs.Reading.{IsRead}
-use Rattle.sched_run.specs.declared.running.StepRefusal.{StepRefusal}
+use Rattle.sched_net.specs.declared.books.Books.{Books}
+use Rattle.sched_net.specs.ScheduleLines.{Line}
+use Rattle.sched_net.specs.Reading.{IsRead}
+use Rattle.sched_net.specs.declared.running.StepRefusal.{StepRefusal}
 use Rattle.why_trace.specs.declared.trial.Trial.{Trial}
 use Rattle.why_trace.specs.Trim.{Wanted, wanted, has_record, yields}
 

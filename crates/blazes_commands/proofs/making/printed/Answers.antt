@@ -1,7 +1,7 @@
 use Rattle.std.proofs.Common.{subst, sym}
 use Rattle.topo_forms.specs.Valid.{Validated}
-use Rattle.sched_make.specs.Making.{IsTextOf}
-use Rattle.sched_make.specs.Naming.{CanBeWritten}
+use Rattle.sched_run.specs.Making.{IsTextOf}
+use Rattle.sched_run.specs.Naming.{CanBeWritten}
 use Rattle.blazes_commands.proofs.making.printed.Goals as goal
 
 pub text-requires : goal.text-requires

@@ -4,10 +4,10 @@ use Rattle.bloom_eval.specs.declared.kind.ProgramKind.{ProgramKind}
 use Rattle.topo_forms.specs.Data.{Data}
 use Rattle.topo_forms.specs.View.{View}
 use Rattle.inbox.specs.Events.{Step}
-use Rattle.sched_run.specs.Net.{BooksStand, execution_in}
-use Rattle.sched_run.specs.declared.books.Books.{Books}
-use Rattle.sched_run.specs.ScheduleLines.{Line}
-use Rattle.sched_run.specs.declared.running.StepRefusal.{StepRefusal}
+use Rattle.sched_net.specs.Net.{BooksStand, execution_in}
+use Rattle.sched_net.specs.declared.books.Books.{Books}
+use Rattle.sched_net.specs.ScheduleLines.{Line}
+use Rattle.sched_net.specs.declared.running.StepRefusal.{StepRefusal}
 use Rattle.why_trace.specs.Trim as trim
 use Rattle.blazes_words.specs.Words.{WhyWords}
 use Rattle.blazes_commands.specs.Runs.Checks.{event_refusal}

@@ -4,12 +4,12 @@ use Rattle.bloom_eval.specs.declared.kind.ProgramKind.{ProgramKind}
 use Rattle.topo_forms.specs.Data.{Data}
 use Rattle.topo_forms.specs.View.{View}
 use Rattle.inbox.specs.Executions.{Execution, first_execution}
-use Rattle.sched_run.specs.declared.books.Books.{Books}
-use Rattle.sched_run.specs.ScheduleLines.{Line}
-use Rattle.sched_run.specs.Steps.{after_lines}
-use Rattle.sched_run.specs.Reading.{IsRead, is_complete}
-use Rattle.sched_run.specs.declared.running.StepRefusal.{StepRefusal}
-use Rattle.sched_run.specs.declared.step.Step.TheVariants as named
+use Rattle.sched_net.specs.declared.books.Books.{Books}
+use Rattle.sched_net.specs.ScheduleLines.{Line}
+use Rattle.sched_net.specs.Steps.{after_lines}
+use Rattle.sched_net.specs.Reading.{IsRead, is_complete}
+use Rattle.sched_net.specs.declared.running.StepRefusal.{StepRefusal}
+use Rattle.sched_net.specs.declared.step.Step.TheVariants as named
 use Rattle.witness_check.specs.Difference.{difference, snapshot}
 use Rattle.witness_check.specs.declared.difference.Difference.{Difference}
 use Rattle.witness_check.specs.declared.difference.Which.{Which}

@@ -3,7 +3,7 @@ use Rattle.bloom_forms.specs.declared.module.Kind.TheVariants.{Input, Table}
 use Rattle.bloom_forms.specs.Kinds.{place_in_kind}
 use Rattle.bloom_forms.specs.Step.{set_at, begun}
 use Rattle.bloom_eval.specs.Code.Held.{sets_in}
-use Rattle.bloom_eval.specs.Code.Begin.{place_after}
+use Rattle.bloom_eval.specs.Begin.{place_after}
 use Rattle.bloom_eval.proofs.Beginning.{place_more, place_within, place_after-le, later_left, still_left, begun_more}
 use Rattle.bloom_eval.proofs.begin.begin.Goals as goal
 

@@ -5,7 +5,7 @@ use Rattle.bloom_forms.specs.declared.module.Kind.TheVariants.{Input, Table}
 use Rattle.bloom_forms.specs.Kinds.{place_in_kind}
 use Rattle.bloom_forms.specs.Step.{set_at, begun_at}
 use Rattle.bloom_eval.specs.Code.Held.{sets_in}
-use Rattle.bloom_eval.specs.Code.Begin.{AreLeft}
+use Rattle.bloom_eval.specs.Begin.{AreLeft}
 use Rattle.bloom_eval.proofs.begin.begin.Given as goal
 
 abbrev pub invariant-loop-collection : goal.invariant-loop-collection

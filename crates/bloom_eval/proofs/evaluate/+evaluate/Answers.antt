@@ -5,7 +5,7 @@ use Rattle.blz_value.specs.Operators.{Pairs, select_rows, project_rows, join_row
 use Rattle.blz_value.specs.Groups.{group_rows, at_least_rows}
 use Rattle.blz_set.specs.Answers.{Gives}
 use Rattle.bloom_eval.specs.Code.Held.{sets_in}
-use Rattle.bloom_eval.specs.Code.NumberedRows.{numbered_rows}
+use Rattle.bloom_eval.specs.NumberedRows.{numbered_rows}
 use Rattle.bloom_eval.proofs.Evaluation.{over_one, over_two, left_refused, right_refused}
 use Rattle.bloom_eval.proofs.evaluate.+evaluate.Goals as goal
 

@@ -4,7 +4,7 @@ use Rattle.bloom_forms.specs.Form.{RuleForm}
 use Rattle.bloom_forms.specs.Lookup.{declared}
 use Rattle.bloom_forms.specs.Step.{rows_named, rules_at}
 use Rattle.bloom_eval.specs.Code.Held.{sets_in}
-use Rattle.bloom_eval.specs.Code.Counted.{Adds}
+use Rattle.bloom_eval.specs.Counted.{Adds}
 use Rattle.bloom_eval.proofs.ByNumbers.{tests_fit}
 use Rattle.blz_set.proofs.Unions.{handed_on}
 use Rattle.bloom_eval.proofs.Rules.{adds_none, adds_one, first_refused, form_at, own_rule, other_rule, none_from, adds_named}

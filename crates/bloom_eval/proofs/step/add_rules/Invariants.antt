@@ -5,7 +5,7 @@ use Rattle.blz_set.specs.declared.fault.SetFault.{SetFault}
 use Rattle.bloom_forms.specs.Lookup.{declared}
 use Rattle.bloom_forms.specs.Step.{rows_named, rules_at}
 use Rattle.bloom_eval.specs.Code.Held.{sets_in}
-use Rattle.bloom_eval.specs.Code.Counted.{Adds}
+use Rattle.bloom_eval.specs.Counted.{Adds}
 use Rattle.bloom_eval.proofs.step.add_rules.Given as goal
 
 abbrev pub invariant-loop-rule : goal.invariant-loop-rule

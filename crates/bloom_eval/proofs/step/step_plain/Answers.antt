@@ -8,7 +8,7 @@ use Rattle.bloom_forms.specs.Program.{columns_of_kind}
 use Rattle.bloom_forms.specs.Step.{Sets, at_start, sets_of_kind}
 use Rattle.bloom_eval.specs.Code.Held.{rows_in, sets_in}
 use Rattle.bloom_forms.specs.Widths.{AreSetsOf}
-use Rattle.bloom_eval.specs.Code.Taken.{AreBegun, TakesHeads}
+use Rattle.bloom_eval.specs.Taken.{AreBegun, TakesHeads}
 use Rattle.bloom_eval.proofs.Runnable.{runnable}
 use Rattle.bloom_eval.proofs.Widths.{length-sets_of, length-sets_of_all, kinds_wide, are_begun, left_wide}
 use Rattle.bloom_eval.proofs.step.step_plain.Goals as goal

@@ -2,7 +2,7 @@ use Rattle.std.proofs.Common.{◌∙◌, [], length, ap, sym, subst, arith}
 use Rattle.std.proofs.lemmas.List.{length-map}
 use Rattle.bloom_forms.specs.Step.{Sets}
 use Rattle.bloom_eval.specs.Code.Held.{rows_in, sets_in}
-use Rattle.bloom_eval.specs.Code.Taken.{AreSetsOfAll}
+use Rattle.bloom_eval.specs.Taken.{AreSetsOfAll}
 use Rattle.bloom_eval.proofs.Rules.{head_taken}
 use Rattle.bloom_eval.proofs.Widths.{columns_at, none_wide, set_wide}
 use Rattle.bloom_eval.proofs.step.take_head.Goals as goal

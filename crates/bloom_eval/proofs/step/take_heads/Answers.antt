@@ -1,7 +1,7 @@
 use Rattle.std.proofs.Common.{◌+◌, ◌∷◌, List, ℕ, drop, get_or, sym, subst, arith}
 use Rattle.std.proofs.lemmas.List.{length-map, drop_more, drop_all}
 use Rattle.bloom_eval.specs.Code.Held.{rows_in, sets_in}
-use Rattle.bloom_eval.specs.Code.Taken.{TakesHeads}
+use Rattle.bloom_eval.specs.Taken.{TakesHeads}
 use Rattle.blz_set.proofs.Unions.{handed_on}
 use Rattle.bloom_eval.proofs.Widths.{length-sets_of_all}
 use Rattle.bloom_eval.proofs.Taking.{IsAt, at_first, head_within, at_next, at_refused, at_last}

@@ -1,7 +1,7 @@
 use Rattle.std.proofs.Common.{◌≡◌, ◌+◌, ◌≤◌, length, arith, rules}
 use Rattle.blz_set.proofs.RecordSets.{length-filter-le}
 use Rattle.std.specs.Ordering.{eq_by_cmp}
-use Rattle.bloom_growth.specs.Code.Counts.{times}
+use Rattle.bloom_growth.specs.Counts.{times}
 use Rattle.bloom_growth.proofs.CountsLemmas.{counted_more, stands_at}
 use Rattle.bloom_growth.proofs.counts.is_again.Goals as goal
 

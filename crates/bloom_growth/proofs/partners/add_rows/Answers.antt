@@ -1,7 +1,7 @@
 use Rattle.std.proofs.Common.{sym, subst}
 use Rattle.bloom_growth.proofs.PartnersLemmas.{union_grows, made_fault}
 use Rattle.blz_set.proofs.Unions.{handed_on}
-use Rattle.blz_set.specs.Code.Growth.{Grows}
+use Rattle.blz_set.specs.Growth.{Grows}
 use Rattle.bloom_growth.proofs.partners.add_rows.Goals as goal
 
 pub returns-in_err-more : goal.returns-in_err-more

@@ -2,11 +2,11 @@ use Rattle.std.proofs.Common.{◌∙◌, ◌+◌, ◌++◌, List, Err, sym, ap, 
 use Rattle.blz_value.specs.Operators.{joined}
 use Rattle.blz_value.specs.Record.{Row}
 use Rattle.blz_value.specs.Sets.{set_of}
-use Rattle.blz_set.specs.Code.Growth.{Grows}
+use Rattle.blz_set.specs.Growth.{Grows}
 use Rattle.blz_set.proofs.Unions.{handed_on}
 use Rattle.std.proofs.lemmas.List.{take_all}
 use Rattle.bloom_growth.specs.Code.Joins.{turned, turned_rows}
-use Rattle.bloom_growth.specs.Code.ByKey.{rows_found}
+use Rattle.bloom_growth.specs.ByKey.{rows_found}
 use Rattle.bloom_growth.proofs.PartnersLemmas.{lefts_agree, flat_map_split, gathered_more, gathered_fault, grown_all}
 use Rattle.bloom_growth.proofs.partners.join_to_left.Goals as goal
 

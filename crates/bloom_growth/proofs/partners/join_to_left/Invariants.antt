@@ -3,9 +3,9 @@ use Rattle.std.proofs.Common.{◌≡◌, ◌++◌, List, take}
 use Rattle.bloom_growth.specs.Code.Joins.{turned_rows}
 use Rattle.blz_value.specs.Record.{Row}
 use Rattle.blz_value.specs.Sets.{set_of}
-use Rattle.blz_set.specs.Code.Pairs.{lefts_of}
+use Rattle.blz_set.specs.Pairs.{lefts_of}
 use Rattle.blz_set.specs.RecordSet.{IsRecordSet}
-use Rattle.bloom_growth.specs.Code.ByKey.{AreByKey}
+use Rattle.bloom_growth.specs.ByKey.{AreByKey}
 use Rattle.bloom_growth.proofs.partners.join_to_left.Given as goal
 
 abbrev pub invariant-loop-right : goal.invariant-loop-right

@@ -2,10 +2,10 @@ use Rattle.std.proofs.Common.{◌∙◌, ◌+◌, ◌++◌, List, Err, sym, ap, 
 use Rattle.blz_value.specs.Operators.{agree, joined, join_rows}
 use Rattle.blz_value.specs.Record.{Row}
 use Rattle.blz_value.specs.Sets.{set_of}
-use Rattle.blz_set.specs.Code.Growth.{Grows}
+use Rattle.blz_set.specs.Growth.{Grows}
 use Rattle.blz_set.proofs.Unions.{handed_on}
 use Rattle.std.proofs.lemmas.List.{take_all}
-use Rattle.bloom_growth.specs.Code.ByKey.{rows_found}
+use Rattle.bloom_growth.specs.ByKey.{rows_found}
 use Rattle.bloom_growth.proofs.PartnersLemmas.{rights_agree, flat_map_split, gathered_more, gathered_fault, grown_all}
 use Rattle.bloom_growth.proofs.partners.join_to_right.Goals as goal
 

@@ -3,9 +3,9 @@ use Rattle.std.proofs.Common.{◌≡◌, ◌++◌, List, take}
 use Rattle.blz_value.specs.Operators.{join_rows}
 use Rattle.blz_value.specs.Record.{Row}
 use Rattle.blz_value.specs.Sets.{set_of}
-use Rattle.blz_set.specs.Code.Pairs.{rights_of}
+use Rattle.blz_set.specs.Pairs.{rights_of}
 use Rattle.blz_set.specs.RecordSet.{IsRecordSet}
-use Rattle.bloom_growth.specs.Code.ByKey.{AreByKey}
+use Rattle.bloom_growth.specs.ByKey.{AreByKey}
 use Rattle.bloom_growth.proofs.partners.join_to_right.Given as goal
 
 abbrev pub invariant-loop-left : goal.invariant-loop-left

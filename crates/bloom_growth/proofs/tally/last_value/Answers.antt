@@ -2,7 +2,7 @@ use Rattle.std.proofs.Common.{◌≡◌, List, sym, ap}
 use Rattle.blz_value.specs.declared.value.Value.{Value}
 use Rattle.blz_value.specs.Groups.{greatest}
 use Rattle.blz_value.specs.Value.{value_cmp}
-use Rattle.bloom_growth.specs.Code.Counts.{AreCounted}
+use Rattle.bloom_growth.specs.Counts.{AreCounted}
 use Rattle.bloom_growth.proofs.CountsLemmas.{not_some}
 use Rattle.bloom_growth.proofs.TalliesLemmas.{on_copy, last_greatest, no_values}
 use Rattle.bloom_growth.proofs.tally.last_value.Goals as goal

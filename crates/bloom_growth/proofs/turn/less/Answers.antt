@@ -4,7 +4,7 @@ use Rattle.blz_value.specs.Record.{Row}
 use Rattle.blz_value.specs.Sets.{set_of}
 use Rattle.blz_value.proofs.RowSets.{set_of-sorted}
 use Rattle.blz_set.specs.Answers.{Gives}
-use Rattle.blz_set.specs.Code.Missing.{has_row, missing_from}
+use Rattle.blz_set.specs.Missing.{has_row, missing_from}
 use Rattle.blz_set.proofs.RecordSets.{filter_step, has_row-from_Has, has_row-from_lacks}
 use Rattle.bloom_growth.proofs.GrowSets.{missing_sorted}
 use Rattle.bloom_growth.proofs.turn.less.Goals as goal

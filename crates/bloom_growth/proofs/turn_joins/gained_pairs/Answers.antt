@@ -3,8 +3,8 @@ use Rattle.std.specs.Prelude.{Err}
 use Rattle.blz_value.specs.Operators.{join_rows}
 use Rattle.blz_value.specs.Record.{Row}
 use Rattle.blz_value.specs.Sets.{set_of}
-use Rattle.blz_set.specs.Code.Growth.{Grows}
-use Rattle.blz_set.specs.Code.Pairs.{lefts_of}
+use Rattle.blz_set.specs.Growth.{Grows}
+use Rattle.blz_set.specs.Pairs.{lefts_of}
 use Rattle.blz_set.proofs.Unions.{handed_on}
 use Rattle.bloom_growth.specs.Code.Joins.{MakesFresh}
 use Rattle.bloom_growth.proofs.FreshJoins.{first_fault, second_fault}

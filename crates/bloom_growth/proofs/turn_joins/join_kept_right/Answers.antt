@@ -2,8 +2,8 @@ use Rattle.std.proofs.Common.{List, Ok, refl, subst}
 use Rattle.blz_value.specs.Operators.{join_rows}
 use Rattle.blz_value.specs.Record.{Row}
 use Rattle.blz_value.specs.Sets.{set_of}
-use Rattle.blz_set.specs.Code.Growth.{Grows}
-use Rattle.blz_set.specs.Code.Pairs.{rights_of}
+use Rattle.blz_set.specs.Growth.{Grows}
+use Rattle.blz_set.specs.Pairs.{rights_of}
 use Rattle.bloom_growth.proofs.FreshJoins.{gives_made}
 use Rattle.bloom_growth.proofs.turn_joins.join_kept_right.Goals as goal
 

@@ -3,9 +3,9 @@ use Rattle.std.specs.Prelude.{Err}
 use Rattle.blz_value.specs.Operators.{join_rows}
 use Rattle.blz_value.specs.Record.{Row}
 use Rattle.blz_value.specs.Sets.{set_of}
-use Rattle.blz_set.specs.Code.Growth.{Grows}
-use Rattle.blz_set.specs.Code.Missing.{missing_from}
-use Rattle.blz_set.specs.Code.Pairs.{rights_of}
+use Rattle.blz_set.specs.Growth.{Grows}
+use Rattle.blz_set.specs.Missing.{missing_from}
+use Rattle.blz_set.specs.Pairs.{rights_of}
 use Rattle.blz_set.proofs.Unions.{handed_on}
 use Rattle.bloom_growth.specs.Code.Joins.{turned_rows, MakesLost}
 use Rattle.bloom_growth.proofs.TurnedLemmas.{went}

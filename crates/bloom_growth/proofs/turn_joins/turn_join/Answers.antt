@@ -1,8 +1,8 @@
 use Rattle.std.proofs.Common.{sym, subst, arith}
 use Rattle.blz_value.specs.Operators.{join_rows}
 use Rattle.blz_value.specs.Sets.{set_of}
-use Rattle.blz_set.specs.Code.Missing.{missing_from}
-use Rattle.blz_set.specs.Code.Pairs.{lefts_of, rights_of}
+use Rattle.blz_set.specs.Missing.{missing_from}
+use Rattle.blz_set.specs.Pairs.{lefts_of, rights_of}
 use Rattle.blz_set.proofs.Unions.{handed_on}
 use Rattle.bloom_growth.specs.Turned.{TurnsInto}
 use Rattle.bloom_growth.proofs.TurnJoins.{grows_on, joined_turned, counted_turn, lost_fault, gained_fault}

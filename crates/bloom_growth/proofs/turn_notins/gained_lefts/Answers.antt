@@ -3,8 +3,8 @@ use Rattle.blz_value.specs.Operators.{notin_rows}
 use Rattle.blz_value.specs.Record.{Row}
 use Rattle.blz_value.specs.Sets.{set_of, IsRowSet}
 use Rattle.blz_set.specs.Answers.{Gives}
-use Rattle.blz_set.specs.Code.Pairs.{lefts_of}
-use Rattle.bloom_growth.specs.Code.ByKey.{AreByKey}
+use Rattle.blz_set.specs.Pairs.{lefts_of}
+use Rattle.bloom_growth.specs.ByKey.{AreByKey}
 use Rattle.bloom_growth.specs.Code.NotIns.{free_rows, freed_rows}
 use Rattle.bloom_growth.proofs.TurnNotIns.{free_is, always}
 use Rattle.bloom_growth.proofs.turn_notins.gained_lefts.Goals as goal

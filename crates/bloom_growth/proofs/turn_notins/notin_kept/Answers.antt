@@ -3,7 +3,7 @@ use Rattle.blz_value.specs.Operators.{notin_rows}
 use Rattle.blz_value.specs.Record.{Row}
 use Rattle.blz_value.specs.Sets.{set_of}
 use Rattle.blz_set.specs.Answers.{Gives}
-use Rattle.blz_set.specs.Code.Pairs.{rights_of}
+use Rattle.blz_set.specs.Pairs.{rights_of}
 use Rattle.bloom_growth.proofs.turn_notins.notin_kept.Goals as goal
 
 pub returns-clause-rows : goal.returns-clause-rows

@@ -4,7 +4,7 @@ use Rattle.std.specs.List.{list_any}
 use Rattle.blz_value.specs.Record.{Row}
 use Rattle.blz_value.specs.Operators.{agree, notin_rows}
 use Rattle.blz_set.proofs.RecordSets.{filter_step}
-use Rattle.bloom_growth.specs.Code.ByKey.{rows_found}
+use Rattle.bloom_growth.specs.ByKey.{rows_found}
 use Rattle.bloom_growth.proofs.PartnersLemmas.{rights_agree, none_found, some_found}
 use Rattle.bloom_growth.proofs.TurnNotIns.{none_there, some_there}
 use Rattle.bloom_growth.proofs.turn_notins.push_unmatched.Goals as goal

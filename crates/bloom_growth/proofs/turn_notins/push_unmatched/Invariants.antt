@@ -2,8 +2,8 @@
 use Rattle.std.proofs.Common.{◌≡◌, ◌++◌, List, take}
 use Rattle.blz_value.specs.Operators.{notin_rows}
 use Rattle.blz_value.specs.Record.{Row}
-use Rattle.blz_set.specs.Code.Pairs.{rights_of}
-use Rattle.bloom_growth.specs.Code.ByKey.{AreByKey}
+use Rattle.blz_set.specs.Pairs.{rights_of}
+use Rattle.bloom_growth.specs.ByKey.{AreByKey}
 use Rattle.bloom_growth.proofs.turn_notins.push_unmatched.Given as goal
 
 abbrev pub invariant-loop-left : goal.invariant-loop-left

@@ -2,10 +2,10 @@ use Rattle.std.proofs.Common.{◌≡◌, ◌∙◌, List, ap, sym, subst}
 use Rattle.blz_value.specs.Operators.{notin_rows}
 use Rattle.blz_value.specs.Record.{Row}
 use Rattle.blz_value.specs.Sets.{set_of, IsRowSet}
-use Rattle.blz_set.specs.Code.Missing.{missing_from}
-use Rattle.blz_set.specs.Code.Pairs.{lefts_of, rights_of}
+use Rattle.blz_set.specs.Missing.{missing_from}
+use Rattle.blz_set.specs.Pairs.{lefts_of, rights_of}
 use Rattle.blz_set.proofs.Unions.{handed_on}
-use Rattle.bloom_growth.specs.Code.ByKey.{AreByKey}
+use Rattle.bloom_growth.specs.ByKey.{AreByKey}
 use Rattle.bloom_growth.specs.KeptForms.{keyed_kept}
 use Rattle.bloom_growth.specs.Turned.{TurnsInto}
 use Rattle.bloom_growth.proofs.GrowSets.{missing_sorted}

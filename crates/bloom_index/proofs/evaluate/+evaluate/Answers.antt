@@ -5,7 +5,7 @@ use Rattle.blz_value.proofs.Membership.{Has-append_left, Has-append_right}
 use Rattle.blz_set.specs.RecordSet.{row_limit}
 use Rattle.bloom_forms.specs.Step.{set_at}
 use Rattle.bloom_forms.specs.declared.numbered.NumberedExpr as expr
-use Rattle.bloom_eval.specs.Code.NumberedRows.{numbered_rows, numbered_sets}
+use Rattle.bloom_eval.specs.NumberedRows.{numbered_rows, numbered_sets}
 use Rattle.bloom_index.specs.Code.Lasting.{lasts_at}
 use Rattle.bloom_index.proofs.Evaluating.{moved, transport, refused, all_turned, all_lost, base_stands}
 use Rattle.bloom_index.proofs.OperatorAnswers.{select_part, project_part, group_part, at_least_part, join_left, join_right, notin_left, notin_right, select_answered, project_answered, group_answered, at_least_answered, one_kept, join_answered, notin_answered}

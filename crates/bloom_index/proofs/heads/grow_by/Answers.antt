@@ -1,5 +1,5 @@
 use Rattle.std.proofs.Common.{◌∙◌, refl, sym}
-use Rattle.bloom_eval.specs.Code.NumberedRows.{numbered_rows}
+use Rattle.bloom_eval.specs.NumberedRows.{numbered_rows}
 use Rattle.bloom_parts.specs.Turns.{rows_in}
 use Rattle.bloom_index.proofs.HeadsLemmas.{gets_all, head_refused, head_over, head_put}
 use Rattle.bloom_index.proofs.heads.grow_by.Goals as goal

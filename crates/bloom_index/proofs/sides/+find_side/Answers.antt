@@ -1,7 +1,7 @@
 use Rattle.std.proofs.Common.{◌++◌, ℕ, Bor, refl, sym, subst}
 use Rattle.std.specs.declared.ops.ControlFlow.{ControlFlow}
 use Rattle.std.specs.declared.ops.ControlFlow.TheVariants.{Continue, Break}
-use Rattle.blz_set.specs.Code.Pairs.{lefts_of, rights_of}
+use Rattle.blz_set.specs.Pairs.{lefts_of, rights_of}
 use Rattle.bloom_growth.specs.declared.side.Side.{Side}
 use Rattle.bloom_index.specs.Code.Memos.{part_kept}
 use Rattle.bloom_index.specs.Code.SideParts.{grown_side, numbered_sides, IsKept, Finds}

@@ -2,7 +2,7 @@ use Rattle.std.proofs.Common.{◌≡◌, ◌∙◌, [], false, length, sym, ap, 
 use Rattle.std.proofs.lemmas.List.{get_or_read}
 use Rattle.blz_set.specs.RecordSet.{IsRecordSet}
 use Rattle.bloom_forms.specs.declared.module.Kind.TheVariants.{Input}
-use Rattle.bloom_eval.specs.Code.Begin.{place_after}
+use Rattle.bloom_eval.specs.Begin.{place_after}
 use Rattle.bloom_eval.proofs.Beginning.{place_more, place_within, place_after-le}
 use Rattle.bloom_index.specs.Code.Arriving.{arrived_in}
 use Rattle.bloom_index.specs.Code.StepSets.{AreBegunAt}

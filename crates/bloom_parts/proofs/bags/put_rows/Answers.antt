@@ -3,7 +3,7 @@ use Rattle.blz_value.specs.Record.{Row}
 use Rattle.blz_value.specs.Sets.{set_of}
 use Rattle.blz_set.proofs.Unions.{handed_on}
 use Rattle.bloom_growth.specs.Bags.{IsBag, BecomesBag, entered_rows}
-use Rattle.bloom_growth.specs.Code.Counts.{most_given}
+use Rattle.bloom_growth.specs.Counts.{most_given}
 use Rattle.bloom_growth.specs.Growth.{Extends}
 use Rattle.bloom_growth.proofs.BagRows.{alike_bag, alike_rows}
 use Rattle.bloom_parts.proofs.BodiesLemmas.{alike_next, put_fault, rows_to, rows_all}

@@ -3,7 +3,7 @@ use Rattle.std.proofs.Common.{◌≡◌, ◌<◌, ◌++◌, List, length, take}
 use Rattle.blz_value.specs.Record.{Row}
 use Rattle.blz_value.specs.Sets.{set_of}
 use Rattle.bloom_growth.specs.Bags.{IsBag, left_rows, entered_rows}
-use Rattle.bloom_growth.specs.Code.Counts.{most_given}
+use Rattle.bloom_growth.specs.Counts.{most_given}
 use Rattle.bloom_growth.specs.Growth.{Extends}
 use Rattle.bloom_parts.proofs.bags.put_rows.Given as goal
 

@@ -7,7 +7,7 @@ use Rattle.blz_value.proofs.RowSets.{set_of-sorted}
 use Rattle.blz_set.specs.RecordSet.{row_limit}
 use Rattle.blz_set.specs.declared.entry.Entry.{Entry}
 use Rattle.blz_set.specs.Code.Entry.{row_of, rows_of}
-use Rattle.blz_set.specs.Code.Growth.{Grows}
+use Rattle.blz_set.specs.Growth.{Grows}
 use Rattle.blz_set.proofs.Unions.{handed_on}
 use Rattle.blz_set.proofs.Joins.{joined_more, joined_split, grown_once, too_many_grown, grows_from_insert}
 use Rattle.blz_set.proofs.join.add_joined.Goals as goal

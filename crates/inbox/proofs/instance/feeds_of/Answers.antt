@@ -3,7 +3,7 @@ use Rattle.std.specs.List.{flat_map}
 use Rattle.topo_forms.specs.Feeds.{feeds_from}
 use Rattle.blz_value.specs.NumberSets.{below}
 use Rattle.topo_forms.specs.View.{component_at, streams_to}
-use Rattle.inbox.specs.Code.Senders.{senders_for}
+use Rattle.inbox.specs.Senders.{senders_for}
 use Rattle.inbox.proofs.SendersLemmas.{feeds_sent}
 use Rattle.inbox.proofs.instance.feeds_of.Goals as goal
 

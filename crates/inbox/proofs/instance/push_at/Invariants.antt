@@ -4,7 +4,7 @@ use Rattle.std.specs.List.{flat_map}
 use Rattle.topo_forms.specs.Feeds.{feeds_from}
 use Rattle.blz_value.specs.NumberSets.{below}
 use Rattle.topo_forms.specs.View.{goes_to}
-use Rattle.inbox.specs.Code.Senders.{senders_for}
+use Rattle.inbox.specs.Senders.{senders_for}
 use Rattle.inbox.proofs.instance.push_at.Given as goal
 
 abbrev pub invariant-loop-stream : goal.invariant-loop-stream

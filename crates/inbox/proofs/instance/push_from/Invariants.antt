@@ -2,7 +2,7 @@
 use Rattle.std.proofs.Common.{◌≡◌, ◌++◌, filter}
 use Rattle.topo_forms.specs.Feeds.{feeds_from}
 use Rattle.blz_value.specs.NumberSets.{below}
-use Rattle.inbox.specs.Code.Senders.{is_sender}
+use Rattle.inbox.specs.Senders.{is_sender}
 use Rattle.inbox.proofs.instance.push_from.Given as goal
 
 abbrev pub invariant-loop-sender : goal.invariant-loop-sender

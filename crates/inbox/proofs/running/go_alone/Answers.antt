@@ -6,7 +6,7 @@ use Rattle.messages.specs.Lists.{read_lists}
 use Rattle.messages.specs.declared.fault.EventFault.{EventFault}
 use Rattle.messages.proofs.FaultLemmas.{handed_on}
 use Rattle.inbox.specs.Timesteps.{one_by_one}
-use Rattle.inbox.specs.Code.Running.{HasMet}
+use Rattle.inbox.specs.Running.{HasMet}
 use Rattle.inbox.proofs.EntryTimesteps.{alone_given, alone_arrives, alone_gone, alone_met, alone_all}
 use Rattle.inbox.proofs.RunningLemmas.{gone_none}
 use Rattle.inbox.proofs.running.go_alone.Goals as goal

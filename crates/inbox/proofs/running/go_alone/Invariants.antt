@@ -1,7 +1,7 @@
 use Rattle.std.proofs.Common.{◌≡◌, take}
 use Rattle.blz_pool.specs.Entries.{entries_with_ids}
 use Rattle.inbox.specs.Timesteps.{one_by_one}
-use Rattle.inbox.specs.Code.Running.{HasGone}
+use Rattle.inbox.specs.Running.{HasGone}
 use Rattle.inbox.proofs.running.go_alone.Given as goal
 
 abbrev pub invariant-loop-entry : goal.invariant-loop-entry

@@ -7,8 +7,8 @@ use Rattle.std.specs.Prelude.{Result, IfErr}
 use Rattle.messages.specs.Lists.{read_lists}
 use Rattle.messages.specs.declared.fault.EventFault.{EventFault}
 use Rattle.messages.proofs.FaultLemmas.{handed_on}
-use Rattle.inbox.specs.Code.Running.{HasMet}
-use Rattle.inbox.specs.Code.Running.{HasGone}
+use Rattle.inbox.specs.Running.{HasMet}
+use Rattle.inbox.specs.Running.{HasGone}
 use Rattle.inbox.specs.SetOffs.{going_entries}
 use Rattle.inbox.specs.Timesteps.{one_timestep}
 use Rattle.inbox.proofs.RunningLemmas.{gone_none}

@@ -4,8 +4,8 @@ use Rattle.std.specs.Prelude.{Result, IfErr}
 use Rattle.messages.specs.Lists.{read_lists}
 use Rattle.messages.specs.declared.fault.EventFault.{EventFault}
 use Rattle.messages.proofs.FaultLemmas.{handed_on}
-use Rattle.inbox.specs.Code.Running.{HasMet}
-use Rattle.inbox.specs.Code.Running.{HasGone}
+use Rattle.inbox.specs.Running.{HasMet}
+use Rattle.inbox.specs.Running.{HasGone}
 use Rattle.inbox.specs.SetOffs.{released_read}
 use Rattle.inbox.proofs.RunningLemmas.{gone_none}
 use Rattle.inbox.proofs.EntryTimesteps.{together_given, together_arrives, together_met, rest_given, rest_arrive, rest_gone, rest_met}

@@ -5,7 +5,7 @@ use Rattle.std.specs.Prelude.{Result, IfErr}
 use Rattle.messages.specs.Lists.{read_lists}
 use Rattle.messages.specs.declared.fault.EventFault.{EventFault}
 use Rattle.messages.proofs.FaultLemmas.{handed_on}
-use Rattle.inbox.specs.Code.Running.{HasMet}
+use Rattle.inbox.specs.Running.{HasMet}
 use Rattle.inbox.specs.SetOffs.{going_entries, released_read}
 use Rattle.inbox.specs.Timesteps.{one_timestep}
 use Rattle.inbox.proofs.RunningLemmas.{met_soon}

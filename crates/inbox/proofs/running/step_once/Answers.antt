@@ -7,7 +7,7 @@ use Rattle.bloom_eval.specs.declared.fault.StepFault.{StepFault}
 use Rattle.messages.specs.Lists.{read_lists}
 use Rattle.messages.specs.declared.fault.EventFault.{EventFault}
 use Rattle.messages.proofs.FaultLemmas.{handed_on}
-use Rattle.inbox.specs.Code.Running.{HasMet}
+use Rattle.inbox.specs.Running.{HasMet}
 use Rattle.inbox.proofs.RunningLemmas.{gone_one, met_emitting}
 use Rattle.inbox.proofs.SteppedByIds.{called_given, called_arrives, put_from, stepped_changes, stepped_rows, stepped_tables}
 use Rattle.inbox.proofs.running.step_once.Goals as goal

@@ -3,7 +3,7 @@ use Rattle.std.proofs.Common.{◌≡◌, ◌≤◌, ◌*◌, ◌++◌, length, t
 use Rattle.std.specs.List.{sum_by}
 use Rattle.topo_forms.specs.DataCounts.{count_of}
 use Rattle.messages.specs.Lists.{IsExact, read_lists, total}
-use Rattle.inbox.specs.Code.Sources.{SourcesEmitted}
+use Rattle.inbox.specs.Sources.{SourcesEmitted}
 use Rattle.inbox.proofs.sources.first_lists.Given as goal
 
 abbrev pub invariant-loop-held : goal.invariant-loop-held

@@ -1,5 +1,5 @@
 use Rattle.std.proofs.Common.{◌∙◌, ap}
-use Rattle.sched_run.specs.Net.{execution_in}
+use Rattle.sched_net.specs.Net.{execution_in}
 use Rattle.report_print.specs.Code.Runs.{run_after}
 use Rattle.report_print.proofs.run_lines.run_text.Goals as goal
 

@@ -1,5 +1,5 @@
 use Rattle.std.proofs.Common.{◌∙◌, ap}
-use Rattle.sched_run.specs.Net.{execution_in}
+use Rattle.sched_net.specs.Net.{execution_in}
 use Rattle.report_print.specs.Code.Runs.{soak_after}
 use Rattle.report_print.proofs.soak_lines.soak_text.Goals as goal
 

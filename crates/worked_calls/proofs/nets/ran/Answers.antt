@@ -1,5 +1,5 @@
 use Rattle.std.proofs.Common.{ap, map, []}
-use Rattle.sched_run.specs.declared.step.Step.TheVariants as steps
+use Rattle.sched_net.specs.declared.step.Step.TheVariants as steps
 use Rattle.worked_calls.proofs.NetRuns.{still_runs}
 use Rattle.worked_calls.proofs.nets.ran.Goals as goal
 

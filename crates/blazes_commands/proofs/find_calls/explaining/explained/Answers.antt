@@ -1,6 +1,6 @@
 use Rattle.std.proofs.Common.{List, Result, Ok, Err, map, refl, subst}
 use Rattle.std.proofs.lemmas.List.Sorted.{IsPermutation-trans}
-use Rattle.sched_run.specs.ScheduleLines.{Line}
+use Rattle.sched_net.specs.ScheduleLines.{Line}
 use Rattle.topo_forms.specs.Data.{Data}
 use Rattle.blazes_words.specs.Requests.{why_shown}
 use Rattle.command_checks.specs.Ran.{RanAtOnce}

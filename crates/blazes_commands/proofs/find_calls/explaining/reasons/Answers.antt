@@ -1,6 +1,6 @@
 use Rattle.std.proofs.Common.{List, ◌∙◌, ap, subst, sym}
 use Rattle.std.specs.List.{AllPass}
-use Rattle.sched_run.specs.ScheduleLines.{Line}
+use Rattle.sched_net.specs.ScheduleLines.{Line}
 use Rattle.sched_text.specs.Text.{is_printable}
 use Rattle.command_checks.specs.Reply.{Answer}
 use Rattle.command_checks.specs.Script.{Bytes}

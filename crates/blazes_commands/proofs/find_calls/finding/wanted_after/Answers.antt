@@ -1,6 +1,6 @@
 use Rattle.std.proofs.Common.{ap, map, ◌∙◌}
-use Rattle.sched_run.specs.declared.step.Step.TheVariants as named
-use Rattle.sched_run.proofs.FirstLemmas.{applied_first, new_runs, runs_after}
+use Rattle.sched_net.specs.declared.step.Step.TheVariants as named
+use Rattle.sched_net.proofs.FirstLemmas.{applied_first, new_runs, runs_after}
 use Rattle.topo_forms.specs.Valid.{Validated}
 use Rattle.blazes_words.specs.Requests.{why_shown}
 use Rattle.blazes_commands.proofs.Runs.BenchLemmas.{same_kinds}

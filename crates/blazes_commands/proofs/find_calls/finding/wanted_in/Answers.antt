@@ -1,8 +1,8 @@
 use Rattle.std.proofs.Common.{◌∙◌, ◌<◌, Option, ap, refl, sym, subst}
 use Rattle.std.specs.Option.{option_copied}
 use Rattle.blz_value.specs.Record.{Row}
-use Rattle.sched_run.specs.Net.{BooksRun, execution_in}
-use Rattle.sched_run.specs.Reading.{IsRead}
+use Rattle.sched_net.specs.Net.{BooksRun, execution_in}
+use Rattle.sched_net.specs.Reading.{IsRead}
 use Rattle.topo_forms.specs.View.{View, stream_replicas}
 use Rattle.blazes_words.specs.Requests.{why_shown}
 use Rattle.command_checks.specs.Ran.{StopsAs}

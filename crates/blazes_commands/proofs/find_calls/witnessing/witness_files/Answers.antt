@@ -1,7 +1,7 @@
 -- A schedule stops the command, or both are run.
 use Rattle.std.proofs.Common.{List, map, subst}
 use Rattle.std.proofs.lemmas.List.Sorted.{IsPermutation-refl}
-use Rattle.sched_run.specs.ScheduleLines.{Line}
+use Rattle.sched_net.specs.ScheduleLines.{Line}
 use Rattle.blazes_words.specs.Requests.{witness_shown}
 use Rattle.command_checks.specs.Ends.{files_states, source}
 use Rattle.command_checks.specs.Script.{◌>>=◌}

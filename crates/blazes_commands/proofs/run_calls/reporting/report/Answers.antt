@@ -1,5 +1,5 @@
 use Rattle.std.proofs.Common.{subst}
-use Rattle.sched_run.specs.Net.{execution_in}
+use Rattle.sched_net.specs.Net.{execution_in}
 use Rattle.topo_forms.specs.View.{View}
 use Rattle.blazes_commands.specs.Runs.Contents.{TellsStatus}
 use Rattle.blazes_commands.proofs.Runs.ContentsLemmas.{order_replicas}

@@ -1,4 +1,4 @@
-use Rattle.sched_run.specs.Net.{execution_in}
+use Rattle.sched_net.specs.Net.{execution_in}
 use Rattle.blazes_commands.proofs.Runs.ContentsLemmas.{complete_status, left_status}
 use Rattle.blazes_commands.proofs.run_calls.reporting.status_of.Goals as goal
 

@@ -1,7 +1,7 @@
 -- Steps stop the run, or they are made.
 use Rattle.std.proofs.Common.{List, map, subst}
 use Rattle.std.proofs.lemmas.List.Sorted.{IsPermutation-refl}
-use Rattle.sched_run.specs.Steps.{StepLine}
+use Rattle.sched_net.specs.Steps.{StepLine}
 use Rattle.command_checks.specs.Ends.{files_states, source}
 use Rattle.blazes_commands.specs.Runs.Bench.{bench_states}
 use Rattle.blazes_commands.specs.Runs.Checks as check

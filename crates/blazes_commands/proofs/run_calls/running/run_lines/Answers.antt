@@ -1,8 +1,8 @@
 use Rattle.std.proofs.Common.{ap, map, ◌∙◌}
 use Rattle.topo_forms.specs.Valid.{Validated}
 use Rattle.inbox.specs.Executions.{first_execution}
-use Rattle.sched_run.specs.Steps.{after_lines}
-use Rattle.sched_run.proofs.FirstLemmas.{new_runs, runs_after}
+use Rattle.sched_net.specs.Steps.{after_lines}
+use Rattle.sched_net.proofs.FirstLemmas.{new_runs, runs_after}
 use Rattle.command_checks.specs.Script.{Script, ◌>>=◌}
 use Rattle.blazes_commands.specs.Runs.Bench.{bench_states}
 use Rattle.blazes_commands.specs.Runs.Checks as check

@@ -1,6 +1,6 @@
 use Rattle.std.proofs.Common.{◌≡◌, ◌<◌, not, true, false, [], ◌∷◌, List, length, take, ap, arith, rules, length-append}
 use Rattle.blz_value.specs.Record.{Row}
-use Rattle.blz_set.specs.Code.Missing.{has_row, missing_from}
+use Rattle.blz_set.specs.Missing.{has_row, missing_from}
 use Rattle.blz_set.proofs.RecordSets.{filter_step, has_row-from_Has, has_row-from_lacks}
 use Rattle.bloom_growth.proofs.bag.Bag.missing.Goals as goal
 use Rattle.bloom_growth.proofs.bag.Bag.missing.Goals.{then-not-contains, else-not-contains}

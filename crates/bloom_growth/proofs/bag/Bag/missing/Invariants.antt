@@ -1,7 +1,7 @@
 -- the number of those so far that aren't given
 use Rattle.std.proofs.Common.{◌≡◌, ◌≤◌, List, length, take}
 use Rattle.blz_value.specs.Record.{Row}
-use Rattle.blz_set.specs.Code.Missing.{missing_from}
+use Rattle.blz_set.specs.Missing.{missing_from}
 use Rattle.bloom_growth.specs.Bags.{IsBag}
 use Rattle.bloom_growth.proofs.bag.Bag.missing.Given as goal
 

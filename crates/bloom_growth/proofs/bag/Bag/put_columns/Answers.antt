@@ -5,7 +5,7 @@ use Rattle.blz_value.specs.Record.{Row}
 use Rattle.blz_value.specs.Sets.{set_of}
 use Rattle.blz_set.proofs.Unions.{handed_on}
 use Rattle.bloom_growth.specs.Bags.{IsBag, BecomesBag, entered_rows}
-use Rattle.bloom_growth.specs.Code.Counts.{most_given}
+use Rattle.bloom_growth.specs.Counts.{most_given}
 use Rattle.bloom_growth.specs.Growth.{Extends}
 use Rattle.bloom_growth.proofs.BagRows.{alike_bag, alike_rows, columns_to, put_fault}
 use Rattle.bloom_growth.proofs.bag.Bag.put_columns.Goals as goal

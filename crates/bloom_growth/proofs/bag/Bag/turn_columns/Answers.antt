@@ -4,7 +4,7 @@ use Rattle.blz_value.specs.Record.{Row}
 use Rattle.blz_value.specs.Sets.{set_of}
 use Rattle.blz_value.proofs.SetLaws.{sorted_set_of}
 use Rattle.blz_set.proofs.Unions.{handed_on}
-use Rattle.blz_set.specs.Code.Missing.{missing_from}
+use Rattle.blz_set.specs.Missing.{missing_from}
 use Rattle.bloom_growth.specs.Bags.{entered_rows, left_rows}
 use Rattle.bloom_growth.specs.Growth.{Extends}
 use Rattle.bloom_growth.specs.Turned.{TurnsInto}

@@ -1,7 +1,7 @@
 use Rattle.std.proofs.Common.{◌∙◌, true, IsTrue, List, rules, ap, sym, subst}
 use Rattle.blz_value.specs.Record.{Row}
-use Rattle.blz_set.specs.Code.Missing.{missing_from}
-use Rattle.bloom_growth.specs.Code.ByKey.{AreByKey}
+use Rattle.blz_set.specs.Missing.{missing_from}
+use Rattle.bloom_growth.specs.ByKey.{AreByKey}
 use Rattle.bloom_growth.proofs.KeyedLemmas.{less_none}
 use Rattle.bloom_growth.proofs.by_key.SideRowsByKey.shrink.Goals as goal
 

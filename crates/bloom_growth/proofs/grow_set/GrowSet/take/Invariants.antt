@@ -1,7 +1,7 @@
 -- the rows so far were taken
 use Rattle.std.proofs.Common.{◌≡◌, ◌≤◌, ◌++◌, length, take}
 use Rattle.blz_value.specs.Sets.{set_of}
-use Rattle.blz_set.specs.Code.Missing.{missing_from}
+use Rattle.blz_set.specs.Missing.{missing_from}
 use Rattle.blz_set.specs.RecordSet.{row_limit}
 use Rattle.bloom_growth.proofs.grow_set.GrowSet.take.Given as goal
 

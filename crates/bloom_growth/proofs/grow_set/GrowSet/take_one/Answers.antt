@@ -4,7 +4,7 @@ use Rattle.std.proofs.lemmas.Bool.{true≢false}
 use Rattle.indexmap.specs.IndexSet.{insert_key}
 use Rattle.blz_value.specs.Record.{Row, record_cmp}
 use Rattle.blz_value.specs.Sets.{set_of}
-use Rattle.blz_set.specs.Code.Missing.{has_row}
+use Rattle.blz_set.specs.Missing.{has_row}
 use Rattle.blz_set.specs.RecordSet.{row_limit}
 use Rattle.bloom_growth.specs.Growth.{IsRowOrder, TakesRow}
 use Rattle.bloom_growth.proofs.GrowOne.{has_same, puts, row_over}

@@ -4,7 +4,7 @@ use Rattle.std.specs.Map.{lookup}
 use Rattle.blz_value.specs.Operators.{cells}
 use Rattle.blz_value.specs.Record.{Row, record_cmp}
 use Rattle.blz_value.specs.Sets.{set_of}
-use Rattle.bloom_growth.specs.Code.ByKey.{rows_found, AddsAt}
+use Rattle.bloom_growth.specs.ByKey.{rows_found, AddsAt}
 use Rattle.bloom_growth.proofs.KeyedLemmas.{keyed_put}
 use Rattle.bloom_growth.proofs.SidesLemmas.{side_added}
 use Rattle.bloom_growth.proofs.keyed.KeyedRows.add.Goals as goal

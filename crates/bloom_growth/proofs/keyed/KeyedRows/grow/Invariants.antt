@@ -2,7 +2,7 @@
 use Rattle.std.proofs.Common.{◌≡◌, ◌++◌, List, take}
 use Rattle.blz_value.specs.Record.{Row}
 use Rattle.blz_value.specs.Sets.{set_of, IsRowSet}
-use Rattle.bloom_growth.specs.Code.ByKey.{AreByKey}
+use Rattle.bloom_growth.specs.ByKey.{AreByKey}
 use Rattle.bloom_growth.proofs.keyed.KeyedRows.grow.Given as goal
 
 abbrev pub invariant-loop-row : goal.invariant-loop-row

@@ -1,8 +1,8 @@
 use Rattle.std.proofs.Common.{◌∙◌, List, refl, sym, ap, subst, arith}
 use Rattle.std.proofs.lemmas.List.{take_all}
 use Rattle.blz_value.specs.Record.{Row}
-use Rattle.blz_set.specs.Code.Missing.{missing_from}
-use Rattle.bloom_growth.specs.Code.ByKey.{AreByKey}
+use Rattle.blz_set.specs.Missing.{missing_from}
+use Rattle.bloom_growth.specs.ByKey.{AreByKey}
 use Rattle.bloom_growth.proofs.KeyedLemmas.{keyed_at, less_none}
 use Rattle.bloom_growth.proofs.keyed.KeyedRows.shrink.Goals as goal
 

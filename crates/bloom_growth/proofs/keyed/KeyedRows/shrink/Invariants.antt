@@ -2,8 +2,8 @@
 use Rattle.std.proofs.Common.{◌≡◌, List, take}
 use Rattle.blz_value.specs.Record.{Row}
 use Rattle.blz_value.specs.Sets.{IsRowSet}
-use Rattle.blz_set.specs.Code.Missing.{missing_from}
-use Rattle.bloom_growth.specs.Code.ByKey.{AreByKey}
+use Rattle.blz_set.specs.Missing.{missing_from}
+use Rattle.bloom_growth.specs.ByKey.{AreByKey}
 use Rattle.bloom_growth.proofs.keyed.KeyedRows.shrink.Given as goal
 
 abbrev pub invariant-loop-row : goal.invariant-loop-row

@@ -1,7 +1,7 @@
 use Rattle.std.proofs.Common.{◌≡◌, ◌∙◌, ◌∷◌, [], ℕ, List, ap}
 use Rattle.blz_value.specs.Operators.{cells}
-use Rattle.blz_set.specs.Code.Missing.{missing_from}
-use Rattle.bloom_growth.specs.Code.ByKey.{rows_found}
+use Rattle.blz_set.specs.Missing.{missing_from}
+use Rattle.bloom_growth.specs.ByKey.{rows_found}
 use Rattle.bloom_growth.proofs.KeyedLemmas.{keyed_left}
 use Rattle.bloom_growth.proofs.keyed.KeyedRows.take.Goals as goal
 

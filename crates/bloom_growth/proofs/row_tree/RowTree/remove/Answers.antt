@@ -1,5 +1,5 @@
 use Rattle.std.proofs.Common.{◌∙◌, [], ◌∷◌, ap}
-use Rattle.blz_set.specs.Code.Missing.{missing_from}
+use Rattle.blz_set.specs.Missing.{missing_from}
 use Rattle.bloom_growth.proofs.KeyedLemmas.{tree_less}
 use Rattle.bloom_growth.proofs.row_tree.RowTree.remove.Goals as goal
 

@@ -2,7 +2,7 @@ use Rattle.std.proofs.Common.{◌≡◌, ◌∙◌, ◌∷◌, ℕ, Bool, true, 
 use Rattle.blz_value.specs.Operators.{cells}
 use Rattle.blz_value.specs.Sets.{set_of}
 use Rattle.blz_set.proofs.Unions.{handed_on}
-use Rattle.bloom_growth.specs.Code.ByKey.{AddsAt, MakesByKey}
+use Rattle.bloom_growth.specs.ByKey.{AddsAt, MakesByKey}
 use Rattle.bloom_growth.proofs.SidesLemmas.{side_added, side_first, side_over}
 use Rattle.bloom_growth.proofs.side.Side.add.Goals as goal
 

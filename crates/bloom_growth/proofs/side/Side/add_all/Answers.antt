@@ -4,7 +4,7 @@ use Rattle.blz_value.specs.Record.{Row}
 use Rattle.blz_value.specs.Sets.{set_of}
 use Rattle.blz_value.proofs.RowSets.{set_of-sorted}
 use Rattle.blz_set.proofs.Unions.{handed_on}
-use Rattle.bloom_growth.specs.Code.ByKey.{AreByKey, MakesByKey}
+use Rattle.bloom_growth.specs.ByKey.{AreByKey, MakesByKey}
 use Rattle.bloom_growth.proofs.SidesLemmas.{side_at, side_later}
 use Rattle.bloom_growth.proofs.side.Side.add_all.Goals as goal
 

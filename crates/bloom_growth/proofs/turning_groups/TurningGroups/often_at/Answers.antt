@@ -6,7 +6,7 @@ use Rattle.blz_value.specs.Operators.{project_rows}
 use Rattle.blz_value.specs.Record.{Row}
 use Rattle.blz_value.specs.Sets.{set_of}
 use Rattle.blz_set.specs.Answers.{Gives}
-use Rattle.blz_set.specs.Code.Missing.{has_row}
+use Rattle.blz_set.specs.Missing.{has_row}
 use Rattle.blz_set.proofs.RecordSets.{filter_step}
 use Rattle.bloom_growth.proofs.turning_groups.TurningGroups.often_at.Goals as goal
 use Rattle.bloom_growth.proofs.turning_groups.TurningGroups.often_at.Goals.{then-is_often+in_ok-copy+in_ok-push, else-is_often}

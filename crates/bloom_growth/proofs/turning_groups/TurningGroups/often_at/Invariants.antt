@@ -4,7 +4,7 @@ use Rattle.std.specs.Prelude.{nat_le, ◌&&◌}
 use Rattle.blz_value.specs.Groups.{with_key}
 use Rattle.blz_value.specs.Operators.{project_rows}
 use Rattle.blz_value.specs.Record.{Row}
-use Rattle.blz_set.specs.Code.Missing.{has_row}
+use Rattle.blz_set.specs.Missing.{has_row}
 use Rattle.bloom_growth.specs.TurningGroups.{AreTallied}
 use Rattle.bloom_growth.proofs.turning_groups.TurningGroups.often_at.Given as goal
 

@@ -3,7 +3,7 @@ use Rattle.std.proofs.lemmas.List.{append-nil, map-append}
 use Rattle.blz_value.specs.Groups.{with_key}
 use Rattle.blz_value.specs.Operators.{project_rows}
 use Rattle.blz_value.specs.Record.{Row}
-use Rattle.blz_set.specs.Code.Missing.{has_row}
+use Rattle.blz_set.specs.Missing.{has_row}
 use Rattle.blz_set.proofs.RecordSets.{filter_step}
 use Rattle.bloom_growth.specs.declared.tally.Tally.{Tally}
 use Rattle.bloom_growth.specs.Tallies.{IsTally}

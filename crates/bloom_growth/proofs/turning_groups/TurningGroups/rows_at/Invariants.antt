@@ -2,7 +2,7 @@
 use Rattle.std.proofs.Common.{◌≡◌, List, filter, map, take}
 use Rattle.blz_value.specs.Operators.{project_rows}
 use Rattle.blz_value.specs.Record.{Row}
-use Rattle.blz_set.specs.Code.Missing.{has_row}
+use Rattle.blz_set.specs.Missing.{has_row}
 use Rattle.bloom_growth.specs.Code.Aggregates.{grouped}
 use Rattle.bloom_growth.specs.TurningGroups.{AreTallied}
 use Rattle.bloom_growth.proofs.turning_groups.TurningGroups.rows_at.Given as goal

@@ -3,7 +3,7 @@ use Rattle.blz_value.specs.Groups.{group_rows}
 use Rattle.blz_value.specs.Operators.{project_rows}
 use Rattle.blz_value.specs.Record.{Row}
 use Rattle.blz_value.specs.Sets.{set_of}
-use Rattle.blz_set.specs.Code.Missing.{has_row}
+use Rattle.blz_set.specs.Missing.{has_row}
 use Rattle.blz_set.proofs.Unions.{handed_on}
 use Rattle.bloom_growth.specs.Code.Aggregates.{grouped}
 use Rattle.bloom_growth.specs.Turned.{TurnsInto}

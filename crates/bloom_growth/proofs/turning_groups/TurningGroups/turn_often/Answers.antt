@@ -4,7 +4,7 @@ use Rattle.blz_value.specs.Groups.{at_least_rows, with_key}
 use Rattle.blz_value.specs.Operators.{project_rows}
 use Rattle.blz_value.specs.Record.{Row}
 use Rattle.blz_value.specs.Sets.{set_of}
-use Rattle.blz_set.specs.Code.Missing.{has_row}
+use Rattle.blz_set.specs.Missing.{has_row}
 use Rattle.blz_set.proofs.Unions.{handed_on}
 use Rattle.bloom_growth.specs.Turned.{TurnsInto}
 use Rattle.bloom_growth.proofs.BagsLemmas.{turn_no_fault}

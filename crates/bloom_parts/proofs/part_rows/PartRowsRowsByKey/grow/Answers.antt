@@ -1,5 +1,5 @@
 use Rattle.std.proofs.Common.{sym, subst}
-use Rattle.bloom_growth.specs.Code.ByKey.{AreByKey}
+use Rattle.bloom_growth.specs.ByKey.{AreByKey}
 use Rattle.bloom_growth.specs.Kept.{IsGrownTo}
 use Rattle.bloom_parts.specs.declared.part_rows.PartRows.{PartRows}
 use Rattle.bloom_parts.specs.PartForms.{kept_of}

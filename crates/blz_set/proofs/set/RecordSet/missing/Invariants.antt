@@ -1,6 +1,6 @@
 -- the missing rows so far
 use Rattle.std.proofs.Common.{◌≡◌, take}
-use Rattle.blz_set.specs.Code.Missing.{missing_from}
+use Rattle.blz_set.specs.Missing.{missing_from}
 use Rattle.blz_set.specs.References.{shown}
 use Rattle.blz_set.proofs.set.RecordSet.missing.Given as goal
 

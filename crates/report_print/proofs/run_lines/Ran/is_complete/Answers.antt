@@ -1,6 +1,6 @@
 use Rattle.std.proofs.Common.{sym, subst}
-use Rattle.sched_run.specs.Net.{BooksRun}
-use Rattle.sched_run.specs.Reading.{IsRead, is_complete}
+use Rattle.sched_net.specs.Net.{BooksRun}
+use Rattle.sched_net.specs.Reading.{IsRead, is_complete}
 use Rattle.report_print.proofs.run_lines.Ran.is_complete.Goals as goal
 
 pub is_complete-requires : goal.is_complete-requires

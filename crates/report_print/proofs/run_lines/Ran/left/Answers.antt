@@ -1,8 +1,8 @@
 use Rattle.std.proofs.Common.{sym, subst}
 use Rattle.inbox.specs.Completeness.{left_count}
 use Rattle.inbox.specs.Wiring.{wiring_of}
-use Rattle.sched_run.specs.Net.{BooksRun}
-use Rattle.sched_run.specs.Reading.{IsRead}
+use Rattle.sched_net.specs.Net.{BooksRun}
+use Rattle.sched_net.specs.Reading.{IsRead}
 use Rattle.report_print.proofs.run_lines.Ran.left.Goals as goal
 
 pub left-requires : goal.left-requires

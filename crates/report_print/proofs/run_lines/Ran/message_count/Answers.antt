@@ -1,8 +1,8 @@
 use Rattle.std.proofs.Common.{sym, subst}
 use Rattle.inbox.specs.Wiring.{wiring_of}
 use Rattle.inbox.specs.Limits.{all_messages}
-use Rattle.sched_run.specs.Net.{BooksRun}
-use Rattle.sched_run.specs.Reading.{IsRead}
+use Rattle.sched_net.specs.Net.{BooksRun}
+use Rattle.sched_net.specs.Reading.{IsRead}
 use Rattle.report_print.proofs.run_lines.Ran.message_count.Goals as goal
 
 pub message_count-requires : goal.message_count-requires

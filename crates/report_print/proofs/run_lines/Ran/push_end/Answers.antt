@@ -1,7 +1,7 @@
 use Rattle.std.proofs.Common.{◌++◌, ◌∙◌, false, ap, sym}
 use Rattle.inbox.specs.Completeness.{left_count}
 use Rattle.inbox.specs.Wiring.{wiring_of}
-use Rattle.sched_run.specs.Net.{execution_in}
+use Rattle.sched_net.specs.Net.{execution_in}
 use Rattle.report_print.specs.RunText.{end_lines}
 use Rattle.report_print.proofs.run_lines.Ran.push_end.Goals as goal
 

@@ -4,8 +4,8 @@ use Rattle.std.specs.List.{flat_map}
 use Rattle.topo_forms.specs.View.{stream_numbers}
 use Rattle.inbox.specs.Completeness.{left_count}
 use Rattle.inbox.specs.Wiring.{wiring_of}
-use Rattle.sched_run.specs.Net.{execution_in}
-use Rattle.sched_run.specs.Reading.{is_complete}
+use Rattle.sched_net.specs.Net.{execution_in}
+use Rattle.sched_net.specs.Reading.{is_complete}
 use Rattle.report_print.specs.RunText.{end_lines}
 use Rattle.report_print.specs.SoakText.{stream_line, messages_line}
 use Rattle.report_print.proofs.run_lines.Ran.push_soak.Goals as goal

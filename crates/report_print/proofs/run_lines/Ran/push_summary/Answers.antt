@@ -1,7 +1,7 @@
 use Rattle.std.proofs.Common.{◌++◌, ◌∙◌, ap, map}
 use Rattle.blz_value.specs.NumberSets.{below}
 use Rattle.topo_forms.specs.View.{stream_replicas}
-use Rattle.sched_run.specs.Net.{execution_in}
+use Rattle.sched_net.specs.Net.{execution_in}
 use Rattle.report_lines.specs.Lines.{word_text}
 use Rattle.report_print.specs.SoakText.{count_word}
 use Rattle.report_lines.specs.Words.{line}

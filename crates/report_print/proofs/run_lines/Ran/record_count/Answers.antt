@@ -2,8 +2,8 @@ use Rattle.std.proofs.Common.{◌<◌, length, sym, subst}
 use Rattle.topo_forms.specs.View.{stream_replicas}
 use Rattle.inbox.specs.Executions.{contents}
 use Rattle.inbox.specs.Wiring.{wiring_of}
-use Rattle.sched_run.specs.Net.{BooksRun}
-use Rattle.sched_run.specs.Reading.{IsRead}
+use Rattle.sched_net.specs.Net.{BooksRun}
+use Rattle.sched_net.specs.Reading.{IsRead}
 use Rattle.report_print.proofs.run_lines.Ran.record_count.Goals as goal
 
 pub record_count-requires : goal.record_count-requires

@@ -4,8 +4,8 @@ use Rattle.blz_set.specs.References.{shown}
 use Rattle.topo_forms.specs.View.{stream_replicas}
 use Rattle.inbox.specs.Executions.{contents}
 use Rattle.inbox.specs.Wiring.{wiring_of}
-use Rattle.sched_run.specs.Net.{BooksRun}
-use Rattle.sched_run.specs.Reading.{IsRead}
+use Rattle.sched_net.specs.Net.{BooksRun}
+use Rattle.sched_net.specs.Reading.{IsRead}
 use Rattle.report_print.proofs.run_lines.Ran.sorted_rows.Goals as goal
 
 pub sorted_rows-requires : goal.sorted_rows-requires

@@ -2,9 +2,9 @@ use Rattle.std.proofs.Common.{◌≡◌, [], ap, map, subst}
 use Rattle.std.proofs.lemmas.Result.{IfOk-weaker}
 use Rattle.topo_forms.specs.Data.{Data}
 use Rattle.topo_forms.specs.Valid.{Validated}
-use Rattle.sched_run.specs.Net.{Stands}
-use Rattle.sched_run.specs.declared.step.Step.TheVariants as named
-use Rattle.sched_run.proofs.FirstLemmas.{runs_after}
+use Rattle.sched_net.specs.Net.{Stands}
+use Rattle.sched_net.specs.declared.step.Step.TheVariants as named
+use Rattle.sched_net.proofs.FirstLemmas.{runs_after}
 use Rattle.why_trace.specs.Code.Trials.{sought_of, is_yielded_by, TellsFound}
 use Rattle.why_trace.proofs.TrialLemmas.{found_yielded, kinds_back}
 use Rattle.why_trace.proofs.trial.Trial.is_yielded_by.Goals as goal

@@ -1,7 +1,0 @@
--- the replicas so far
-use Rattle.std.proofs.Common.{◌≡◌, ◌++◌, map}
-use Rattle.blz_value.specs.NumberSets.{below}
-use Rattle.sched_make.proofs.lanes.push_takers.Given as goal
-
-abbrev pub invariant-loop-replica : goal.invariant-loop-replica
-invariant-loop-replica l = l.into.items ≡ l.fn.into.items ++ map (λ replica. record { component = l.component; replica = replica }) (below l.replica)

@@ -1,6 +1,0 @@
--- the lanes so far stand where their messages come from
-use Rattle.sched_make.specs.Code.Watch.{AreReadersBelow}
-use Rattle.sched_make.proofs.tables.readers_of.Given as goal
-
-abbrev pub invariant-loop-place : goal.invariant-loop-place
-invariant-loop-place l = AreReadersBelow l.valid.view l.lanes l.place l.readers

@@ -1,7 +1,0 @@
--- the sizes of the takers so far
-use Rattle.std.proofs.Common.{take}
-use Rattle.sched_make.specs.Code.Works.{AreSizesWith}
-use Rattle.sched_make.proofs.works.push_takes.Given as goal
-
-abbrev pub invariant-loop-taker : goal.invariant-loop-taker
-invariant-loop-taker l = AreSizesWith l.valid.view l.books l.fn.sizes.items (take l.taker-index l.takers) l.sizes.items

@@ -1,6 +1,0 @@
--- the windows on the lanes so far
-use Rattle.sched_make.proofs.WorksLemmas.{WindowsBelow}
-use Rattle.sched_make.proofs.works.windows_of.Given as goal
-
-abbrev pub invariant-loop-lane : goal.invariant-loop-lane
-invariant-loop-lane l = WindowsBelow l.valid.view l.books l.lanes l.windows.items l.lane-index

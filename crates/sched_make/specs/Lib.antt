@@ -1,4 +1,0 @@
-pub mod Made
-pub mod Naming
-pub mod Making
-pub mod Code

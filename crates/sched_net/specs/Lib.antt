@@ -1,0 +1,16 @@
+pub mod Numbered
+pub mod Answers
+pub mod Shown
+pub mod Seated
+pub mod Net
+pub mod Seen
+pub mod Forgetting
+pub mod Closing
+pub mod Reading
+pub mod Tables
+pub mod Lent
+pub mod StepReading
+pub mod Steps
+pub mod ScheduleLines
+pub mod Taking
+pub mod Code

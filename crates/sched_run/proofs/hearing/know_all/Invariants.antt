@@ -1,6 +1,0 @@
-use Rattle.std.proofs.Common.{take}
-use Rattle.sched_run.specs.Code.Hearing.{KnowsMore}
-use Rattle.sched_run.proofs.hearing.know_all.Given as goal
-
-abbrev pub invariant-loop-index : goal.invariant-loop-index
-invariant-loop-index l = KnowsMore l.fn.known (take l.index-index l.indexes) l.known

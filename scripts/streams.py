@@ -50,6 +50,17 @@ def sides(component, side):
     return {"in": component["columns"]}
 
 
+def loose_ends(topology):
+    """The ports into which no stream leads, and the outputs that no stream takes, as the file would name them."""
+    components = {it["name"]: it for it in topology.get("component", [])}
+    fed = [it for table in topology.get("source", []) + topology.get("stream", []) for it in table.get("to", [])]
+    taken = [it["from"] for it in topology.get("stream", [])]
+    ports, outputs = (
+        [f"{name}.{it}" for name, component in components.items() for it in sides(component, side)] for side in ("input", "output")
+    )
+    return [it for it in ports if it not in fed], [it for it in outputs if it not in taken]
+
+
 # What goes from one sending replica of a stream to a port: `receiver` is a replica, or nothing where the
 # component has a log.
 Lane = namedtuple("Lane", "stream sender component port receiver")
@@ -76,6 +87,26 @@ class Wiring:
         """Whether a stream may send seals, for all that its own entry and that of its component say."""
         table = self.streams[stream]
         return bool(table.get("seal")) if self.is_source(stream) else "key" in self.components[table["from"].split(".")[0]]
+
+    def into(self, component):
+        """The streams into a component."""
+        return [it for it, table in self.streams.items() if any(to.split(".")[0] == component for to in table.get("to", []))]
+
+    def into_port(self, component, port):
+        return [it for it, table in self.streams.items() if f"{component}.{port}" in table.get("to", [])]
+
+    def out_of(self, component):
+        """The streams that a component sends."""
+        return [it for it, table in self.streams.items() if table.get("from", "").split(".")[0] == component]
+
+    def upstream(self, component):
+        """The streams from which a component can be reached."""
+        found, left = [], [component]
+        while left:
+            new = [it for it in self.into(left.pop()) if it not in found]
+            found += new
+            left += [self.streams[it]["from"].split(".")[0] for it in new if not self.is_source(it)]
+        return found
 
     def is_ordered(self, component):
         return self.components[component].get("mode") == "order"

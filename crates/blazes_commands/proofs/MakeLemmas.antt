@@ -6,7 +6,7 @@ use Rattle.inbox.specs.Events.{Event, event}
 use Rattle.inbox.specs.Executions.{Execution, execution_of_events}
 use Rattle.inbox.specs.Wiring.{wiring_of}
 use Rattle.inbox.proofs.Executions.Results.{Ok_same}
-use Rattle.sched_bench.specs.Bench.{fault_of_opening}
+use Rattle.sched_net.specs.Bench.{fault_of_opening}
 use Rattle.sched_run.specs.Made.{AnswersSo, LeavesNothing, execution_after, made_of}
 use Rattle.sched_run.specs.Making.{AnswersNumbered, HasMadeNumbered, LeavesNumbered, RunsFirst}
 use Rattle.sched_run.specs.Naming.{CanBeWritten}

@@ -5,7 +5,7 @@ use Rattle.bloom_forms.specs.declared.program.Program.{Program}
 use Rattle.bloom_forms.specs.Step.{Sets}
 use Rattle.inbox.specs.Executions.{Execution}
 use Rattle.inbox.specs.Events.{Event, event}
-use Rattle.sched_bench.specs.Bench.{fault_of_opening}
+use Rattle.sched_net.specs.Bench.{fault_of_opening}
 use Rattle.sched_run.specs.Making.{AnswersNumbered, LeavesNumbered}
 use Rattle.sched_net.specs.Net.{Stands, BooksRun}
 use Rattle.sched_net.specs.declared.books.Books.{Books}

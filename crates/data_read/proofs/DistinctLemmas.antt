@@ -5,8 +5,8 @@ use Rattle.std.proofs.lemmas.List.{append-nil}
 use Rattle.blz_value.specs.Record.{Row}
 use Rattle.indexmap.specs.IndexSet.{insert_key}
 use Rattle.topo_forms.specs.Messages.{is_same_row, distinct_rows}
-use Rattle.source_deps.specs.Broken.{same}
-use Rattle.source_deps.proofs.EarliestLemmas.{same-is, same-sym}
+use Rattle.data_read.specs.Broken.{same}
+use Rattle.data_read.proofs.EarliestLemmas.{same-is, same-sym}
 use Rattle.topo_forms.proofs.DistinctRows.{is_among, distinct_rows-more}
 
 -- ---- with one more inserted

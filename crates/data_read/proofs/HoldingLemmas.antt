@@ -8,9 +8,9 @@ use Rattle.topo_forms.specs.Data.{Data, SourceData, source_data, FitsSource, IsD
 use Rattle.topo_forms.specs.Messages.{distinct_rows}
 use Rattle.topo_forms.specs.Valid.{Validated}
 use Rattle.topo_forms.specs.View.{View, Stream, stream_at}
-use Rattle.source_deps.specs.declared.dependencies.BrokenFd.{BrokenFd}
-use Rattle.source_deps.specs.Broken.{first_broken}
-use Rattle.source_deps.proofs.BrokenLemmas.{unbroken_holds}
+use Rattle.data_read.specs.declared.dependencies.BrokenFd.{BrokenFd}
+use Rattle.data_read.specs.Broken.{first_broken}
+use Rattle.data_read.proofs.BrokenLemmas.{unbroken_holds}
 use Rattle.data_read.specs.Counting.{counted}
 use Rattle.data_read.specs.Form.{form_of}
 use Rattle.data_read.specs.Making.{distinct_lists, unbroken, upheld, data_from}

@@ -1,3 +1,9 @@
+pub mod Loops
+pub mod EarliestLemmas
+pub mod SidesLemmas
+pub mod PairLemmas
+pub mod BrokenLemmas
+pub mod ApartLemmas
 pub mod Front
 pub mod RowLemmas
 pub mod ListsLemmas

@@ -5,6 +5,7 @@ pub mod Keys
 pub mod Entry
 pub mod Form
 pub mod Counting
+pub mod Broken
 pub mod Making
 pub mod Reading
 pub mod Gives

@@ -2,8 +2,8 @@
 use Rattle.std.specs.Prelude.{List, map, Option, Some, None, Result, Ok, Err}
 use Rattle.std.specs.List.{zip}
 use Rattle.blz_value.specs.Record.{Row}
-use Rattle.source_deps.specs.declared.dependencies.BrokenFd.{BrokenFd}
-use Rattle.source_deps.specs.Broken.{first_broken}
+use Rattle.data_read.specs.declared.dependencies.BrokenFd.{BrokenFd}
+use Rattle.data_read.specs.Broken.{first_broken}
 use Rattle.topo_forms.specs.Data.{Data, SourceData}
 use Rattle.topo_forms.specs.Messages.{distinct_rows}
 use Rattle.topo_forms.specs.View.{View}

@@ -3,6 +3,7 @@
 #![tactic(auto)]
 
 mod counting;
+mod dependencies;
 mod distinct;
 mod entries;
 mod fault;

@@ -8,10 +8,10 @@ ghost use Rattle.topo_forms.specs.Data.{IsData, Holds};
 ghost use Rattle.topo_forms.specs.View.{source_count};
 
 use crate::counting::counted;
+use crate::dependencies::first_broken;
 use crate::distinct::all_distinct;
 use crate::fault::DataFault;
 use blz_value::Record;
-use source_deps::first_broken;
 use std::alloc::{AllocError, Global};
 use topo_forms::{Data, SourceLists, Valid};
 

@@ -3,8 +3,8 @@ ghost use Rattle.std.specs.Prelude.{◌≡◌, ◌<◌, IfOk, length, map};
 ghost use Rattle.data_read.specs.Shape as spec;
 ghost use Rattle.topo_forms.specs.View as view;
 
+use crate::dependencies::columns::{columns_of, places_of};
 use blz_value::{Attrs, Items, Str};
-use source_deps::{columns_of, places_of};
 use std::alloc::{AllocError, Global};
 use topo_forms::{ColumnType, Valid, carries};
 
@@ -49,7 +49,7 @@ fn types_at(
     Ok(Items::from_vec(types))
 }
 
-#[tactic(auto, using(source_deps::proofs::Loops::below_steps))]
+#[tactic(auto, using(crate::proofs::Loops::below_steps))]
 fn column_types(alloc: Global, valid: &Valid, source: u32) -> Result<Items<ColumnType>, AllocError>
     requires { source < length valid.now.view.streams }
     ensures { IfOk result (λ types. types ≡ spec.column_types valid.now source) }
@@ -102,7 +102,7 @@ fn shape_of(alloc: Global, valid: &Valid, source: u32) -> Result<Shape, AllocErr
 }
 
 /// The shapes of all sources, in file order.
-#[tactic(auto, using(source_deps::proofs::Loops::below_steps))]
+#[tactic(auto, using(crate::proofs::Loops::below_steps))]
 pub(crate) fn shapes_of(alloc: Global, valid: &Valid) -> Result<Vec<Shape>, AllocError>
     ensures { IfOk result (λ shapes. shapes.items ≡ spec.shapes_of valid.now) }
 {

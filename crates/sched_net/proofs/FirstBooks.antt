@@ -22,7 +22,7 @@ use Rattle.messages.specs.Log.{AreGiven}
 use Rattle.inbox.specs.Wiring.{wiring_of, instance_at}
 use Rattle.inbox.proofs.Executions.Standing.{first_seats, stands_first}
 use Rattle.inbox.proofs.WiringLemmas.{instance-wired}
-use Rattle.sched_bench.specs.Bench.{instance_components, first_without_body, fault_of_bodies, taken_by, left_by}
+use Rattle.sched_net.specs.Bench.{instance_components, first_without_body, fault_of_bodies, taken_by, left_by}
 use Rattle.messages.specs.Lists.{IsExact, read_lists, list_at}
 use Rattle.sched_net.specs.Net.{ShowLogs, Stands}
 use Rattle.inbox.specs.Places.{ArePlaces, instance_place, instance_count}
@@ -32,7 +32,7 @@ use Rattle.inbox.specs.Sources.{SourcesEmitted}
 use Rattle.sched_net.specs.declared.books.Books.{Books}
 use Rattle.inbox.proofs.PlacesLemmas.{place-before}
 use Rattle.sched_net.proofs.ShellsLemmas.{component_at_place, many_components}
-use Rattle.sched_bench.proofs.TakingLemmas.{all_have_bodies, all_taken}
+use Rattle.sched_net.proofs.TakingLemmas.{all_have_bodies, all_taken}
 
 -- ---- tables
 

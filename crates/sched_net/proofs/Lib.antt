@@ -1,3 +1,5 @@
+pub mod TakingLemmas
+pub mod BenchKinds
 pub mod OwnOutlets
 pub mod Totals
 pub mod Showing

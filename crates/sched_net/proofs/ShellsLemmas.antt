@@ -10,7 +10,7 @@ use Rattle.bloom_forms.specs.declared.program.Program.{Program}
 use Rattle.bloom_forms.specs.Step.{Sets}
 use Rattle.blz_value.specs.NumberSets.{below}
 use Rattle.topo_forms.specs.View.{View, program_of, replicas_of}
-use Rattle.sched_bench.specs.Bench.{instance_components}
+use Rattle.sched_net.specs.Bench.{instance_components}
 use Rattle.inbox.specs.Places.{places_before, instance_place, instance_count}
 use Rattle.inbox.proofs.PlacesLemmas.{below_more, before-more, place-before}
 

@@ -5,3 +5,4 @@ pub mod Hearing
 pub mod First
 pub mod Remaining
 pub mod Records
+pub mod Flags

@@ -1,3 +1,4 @@
+pub mod Bench
 pub mod Numbered
 pub mod Answers
 pub mod Shown

@@ -22,7 +22,7 @@ use Rattle.inbox.specs.Events.{Step, Event, event}
 use Rattle.sched_net.specs.Answers.{Answers}
 use Rattle.messages.specs.declared.fault.EventFault.{EventFault}
 use Rattle.messages.specs.declared.fault.EventFault.TheVariants.{NoInstance, NoMessage, NothingToTake, TooManyRows, TooManyMessages, NoMemory}
-use Rattle.sched_bench.specs.Bench.{instance_components}
+use Rattle.sched_net.specs.Bench.{instance_components}
 use Rattle.inbox.specs.Limits.{limit_of_event}
 use Rattle.messages.specs.Lists.{Listed, IsExact, read_lists, list_at}
 use Rattle.inbox.specs.Outlets.{outlets_for}

@@ -2,10 +2,10 @@
 ghost use Rattle.std.specs.Prelude.{◌≡◌, ◌++◌, true, map, OnOk, OnErr};
 ghost use Rattle.sched_net.specs.Closing.{AreLastTables};
 
+use crate::bench::put_back;
 use crate::fault::MakeFault;
 use crate::net::Net;
 use bloom_eval::Component;
-use sched_bench::put_back;
 use std::alloc::AllocError;
 
 impl Net<'_> {

@@ -3,6 +3,7 @@
 #![tactic(auto)]
 
 mod as_step;
+mod bench;
 mod books;
 mod closing;
 mod fault;
@@ -23,12 +24,11 @@ mod step_reading;
 
 pub use as_step::{AsStep, StepRef};
 pub use books::Books;
-pub use fault::{ForgetFault, MakeFault};
+pub use fault::{ForgetFault, MakeFault, OpenFault};
 pub use messages::EventFault;
 pub use net::Net;
 pub use numbered::{NumberedEvent, NumberedPart};
 pub use ordering::is_order;
 pub use running::{StepRefusal, run};
-pub use sched_bench::OpenFault;
 pub use seated::Ear;
 pub use step::Step;

@@ -2,19 +2,20 @@
 ghost use Rattle.std.specs.Prelude.{◌≡◌, ◌++◌, ℕ, [], Err, IfOk, OnOk, OnErr, map, replicate};
 ghost use Rattle.std.specs.List.Sorted.{IsPermutation};
 ghost use Rattle.topo_forms.specs.Data.{IsData};
-ghost use Rattle.sched_bench.specs.Bench.{fault_of_opening, OpensAs, fits_component, instance_components, taken_by, left_by};
+ghost use Rattle.sched_net.specs.Bench.{fault_of_opening, OpensAs, fits_component, instance_components, taken_by, left_by};
 ghost use Rattle.sched_net.specs.Code.First.{StandFirst};
 ghost use Rattle.sched_net.specs.Net.{Stands};
-ghost use Rattle.sched_bench.specs.declared.fault.OpenFault.TheVariants.{NoBody, NoShell};
+ghost use Rattle.sched_net.specs.declared.fault.OpenFault.TheVariants.{NoBody, NoShell};
 
+use crate::bench::open_shells;
 use crate::books::Books;
+use crate::fault::OpenFault;
 use crate::net::Net;
 use crate::numbered::Nearby;
 use crate::seating::first_seats;
 use bloom_eval::{Component, Puts};
 use inbox::{Places, first_lists};
 use messages::Log;
-use sched_bench::{OpenFault, open_shells};
 use std::alloc::{AllocError, Global};
 use topo_forms::{Data, Valid};
 

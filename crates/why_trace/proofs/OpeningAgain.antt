@@ -9,10 +9,10 @@ use Rattle.bloom_forms.specs.declared.program.Program.{Program}
 use Rattle.bloom_eval.specs.declared.kind.ProgramKind.{ProgramKind}
 use Rattle.bloom_eval.specs.Kind.{kind_of}
 use Rattle.topo_forms.specs.View.{View, program_of}
-use Rattle.sched_bench.specs.declared.fault.OpenFault.{OpenFault}
-use Rattle.sched_bench.specs.declared.fault.OpenFault.TheVariants.{NoBody, NoShell, NoMemory}
-use Rattle.sched_bench.proofs.BenchKinds.{opening_by_kinds}
-use Rattle.sched_bench.specs.Bench.{OpensAs, number_of_kind, fits_kind, fits_component, without_first, first_short, fault_of_bodies, fault_of_opening, first_without_body, instance_components}
+use Rattle.sched_net.specs.declared.fault.OpenFault.{OpenFault}
+use Rattle.sched_net.specs.declared.fault.OpenFault.TheVariants.{NoBody, NoShell, NoMemory}
+use Rattle.sched_net.proofs.BenchKinds.{opening_by_kinds}
+use Rattle.sched_net.specs.Bench.{OpensAs, number_of_kind, fits_kind, fits_component, without_first, first_short, fault_of_bodies, fault_of_opening, first_without_body, instance_components}
 
 -- ---- how many shells of a kind there are
 

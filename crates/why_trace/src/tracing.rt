@@ -3,7 +3,7 @@
 ghost use Rattle.std.specs.Prelude.{◌≡◌, ◌<◌, ℕ, IfOk, OnOk, None, length, map, nat_lt, true, false};
 ghost use Rattle.std.specs.List.{remove};
 ghost use Rattle.std.specs.List.Sorted.{IsPermutation};
-ghost use Rattle.sched_bench.specs.Bench.{fault_of_opening};
+ghost use Rattle.sched_net.specs.Bench.{fault_of_opening};
 ghost use Rattle.topo_forms.specs.Data.{IsData};
 ghost use Rattle.why_trace.specs.Passes.{without_needless, one_pass, trim_by, IsSublist};
 ghost use Rattle.why_trace.specs.Trim.{wanted, yields, trim};

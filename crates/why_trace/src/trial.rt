@@ -2,7 +2,7 @@
 ghost use Rattle.std.specs.Prelude.{◌≡◌, ◌≢◌, ◌++◌, [], IfOk, OnOk, None, false, map};
 ghost use Rattle.std.specs.List.Sorted.{IsPermutation};
 ghost use Rattle.messages.specs.declared.fault.EventFault.TheVariants as event_faults;
-ghost use Rattle.sched_bench.specs.Bench.{fault_of_opening};
+ghost use Rattle.sched_net.specs.Bench.{fault_of_opening};
 ghost use Rattle.sched_net.specs.Net.{BooksRun, Stands};
 ghost use Rattle.sched_net.specs.Reading.{IsRead};
 ghost use Rattle.topo_forms.specs.Data.{IsData};
@@ -12,8 +12,7 @@ ghost use Rattle.why_trace.specs.Code.Trials.{sought_of, is_yielded_by, TellsFou
 use bloom_eval::Component;
 use blz_value::Record;
 use messages::EventFault;
-use sched_bench::OpenFault;
-use sched_net::{Net, StepRefusal, run};
+use sched_net::{Net, OpenFault, StepRefusal, run};
 use sched_text::Event;
 use std::alloc::{AllocError, Global};
 use topo_forms::{Data, Valid};

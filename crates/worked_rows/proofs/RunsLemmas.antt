@@ -15,7 +15,7 @@ use Rattle.topo_forms.specs.Valid.{Validated}
 use Rattle.topo_forms.specs.View.{View, program_of, replicas_of}
 use Rattle.inbox.specs.Executions.{Execution}
 use Rattle.inbox.specs.Wiring.{instance_for}
-use Rattle.sched_bench.specs.Bench.{instance_components}
+use Rattle.sched_net.specs.Bench.{instance_components}
 use Rattle.sched_net.specs.Tables.{last_tables, tables_at}
 use Rattle.blazes_words.specs.Words.{Asked, RunFiles, request_of}
 use Rattle.command_checks.specs.Script.{Bytes, Script, Ending, ◌>>=◌}

@@ -77,7 +77,7 @@ fn run_files(alloc: Global, words: &[String]) -> Result<RunFiles<'_>>
 }
 
 // Whether a topology has one instance with one table.
-#[tactic(auto, using(sched_bench::proofs::TakingLemmas::stock_of))]
+#[tactic(auto, using(sched_net::proofs::TakingLemmas::stock_of))]
 fn has_one_table(valid: &Valid) -> bool
     ensures { result ≡ true → HasOneTable valid.now.view }
 {

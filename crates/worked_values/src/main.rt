@@ -10,6 +10,7 @@ mod lines;
 mod pools;
 mod records;
 mod sets;
+mod types;
 
 use crate::lines::Lines;
 use anyhow::{Result, bail};
@@ -50,6 +51,7 @@ fn show_real_sink(rt: &HostRuntime, lines: &mut Lines) -> Result<()> {
 }
 
 fn show_all(rt: &HostRuntime, lines: &mut Lines) -> Result<()> {
+    types::name_all();
     attributes::show(lines)?;
     records::show(lines)?;
     sets::show(lines)?;

@@ -13,7 +13,7 @@ use Rattle.inbox.specs.Executions.{Execution, first_execution}
 use Rattle.report_lines.specs.Refusals.{refusal_line}
 use Rattle.report_lines.specs.declared.refusal.Refusal.TheVariants as refusal
 use Rattle.report_lines.specs.declared.refusal.WhyKind.TheVariants as why_kinds
-use Rattle.sched_bench.specs.Bench.{fault_of_opening}
+use Rattle.sched_net.specs.Bench.{fault_of_opening}
 use Rattle.sched_net.specs.Net.{execution_in}
 use Rattle.sched_net.specs.declared.books.Books.{Books}
 use Rattle.sched_net.specs.ScheduleLines.{Line, steps_of}

@@ -10,8 +10,8 @@ use Rattle.inbox.specs.Events.{event, Refusal}
 use Rattle.inbox.specs.Executions.{Execution, after_event, after_step, execution_of, first_execution, result_and_then}
 use Rattle.inbox.specs.Wiring.{wiring_of}
 use Rattle.inbox.proofs.Executions.Results.{and_then_Ok}
-use Rattle.sched_bench.specs.Bench.{fault_of_opening}
-use Rattle.sched_bench.specs.declared.fault.OpenFault.{OpenFault}
+use Rattle.sched_net.specs.Bench.{fault_of_opening}
+use Rattle.sched_net.specs.declared.fault.OpenFault.{OpenFault}
 use Rattle.sched_net.specs.Numbered.{numbered}
 use Rattle.inbox.specs.Limits.{Limit, limit_of_event}
 use Rattle.sched_net.specs.ScheduleLines.{Line, steps_of}

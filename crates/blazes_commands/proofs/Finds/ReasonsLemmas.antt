@@ -16,7 +16,7 @@ use Rattle.inbox.specs.Executions.{Execution, contents, emitted_list, first_exec
 use Rattle.inbox.specs.Wiring.{wiring_of}
 use Rattle.inbox.proofs.TimestepLemmas.Entries.{Has-rows_in}
 use Rattle.messages.proofs.MessagesLemmas.{is_same_row-itself}
-use Rattle.sched_bench.specs.Bench.{fault_of_opening}
+use Rattle.sched_net.specs.Bench.{fault_of_opening}
 use Rattle.sched_net.specs.ScheduleLines.{Line}
 use Rattle.sched_net.specs.Steps.{after_lines}
 use Rattle.sched_net.specs.declared.step.Step.TheVariants as named

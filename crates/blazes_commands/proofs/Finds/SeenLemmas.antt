@@ -4,7 +4,7 @@ use Rattle.std.specs.Result.{IsErrAnd}
 use Rattle.bloom_forms.specs.declared.program.Program.{Program}
 use Rattle.bloom_forms.specs.Step.{Sets}
 use Rattle.bloom_eval.specs.declared.kind.ProgramKind.{ProgramKind}
-use Rattle.sched_bench.specs.Bench.{fault_of_opening}
+use Rattle.sched_net.specs.Bench.{fault_of_opening}
 use Rattle.sched_net.specs.Net.{execution_in}
 use Rattle.sched_net.specs.declared.books.Books.{Books}
 use Rattle.sched_net.specs.ScheduleLines.{Line, steps_of}

@@ -5,7 +5,7 @@ use Rattle.std.specs.Result.{IsErrAnd}
 use Rattle.bloom_eval.specs.declared.kind.ProgramKind.{ProgramKind}
 use Rattle.confluence.specs.Laws.{RegionLaw}
 use Rattle.inbox.specs.Executions.{Execution, contents, first_execution}
-use Rattle.sched_bench.specs.Bench.{fault_of_opening}
+use Rattle.sched_net.specs.Bench.{fault_of_opening}
 use Rattle.sched_net.specs.ScheduleLines.{Line}
 use Rattle.sched_net.specs.Steps.{after_lines}
 use Rattle.sched_net.specs.declared.step.Step.TheVariants as named

@@ -6,7 +6,7 @@ use Rattle.bloom_forms.specs.declared.program.Program.{Program}
 use Rattle.bloom_forms.specs.Step.{Sets}
 use Rattle.bloom_eval.specs.declared.kind.ProgramKind.{ProgramKind}
 use Rattle.inbox.specs.Executions.{Execution}
-use Rattle.sched_bench.specs.Bench.{instance_components}
+use Rattle.sched_net.specs.Bench.{instance_components}
 use Rattle.sched_net.specs.Tables.{last_tables}
 use Rattle.topo_forms.specs.View.{View, program_of}
 use Rattle.blazes_commands.specs.Runs.Bench.{bench_states, HasInstances}

@@ -4,10 +4,10 @@ use Rattle.std.specs.Result.{IsErrAnd}
 use Rattle.bloom_eval.specs.declared.kind.ProgramKind.{ProgramKind}
 use Rattle.report_lines.specs.declared.refusal.Refusal.{Refusal}
 use Rattle.report_lines.specs.declared.refusal.Refusal.TheVariants as refusal
-use Rattle.sched_bench.specs.Bench.{fault_of_opening, OpensAs}
-use Rattle.sched_bench.specs.declared.fault.OpenFault.{OpenFault}
-use Rattle.sched_bench.specs.declared.fault.OpenFault.TheVariants as open_faults
-use Rattle.sched_bench.proofs.BenchKinds.{opening_by_kinds}
+use Rattle.sched_net.specs.Bench.{fault_of_opening, OpensAs}
+use Rattle.sched_net.specs.declared.fault.OpenFault.{OpenFault}
+use Rattle.sched_net.specs.declared.fault.OpenFault.TheVariants as open_faults
+use Rattle.sched_net.proofs.BenchKinds.{opening_by_kinds}
 use Rattle.topo_forms.specs.View.{View, component_at}
 use Rattle.command_checks.specs.Ends.{Source, files_states}
 use Rattle.command_checks.specs.Ran.{IsStopAt, StopsAs}

@@ -10,7 +10,7 @@ use Rattle.inbox.specs.Events.{Step}
 use Rattle.inbox.specs.Executions.{Execution, first_execution}
 use Rattle.report_lines.specs.declared.refusal.Refusal.TheVariants as refusal
 use Rattle.report_lines.specs.declared.refusal.EventKind.TheVariants as event_kinds
-use Rattle.sched_bench.specs.Bench.{fault_of_opening}
+use Rattle.sched_net.specs.Bench.{fault_of_opening}
 use Rattle.sched_net.specs.Net.{Stands, execution_in}
 use Rattle.sched_net.specs.declared.books.Books.{Books}
 use Rattle.sched_net.specs.Steps.{Applied, Applies, after_lines, steps_in}

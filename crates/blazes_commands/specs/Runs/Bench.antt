@@ -6,7 +6,7 @@ use Rattle.bloom_forms.specs.Step.{Sets}
 use Rattle.bloom_eval.specs.declared.kind.ProgramKind.{ProgramKind}
 use Rattle.topo_forms.specs.View.{View, program_of}
 use Rattle.inbox.specs.Executions.{Execution}
-use Rattle.sched_bench.specs.Bench.{instance_components}
+use Rattle.sched_net.specs.Bench.{instance_components}
 use Rattle.sched_net.specs.Tables.{last_tables}
 
 -- the kinds of its shells before and after, and what they have loaded and keep after it, shell by shell

@@ -10,9 +10,9 @@ use Rattle.report_lines.specs.declared.refusal.Refusal.{Refusal}
 use Rattle.report_lines.specs.declared.refusal.Refusal.TheVariants as refusal
 use Rattle.report_lines.specs.declared.refusal.EventKind.TheVariants as event_kinds
 use Rattle.report_lines.specs.Refusals.{refusal_line}
-use Rattle.sched_bench.specs.Bench.{fault_of_opening}
-use Rattle.sched_bench.specs.declared.fault.OpenFault.{OpenFault}
-use Rattle.sched_bench.specs.declared.fault.OpenFault.TheVariants as open_faults
+use Rattle.sched_net.specs.Bench.{fault_of_opening}
+use Rattle.sched_net.specs.declared.fault.OpenFault.{OpenFault}
+use Rattle.sched_net.specs.declared.fault.OpenFault.TheVariants as open_faults
 use Rattle.sched_net.specs.ScheduleLines.{Line}
 use Rattle.sched_net.specs.declared.running.StepRefusal.{StepRefusal}
 use Rattle.sched_net.specs.declared.step.Step.{Step as NamedStep}

@@ -1,7 +1,7 @@
 //! The command that says which events a record needs.
 ghost use Rattle.std.specs.Prelude.{◌≡◌, ◌<◌, IfOk, None, OnOk, length, map, true};
 ghost use Rattle.std.specs.List.Sorted.{IsPermutation};
-ghost use Rattle.sched_bench.specs.Bench.{fault_of_opening};
+ghost use Rattle.sched_net.specs.Bench.{fault_of_opening};
 ghost use Rattle.sched_text.specs.Text.{IsPrintable};
 ghost use Rattle.topo_forms.specs.Data.{IsData};
 ghost use Rattle.why_trace.specs.Trim.{yields};

@@ -1,7 +1,7 @@
 //! The opening of a net with shells of the bench.
 ghost use Rattle.std.specs.Prelude.{◌≡◌, ◌++◌, [], IfOk, OnErr, map};
 ghost use Rattle.std.specs.List.Sorted.{IsPermutation};
-ghost use Rattle.sched_bench.specs.Bench.{fault_of_opening};
+ghost use Rattle.sched_net.specs.Bench.{fault_of_opening};
 ghost use Rattle.sched_net.specs.Net.{Stands};
 ghost use Rattle.topo_forms.specs.Data.{IsData};
 ghost use Rattle.topo_forms.specs.View.{component_at};
@@ -12,8 +12,7 @@ use bloom_eval::Component;
 use blz_value::Str;
 use command_checks::{Stop, stop_at};
 use report_lines::Refusal;
-use sched_bench::OpenFault;
-use sched_net::Net;
+use sched_net::{Net, OpenFault};
 use std::alloc::{AllocError, Global};
 use topo_forms::{Data, Valid};
 

@@ -6,7 +6,7 @@ use Rattle.topo_forms.specs.View.{View, program_of, replicas_of}
 use Rattle.inbox.specs.Emission.{nothing_emitted}
 use Rattle.inbox.specs.Standing.{Seat}
 use Rattle.inbox.specs.Wiring.{wiring_of, instance_at}
-use Rattle.sched_bench.specs.Bench.{instance_components}
+use Rattle.sched_net.specs.Bench.{instance_components}
 use Rattle.messages.specs.Lists.{Listed}
 use Rattle.sched_net.specs.Net.{ShowsEar, ShowsSeat, BooksStand}
 use Rattle.inbox.specs.Places.{instance_place}

@@ -1,4 +1,4 @@
-use Rattle.sched_bench.specs.Bench.{instance_components}
+use Rattle.sched_net.specs.Bench.{instance_components}
 use Rattle.sched_net.proofs.FirstBooks.{bodies_there, net_stands, kinds_stay}
 use Rattle.sched_net.proofs.net.Net.open.Goals as goal
 

@@ -1,2 +1,0 @@
--- What private functions give.
-pub mod Flags

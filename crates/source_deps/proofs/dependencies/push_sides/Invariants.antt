@@ -1,6 +1,0 @@
-use Rattle.std.proofs.Common.{◌≡◌, ◌++◌, map, take}
-use Rattle.source_deps.specs.Code.Earliest.{sides_at, sides_view}
-use Rattle.source_deps.proofs.dependencies.push_sides.Given as goal
-
-abbrev pub invariant-loop-row : goal.invariant-loop-row
-invariant-loop-row l = map sides_view l.all.items ≡ map sides_view l.initial.all.items ++ map (sides_at l.source.from.items l.source.to.items) (take l.row-index l.source.rows.now)

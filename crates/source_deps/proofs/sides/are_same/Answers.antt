@@ -1,5 +1,0 @@
-use Rattle.source_deps.proofs.SidesLemmas.{other_length}
-use Rattle.source_deps.proofs.sides.are_same.Goals as goal
-
-pub returns-then-one-other : goal.returns-then-one-other
-returns-then-one-other c = other_length c.args.one.now c.args.other.now c.if-one-other.true

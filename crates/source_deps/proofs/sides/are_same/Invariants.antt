@@ -1,8 +1,0 @@
-use Rattle.std.proofs.Common.{◌≡◌}
-use Rattle.source_deps.specs.Broken.{same}
-use Rattle.source_deps.specs.Code.Earliest.{values_of}
-use Rattle.source_deps.proofs.SidesLemmas.{values_from}
-use Rattle.source_deps.proofs.sides.are_same.Given as goal
-
-abbrev pub invariant-loop-k : goal.invariant-loop-k
-invariant-loop-k l = same (values_from l.one l.k) (values_from l.other l.k) ≡ same (values_of l.one) (values_of l.other)

@@ -1,3 +1,0 @@
--- What the private functions give.
-pub mod Earliest
-pub mod Apart

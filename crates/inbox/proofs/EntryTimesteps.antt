@@ -19,7 +19,7 @@ use Rattle.inbox.specs.Timesteps.{one_timestep, one_by_one}
 use Rattle.inbox.specs.Running.{HasGone, HasMet}
 use Rattle.inbox.specs.declared.outlets.Outlet.{Outlet}
 use Rattle.inbox.specs.declared.set_off.Released.{Released}
-use Rattle.inbox.specs.declared.set_off.SetOff.{SetOff as ByIds}
+use Rattle.inbox.specs.declared.set_off.SetOffIds.{SetOffIds}
 use Rattle.inbox.proofs.EntriesOn.{entries_on, given_on}
 use Rattle.inbox.proofs.RunningLemmas.{gone_on, met_on, met_soon}
 
@@ -153,7 +153,7 @@ released_on : (records later : List Row) (released : Option Released) → Contin
 released_on records later None on given = given
 released_on records later (Some released) on given = (given_on records later released.together.items on given.0, given_on records later released.alone.items on given.1)
 
-pub given_to_on : (records later : List Row) (set : ByIds) → Continues records later → AreGivenTo records set → AreGivenTo later set
+pub given_to_on : (records later : List Row) (set : SetOffIds) → Continues records later → AreGivenTo records set → AreGivenTo later set
 given_to_on records later set on given = record {
   released = released_on records later set.released on given.released;
   going = given_on records later _ on given.going;

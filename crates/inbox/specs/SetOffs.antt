@@ -9,7 +9,7 @@ use Rattle.inbox.specs.Timesteps.{SetOff, one_timestep, one_by_one}
 use Rattle.inbox.specs.declared.set_off.Going.{Going}
 use Rattle.inbox.specs.declared.set_off.Going.TheVariants.{One, Many}
 use Rattle.inbox.specs.declared.set_off.Released.{Released}
-use Rattle.inbox.specs.declared.set_off.SetOff.{SetOff as ByIds}
+use Rattle.inbox.specs.declared.set_off.SetOffIds.{SetOffIds}
 
 -- the entries that go with a batch
 abbrev pub going_entries : Going → List EntryId
@@ -22,7 +22,7 @@ released_read records ports None = []
 released_read records ports (Some released) = timestep_of ports (entries_with_ids records released.together.items) ∷ one_by_one ports (entries_with_ids records released.alone.items)
 
 -- what is set off, in a pool with these records
-abbrev pub set_off_read : (records : List Row) → ByIds → SetOff
+abbrev pub set_off_read : (records : List Row) → SetOffIds → SetOff
 set_off_read records set = record { steps = released_read records set.ports set.released ++ one_timestep set.ports (entries_with_ids records (going_entries set.going)); whole = set.whole }
 
 -- the pool with these records gave each id of what is released
@@ -31,6 +31,6 @@ AreReleasedFrom records None = Unit {0}
 AreReleasedFrom records (Some released) = All (λ entry. entry.1 < length records) released.together.items × All (λ entry. entry.1 < length records) released.alone.items
 
 -- and each id of what is set off
-pub record AreGivenTo (records : List Row) (set : ByIds) : Type 0 where
+pub record AreGivenTo (records : List Row) (set : SetOffIds) : Type 0 where
   pub released : AreReleasedFrom records set.released
   pub going : All (λ entry. entry.1 < length records) (going_entries set.going)

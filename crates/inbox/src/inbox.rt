@@ -18,7 +18,8 @@ ghost use Rattle.inbox.specs.SetOffs.{going_entries, set_off_read, AreGivenTo};
 ghost use Rattle.blz_pool.specs.Entries.{row_with_id};
 
 use crate::instance::{feeds_of, key_of, ports_of, ports_of_feeds};
-use crate::set_off::{Going, Released, SetOff};
+use crate::set_off::{Going, Released, SetOffIds};
+use crate::timesteps::{Timesteps, timesteps_of};
 use crate::waiting::Waiting;
 use bloom_forms::Mode;
 use blz_pool::{Id, Pool};
@@ -502,7 +503,7 @@ impl Inbox {
         &mut self,
         pool: &Pool,
         batch: &[(u32, Message)],
-    ) -> Result<SetOff, AllocError>
+    ) -> Result<SetOffIds, AllocError>
         requires feeds { All (λ pair. pair.0 < feeds_in self.old) batch.now }
         requires given { All (λ pair. IsGiven pool.now pair.1) batch.now }
         requires kept { IsFrom pool.now self.old }
@@ -525,7 +526,7 @@ impl Inbox {
         self.hear_all(pool, batch, touched)?;
         let whole = self.whole_among(touched)?;
         let released = self.release(&whole)?;
-        Ok(SetOff {
+        Ok(SetOffIds {
             ports,
             released,
             going,
@@ -533,19 +534,20 @@ impl Inbox {
         })
     }
 
-    /// Hears a batch, as `hear_batch` does, and lets it go.
-    pub fn hear(&mut self, pool: &Pool, batch: Vec<(u32, Message)>) -> Result<SetOff, AllocError>
+    /// Hears a batch, as `hear_batch` does, and makes timesteps of what it sets off, with copies of the
+    /// records.
+    pub fn hear(&mut self, pool: &Pool, batch: Vec<(u32, Message)>) -> Result<Timesteps, AllocError>
         requires feeds { All (λ pair. pair.0 < feeds_in self.old) batch.items }
         requires given { All (λ pair. IsGiven pool.now pair.1) batch.items }
         requires kept { IsFrom pool.now self.old }
-        ensures steps { IfOk result (λ set. (i : Instance) (batches : List Batch) → HasHeard i pool.now batches self.old → (set_off_read pool.now set).steps ≡ (set_off i (all_pairs batches) (batch_with_ids pool.now batch.items)).steps) }
+        ensures steps { IfOk result (λ set. (i : Instance) (batches : List Batch) → HasHeard i pool.now batches self.old → set.steps ≡ (set_off i (all_pairs batches) (batch_with_ids pool.now batch.items)).steps) }
         ensures whole { IfOk result (λ set. (i : Instance) (batches : List Batch) → HasHeard i pool.now batches self.old → set.whole ≡ (set_off i (all_pairs batches) (batch_with_ids pool.now batch.items)).whole) }
         ensures heard { OnOk result ((i : Instance) (batches : List Batch) → HasHeard i pool.now batches self.old → HasHeard i pool.now (batches ++ batch_with_ids pool.now batch.items ∷ []) self.new) }
         ensures feeds { OnOk result (feeds_in self.new ≡ feeds_in self.old) }
         ensures kept { OnOk result (IsFrom pool.now self.new) }
-        ensures given { IfOk result (λ set. AreGivenTo pool.now set) }
     {
-        self.hear_batch(pool, batch.as_slice())
+        let set = self.hear_batch(pool, batch.as_slice())?;
+        timesteps_of(self.alloc, pool, set)
     }
 
     /// The number of feeds; a message is heard on a feed below it.

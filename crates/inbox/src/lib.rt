@@ -13,6 +13,7 @@ mod running;
 mod set_off;
 mod sources;
 mod stream_laws;
+mod timesteps;
 mod waiting;
 
 pub use feed::Feed;
@@ -23,6 +24,7 @@ pub use messages::{Log, Message};
 pub use outlets::{Outlet, outlets_of};
 pub use places::Places;
 pub use running::{emit_at, emit_entries_at};
-pub use set_off::{Going, Released, SetOff};
+pub use set_off::{Going, Released, SetOffIds};
 pub use sources::first_lists;
 pub use stream_laws::{arriving_law, joint_law, key_law, output_law, traced_law};
+pub use timesteps::Timesteps;

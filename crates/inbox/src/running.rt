@@ -19,7 +19,7 @@ ghost use Rattle.inbox.specs.Running.{HasGone, HasMet, Emits, MeetsFirst, EmitsA
 ghost use Rattle.messages.specs.declared.fault.EventFault.TheVariants.{TooManyRows, TooManyMessages};
 
 use crate::outlets::{Outlet, are_sets, emit_puts, emit_seals};
-use crate::set_off::SetOff;
+use crate::set_off::SetOffIds;
 use bloom_eval::{Component, Puts, StepFault};
 use blz_pool::{Id, Pool};
 use messages::{EventFault, Lists};
@@ -112,7 +112,7 @@ fn go_released(
     shell: &mut Box<dyn Component>,
     lists: &mut Lists,
     outlets: &[Outlet],
-    set: &SetOff,
+    set: &SetOffIds,
     puts: &mut Puts,
 ) -> Result<(), EventFault>
     requires program { IsSome (program shell.old) }
@@ -149,7 +149,7 @@ fn go_along(
     shell: &mut Box<dyn Component>,
     lists: &mut Lists,
     outlets: &[Outlet],
-    set: &SetOff,
+    set: &SetOffIds,
     puts: &mut Puts,
 ) -> Result<(), EventFault>
     requires program { IsSome (program shell.old) }
@@ -178,7 +178,7 @@ fn go_through(
     shell: &mut Box<dyn Component>,
     lists: &mut Lists,
     outlets: &[Outlet],
-    set: &SetOff,
+    set: &SetOffIds,
     puts: &mut Puts,
 ) -> Result<(), EventFault>
     requires program { IsSome (program shell.old) }
@@ -204,7 +204,7 @@ pub(crate) fn emit_set_off(
     shell: &mut Box<dyn Component>,
     lists: &mut Lists,
     outlets: &[Outlet],
-    set: &SetOff,
+    set: &SetOffIds,
     puts: &mut Puts,
 ) -> Result<(), EventFault>
     requires program { IsSome (program shell.old) }
@@ -239,7 +239,7 @@ pub fn emit_at(
     place: usize,
     lists: &mut Lists,
     outlets: &[Outlet],
-    set: &SetOff,
+    set: &SetOffIds,
     puts: &mut Puts,
 ) -> Result<(), EventFault>
     requires place { place < length shells.old.items }

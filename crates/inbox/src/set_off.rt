@@ -1,4 +1,4 @@
-//! What a batch sets off, by the ids of its records.
+//! What a batch sets off, by the ids of its records: the form in which a net takes it, without a copy.
 ghost use Rattle.std.specs.Prelude.{◌≡◌};
 ghost use Rattle.inbox.specs.SetOffs.{going_entries};
 
@@ -23,7 +23,7 @@ pub enum Going {
 /// What a batch sets off at an instance of so many ports: what partitions that become whole release,
 /// then what goes with the batch, and the keys of these partitions, in the order of key values.
 #[derive(Drop)]
-pub struct SetOff {
+pub struct SetOffIds {
     pub ports: usize,
     pub released: Option<Released>,
     pub going: Going,

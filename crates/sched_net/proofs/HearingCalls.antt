@@ -15,7 +15,7 @@ use Rattle.inbox.specs.Growth.{Continues}
 use Rattle.messages.specs.Ids.{batch_with_ids}
 use Rattle.inbox.specs.SetOffs.{AreGivenTo, set_off_read}
 use Rattle.inbox.specs.Timesteps.{SetOff}
-use Rattle.inbox.specs.declared.set_off.SetOff.{SetOff as ByIds}
+use Rattle.inbox.specs.declared.set_off.SetOffIds.{SetOffIds}
 use Rattle.inbox.specs.Wiring.{wiring_of, instance_at, instance_for, feeds_for}
 use Rattle.messages.specs.declared.message.Message.{Message as IdMessage}
 use Rattle.sched_net.specs.Answers.{fault_at}
@@ -35,7 +35,7 @@ use Rattle.sched_net.proofs.HearingStands.{shell_within, has_program, outlets_wi
 
 module _ (v : View) (valid : IsValid v) (c r : ℕ) (hears : hears_itself v c r ≡ true) (loaded : List (Option Program)) (tables : List Sets) (old : Books) (parts : List Part) (some : 0 < length parts) (pairs : List (ℕ × IdMessage)) (indexes : List (ℕ × ℕ))
     (are : (given : Data) (steps : List Step) (stand : BooksStand v given steps old) → pairs_of (wiring_of v) given (execution_in stand) (instance_at (wiring_of v) c r) parts ≡ Ok (batch_with_ids old.lists.records pairs))
-    (set : ByIds) (now : List Seated) (heard : OneHears old.lists.records pairs indexes (set_off_read old.lists.records set) (instance_place v c r) old.seats.items now)
+    (set : SetOffIds) (now : List Seated) (heard : OneHears old.lists.records pairs indexes (set_off_read old.lists.records set) (instance_place v c r) old.seats.items now)
     (place : ℕ) (at : place ≡ instance_place v c r) (mid : Listed) (mid_is : mid ≡ old.lists) (b : Seated) (b_is : b ≡ get_or now place b) (outlets : List Outlet) (outlets_is : outlets ≡ b.outlets) where
   -- what holds as it is called
   called : (P : ℕ → Listed → SetOff → Type 0) → P place mid (set_off_read mid.records set) → P (instance_place v c r) old.lists (set_off_read old.lists.records set)

@@ -19,7 +19,7 @@ use crate::seated::{Ear, Seated};
 use bloom_eval::Component;
 use bloom_forms::Mode;
 use blz_pool::Pool;
-use inbox::{SetOff, emit_at};
+use inbox::{SetOffIds, emit_at};
 use messages::{EventFault, Known, Message};
 use sched_text::Part;
 use std::alloc::{AllocError, Global};
@@ -41,7 +41,7 @@ fn hear_by(
     pool: &Pool,
     pairs: &[(u32, Message)],
     indexes: &[(u32, u32)],
-) -> Result<SetOff, AllocError>
+) -> Result<SetOffIds, AllocError>
     requires { EarCanHear pool.now pairs.now ear.old }
     ensures hears { IfOk result (λ set. EarHears pool.now pairs.now indexes.now (set_off_read pool.now set) ear.old ear.new) }
     ensures given { IfOk result (λ set. AreGivenTo pool.now set) }
@@ -61,7 +61,7 @@ fn hear_at(
     pool: &Pool,
     pairs: &[(u32, Message)],
     indexes: &[(u32, u32)],
-) -> Result<SetOff, AllocError>
+) -> Result<SetOffIds, AllocError>
     requires place { place < length seats.old.items }
     requires can { (was : _) → slice_get seats.old.items place ≡ Some was → EarCanHear pool.now pairs.now was.ear }
     ensures hears { IfOk result (λ set. OneHears pool.now pairs.now indexes.now (set_off_read pool.now set) place seats.old.items seats.new.items) }
@@ -105,7 +105,7 @@ impl Books {
         replica: u32,
         pairs: &[(u32, Message)],
         indexes: &[(u32, u32)],
-    ) -> Result<SetOff, AllocError>
+    ) -> Result<SetOffIds, AllocError>
         requires runs { BooksRun valid.now.view self.old }
         requires hears { hears_itself valid.now.view component replica ≡ true }
         requires feeds { All (λ pair. pair.0 < length (feeds_for valid.now.view component replica)) pairs.now }
@@ -130,7 +130,7 @@ impl Books {
         component: u32,
         replica: u32,
         parts: &[NumberedPart],
-    ) -> Result<SetOff, EventFault>
+    ) -> Result<SetOffIds, EventFault>
         requires runs { BooksRun valid.now.view self.old }
         requires hears { hears_itself valid.now.view component replica ≡ true }
         ensures heard { IfOk result (λ set. HearsParts valid.now.view self.old component replica parts.now (set_off_read self.old.lists.records set) self.new.seats.items) }

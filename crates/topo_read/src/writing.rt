@@ -279,9 +279,9 @@ pub fn write(alloc: Global, topology: &Topology) -> Result<Vec<u8>, AllocError>
     Ok(bytes_of(text))
 }
 
-/// The topology with the modes that the valid one has, as one of format 2. The error is want of
-/// memory.
-pub fn topology_of(valid: &Valid) -> Result<Topology, AllocError>
+/// The topology with the modes that the valid one has, as one of format 2. Its lists have their
+/// memory from where those of the valid one have it. The error is want of memory.
+pub fn topology_of(_alloc: Global, valid: &Valid) -> Result<Topology, AllocError>
     ensures topology { IfOk result (λ topology. topology ≡ record valid.now.topology { format = 2 }) }
     ensures allowed { IfOk result IsAllowed }
 {

@@ -1,18 +1,16 @@
 //! What is shown of an inbox that hears batches whose records a small pool keeps.
-ghost use Rattle.std.specs.Prelude.{◌≡◌, ◌<◌, All, IfOk, List, OnOk, length};
+ghost use Rattle.std.specs.Prelude.{◌≡◌, ◌<◌, All, IfOk, List, OnOk};
 ghost use Rattle.blz_value.specs.Record.{Row};
 ghost use Rattle.inbox.specs.Inbox.{IsFrom, feeds_in};
-ghost use Rattle.inbox.specs.SetOffs.{AreGivenTo};
 ghost use Rattle.messages.specs.Ids.{IsGiven};
 
 use crate::inputs::valid_of;
 use crate::shells::{pair, show_sets};
 use anyhow::{Result, ensure};
-use bloom_eval::timestep;
 use blz_outside::MemFiles;
 use blz_pool::{Id, Pool};
 use blz_value::{Record, Value, write_record};
-use inbox::{Inbox, Message, SetOff};
+use inbox::{Inbox, Message, Timesteps};
 use std::alloc::Global;
 use topo_types::{Mode, Valid};
 
@@ -148,54 +146,16 @@ fn hear_shown(
 {
     let batch = batch_of(alloc, inbox, pool, said)?;
     let set_off = inbox.hear(pool, batch)?;
-    set_off_shown(alloc, pool, &set_off, shown)?;
+    set_off_shown(&set_off, shown)?;
     let held = format!(in alloc; "holds {}\n", inbox.held())?;
     shown.extend_from_slice(held.as_bytes())?;
     Ok(())
 }
 
-// Adds a line for the timestep of some entries.
-fn step_shown(
-    alloc: Global,
-    pool: &Pool,
-    ports: usize,
-    entries: &[(u32, Id)],
-    shown: &mut Vec<u8>,
-) -> Result<()>
-    requires { All (λ entry. entry.1 < length pool.now) entries.now }
-{
-    let step = timestep(alloc, pool, ports, entries)?;
-    show_sets("sets off", step.sets(), shown)?;
-    Ok(())
-}
-
-// Adds a line for each timestep of some entries alone.
-fn alone_shown(
-    alloc: Global,
-    pool: &Pool,
-    ports: usize,
-    entries: &[(u32, Id)],
-    shown: &mut Vec<u8>,
-) -> Result<()>
-    requires { All (λ entry. entry.1 < length pool.now) entries.now }
-{
-    for entry in entries {
-        step_shown(alloc, pool, ports, &[*entry], shown)?;
-    }
-    Ok(())
-}
-
 // Adds a line for each timestep, and one with the keys of the partitions that became whole.
-fn set_off_shown(alloc: Global, pool: &Pool, set_off: &SetOff, shown: &mut Vec<u8>) -> Result<()>
-    requires { AreGivenTo pool.now set_off.now }
-{
-    if let Some(released) = &set_off.released {
-        step_shown(alloc, pool, set_off.ports, &released.together, shown)?;
-        alone_shown(alloc, pool, set_off.ports, &released.alone, shown)?;
-    }
-    let going = set_off.going.as_slice();
-    if let [_, ..] = going {
-        step_shown(alloc, pool, set_off.ports, going, shown)?;
+fn set_off_shown(set_off: &Timesteps, shown: &mut Vec<u8>) -> Result<()> {
+    for step in set_off.steps.as_slice() {
+        show_sets("sets off", step.sets(), shown)?;
     }
     whole_shown(set_off.whole.as_slice(), shown)
 }

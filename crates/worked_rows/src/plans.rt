@@ -10,7 +10,7 @@ use worked_calls::valid_of;
 
 // A planned topology, as it is written.
 fn text_of(alloc: Global, planned: &Valid) -> Result<Vec<u8>> {
-    Ok(write(alloc, &topology_of(planned)?)?)
+    Ok(write(alloc, &topology_of(alloc, planned)?)?)
 }
 
 // A topology with its first component free, as it is written.

@@ -17,7 +17,7 @@ use topo_read::{topology_of, write};
 fn text_of(alloc: Global, planned: &Valid) -> Result<Vec<u8>, AllocError>
     ensures { IfOk result (λ text. IsReading text.items (Ok (record planned.now.topology { format = 2 }))) }
 {
-    let topology = topology_of(planned)?;
+    let topology = topology_of(alloc, planned)?;
     write(alloc, &topology)
 }
 

@@ -4,7 +4,7 @@ use Rattle.inbox.specs.Events.{Part}
 use Rattle.messages.specs.Ids.{message_with_id}
 use Rattle.inbox.specs.Wiring.{instance_for, feeds_for}
 use Rattle.inbox.specs.SetOffs.{set_off_read}
-use Rattle.inbox.specs.declared.set_off.SetOff.{SetOff}
+use Rattle.inbox.specs.declared.set_off.SetOffIds.{SetOffIds}
 use Rattle.messages.specs.declared.message.Message.{Message}
 use Rattle.messages.specs.Lists.{read_lists}
 use Rattle.messages.specs.declared.fault.EventFault.{EventFault}
@@ -18,7 +18,7 @@ use Rattle.sched_net.proofs.books.Books.hear.Goals as goal
 
 pub returns-in_err-pair-clause-refused : goal.returns-in_err-pair-clause-refused
 returns-in_err-pair-clause-refused c =
-    handed_on (λ (r : Result SetOff EventFault). IfErr r (λ fault. PairsAnswer c.args.valid.now.view c.args.self.now c.args.component c.args.replica c.args.parts.now (Err fault) (λ (pairs : List (ℕ × Message)). pairs))) c.from_residual.result c.in_err-pair.field-0.0 c.from_residual.ensures.1
+    handed_on (λ (r : Result SetOffIds EventFault). IfErr r (λ fault. PairsAnswer c.args.valid.now.view c.args.self.now c.args.component c.args.replica c.args.parts.now (Err fault) (λ (pairs : List (ℕ × Message)). pairs))) c.from_residual.result c.in_err-pair.field-0.0 c.from_residual.ensures.1
     (refused_alone c.args.valid.now.view c.args.self.now c.args.component c.args.replica c.args.parts.now c.part-item.result (omega (arith, c.in-len1.len_at_least)) c.part-item.is (λ (pairs : List (ℕ × Message)). pairs) c.in_err-pair.field-0.0
     (subst (λ (p : Part). PairAnswers c.args.valid.now.view c.args.self.now c.args.component c.args.replica p (Err c.in_err-pair.field-0.0)) c.part.view_is c.in_err-pair.ensures.pair))
 
@@ -40,7 +40,7 @@ returns-in-len1-clause-heard c =
 -- the first of several that is refused
 pub returns-in_err-heard-clause-refused : goal.returns-in_err-heard-clause-refused
 returns-in_err-heard-clause-refused c =
-    handed_on (λ (r : Result SetOff EventFault). IfErr r (λ fault. PairsAnswer c.args.valid.now.view c.args.self.now c.args.component c.args.replica c.args.parts.now (Err fault) (λ (pairs : List (ℕ × Message)). pairs))) c.from_residual-in_err-heard.result c.in_err-heard.field-0.0 c.from_residual-in_err-heard.ensures.1
+    handed_on (λ (r : Result SetOffIds EventFault). IfErr r (λ fault. PairsAnswer c.args.valid.now.view c.args.self.now c.args.component c.args.replica c.args.parts.now (Err fault) (λ (pairs : List (ℕ × Message)). pairs))) c.from_residual-in_err-heard.result c.in_err-heard.field-0.0 c.from_residual-in_err-heard.ensures.1
     (refused_alike c.args.valid.now.view c.args.self.now c.args.component c.args.replica c.args.parts.now (λ (all : Pairs). all.pairs.items) (λ (pairs : List (ℕ × Message)). pairs) c.in_err-heard.field-0.0 c.in_err-heard.ensures.pairs)
 
 -- several parts are heard

@@ -112,6 +112,7 @@ sealed_next old now new place columns key rest keys count within s counted same 
 -- what is left of a set is none of what went before
 apart : (done : List Record) (key other : Record) (rest : List Record) → IsRowSet (done ++ key ∷ rest) → Has other done → key ≡ other → ⊥
 unfolding IsStrictlySortedBy
+apart [] key other rest set never same = absurd never
 apart (x ∷ done) key other rest set (inl e) same =
     let below : record_cmp x key ≡ Less = All-of_member (λ y. record_cmp x y ≡ Less) (done ++ key ∷ rest) key (All-from_recursion (λ y. record_cmp x y ≡ Less) (done ++ key ∷ rest) set.0) (Has-append_right key done (key ∷ rest) (inl refl)) in
     let is : x ≡ key = e ∙ sym same in
@@ -126,10 +127,10 @@ seals_only columns list (k ∷ done) key = ap (λ b. is_same_row key k || b) (se
 
 -- a list without a seal of a partition, and the seals of others behind it
 none_behind : (before list : List Message) (columns : List ℕ) (done : List Record) (key : Record) → has_seal before key ≡ false → list_any (is_same_row key) done ≡ false → has_seal (before ++ seals_of columns list done) key ≡ false
-none_behind [] list columns done key no none = seals_only columns list done key ∙ none
-none_behind (row r ∷ before) list columns done key no none = none_behind before list columns done key no none
-none_behind (seal k n ∷ before) list columns done key no none =
-    let both = neither (is_same_row key k) (has_seal before key) no in
+none_behind [] list columns done key lacks none = seals_only columns list done key ∙ none
+none_behind (row r ∷ before) list columns done key lacks none = none_behind before list columns done key lacks none
+none_behind (seal k n ∷ before) list columns done key lacks none =
+    let both = neither (is_same_row key k) (has_seal before key) lacks in
     rw both.0 (none_behind before list columns done key both.1 none)
 
 -- where no partition had a seal, the next has none

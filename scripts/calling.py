@@ -147,7 +147,7 @@ class Calls:
         return checked(*self.answer(*words), words, incomplete)
 
 
-def many_calls(*_):
+def many_calls():
     """Calls of one program, which is looked for, and where there is none built unproved, before the first."""
     global PROGRAM
     if not os.environ.get("BLAZES"):

@@ -23,9 +23,10 @@ def told(usage, words):
     name = words[0] if words else ""
     if name in commands:
         return [f"write it so: blazes {name} {commands[name]}"]
+    shown = name if name and name.isascii() and name.isprintable() else ascii(name)
     near = difflib.get_close_matches(name, commands, 1)
-    return [f"there is no command {name}; the nearest one: blazes {it} {commands[it]}" for it in near] or [
-        f"there is no command {name}; there are {', '.join(commands)}"]
+    return [f"there is no command {shown}; the nearest one: blazes {it} {commands[it]}" for it in near] or [
+        f"there is no command {shown}; there are {', '.join(commands)}"]
 
 
 def main():

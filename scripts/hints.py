@@ -62,10 +62,11 @@ class Planned:
         """All of them, as --json writes it."""
         seals = Seals(self)
         ports, outputs = loose_ends(self.topology)
-        of_components = [told for it in self.components() for told in (changes(*it), waits(self, *it), agrees(self, it[1]))]
         return {
             "could_be": Trials(self).could_be(), "would_be": seals.would_be(), "in_the_way": seals.in_the_way(),
-            **{kind: [it[kind] for it in of_components if kind in it] for kind in ("changes", "waits", "agrees")},
+            "changes": changes(self.components()),
+            "waits": [told for it in self.components() for told in waits(self, *it)],
+            "agrees": [told for _, it in self.components() for told in agrees(self, it)],
             "hears_nothing": ports, "goes_nowhere": outputs,
         }
 
@@ -119,7 +120,9 @@ class Trials:
 
     @staticmethod
     def told(component, mode, labels, worse):
-        return {"component": component["name"], "mode": mode_of(mode), "streams": labels, "apart": list(worse)}
+        tried = {it: component[it] for it in component if it not in ("mode", "key")} | mode
+        return {"component": component["name"], "mode": mode_of(mode), "streams": labels, "apart": list(worse),
+                "changes": changes([(component, tried)])}
 
 
 class Seals:
@@ -142,10 +145,10 @@ class Seals:
         """What the plan would be better for if sources had a seal that others upstream of the same component have."""
         wanted, found = dict.fromkeys(it for name in self.bad for it in self.wanted(name)), []
         for key, sources in sorted(wanted, key=lambda it: len(it[1])):
-            streams = self.better_with(key, sources)
+            streams, changed = self.better_with(key, sources)
             known = [it["streams"] for it in found if it["key"] == list(key) and set(it["sources"]) <= set(sources)]
             if any(is_bad(self.planned.after.labels[it]) for it in streams) and streams not in known:
-                found.append({"sources": list(sources), "key": list(key), "streams": streams})
+                found.append({"sources": list(sources), "key": list(key), "streams": streams, "changes": changed})
         return found
 
     def wanted(self, component):
@@ -156,13 +159,15 @@ class Seals:
             yield from [(key, able)] * (len(able) > 1)
 
     def better_with(self, key, sources):
-        """The streams that are better under the plan where some sources have a seal; but for sources."""
+        """The streams that are better under the plan where some sources have a seal, but for sources; and what that
+        plan changes."""
         text, names = self.planned.text, [it["name"] for it in self.planned.topology["source"]]
         for name in sources:
             text = with_values(text, "source", names.index(name), {}, {"seal": list(key)}, ["seal"])
         plan = self.planned.answer("plan", text).decode()
         before = {it: label for it, label in self.planned.after.labels.items() if not self.wiring.is_source(it)}
-        return better(labels_of(self.planned.answer("label", plan)) or before, before)
+        found = better(labels_of(self.planned.answer("label", plan)) or before, before)
+        return found, changes(zip(self.planned.planned.get("component", []), tomllib.loads(plan).get("component", [])))
 
     def in_the_way(self):
         """Unsealed sources without the columns of a seal for which a component could wait if it weren't for them: at the
@@ -180,38 +185,41 @@ class Seals:
 # ---- what a new mode changes
 
 
-def changes(old, new):
-    """Under a new seal: the outputs that compare a port with what the same port filled."""
-    if "module" not in new or new.get("mode") != "seal" or mode_of(old) == mode_of(new):
-        return {}
-    module = Module(text_of(new["module"]))
+def changes(components):
+    """Under new seals: the outputs that compare a port with what the same port filled."""
+    sealed = [new for old, new in components if new.get("mode") == "seal" and mode_of(old) != mode_of(new)]
+    return [told for it in sealed for told in changed_by(it)]
+
+
+def changed_by(component):
+    module = Module(text_of(component["module"])) if "module" in component else Module("")
     ports = {it: module.read_and_kept(it) for it in module.outputs()}
-    told = {"component": new["name"], "mode": mode_of(new), "ports": sorted(set().union(*ports.values())),
-            "outputs": [it for it in ports if ports[it]]}
-    return {"changes": told} if told["outputs"] else {}
+    outputs = [it for it in ports if ports[it]]
+    told = {"component": component["name"], "mode": mode_of(component), "ports": sorted(set().union(*ports.values())), "outputs": outputs}
+    return [told] if outputs else []
 
 
 def waits(planned, old, new):
     """Under a new seal: the ports that only ask, and the streams for whose seals they wait."""
     if new.get("mode") != "seal" or mode_of(old) == mode_of(new):
-        return {}
+        return []
     wiring, paths = Wiring(planned.planned), planned.after.paths(new["name"])
     keeping = {port for port, _, note in paths if note[1] == "W"}
     asking = dict.fromkeys(port for port, _, _ in paths if port not in keeping)
     questions = [it for port in asking for it in wiring.into_port(new["name"], port)]
     seals = [it for it in wiring.into(new["name"]) if set(key_of(planned.after.labels[it])) == set(new["key"]) and it not in questions]
     told = {"component": new["name"], "key": new["key"], "questions": questions, "seals": seals}
-    return {"waits": told} if questions and seals else {}
+    return [told] if questions and seals else []
 
 
-def agrees(planned, new):
+def agrees(planned, component):
     """Behind a sequencer: the outputs of which a row may be true for a moment, with the operators that make it so."""
-    if "module" not in new or new.get("mode") != "order":
-        return {}
-    module, paths = Module(text_of(new["module"])), planned.after.paths(new["name"])
+    if "module" not in component or component.get("mode") != "order":
+        return []
+    module, paths = Module(text_of(component["module"])), planned.after.paths(component["name"])
     outputs = {output: module.momentary(output) for _, output, note in paths if note[0] == "O"}
-    told = {"component": new["name"], "outputs": {it: outputs[it] for it in outputs if outputs[it]}}
-    return {"agrees": told} if told["outputs"] else {}
+    told = {"component": component["name"], "outputs": {it: outputs[it] for it in outputs if outputs[it]}}
+    return [told] if told["outputs"] else []
 
 
 # ---- and how it is written
@@ -225,19 +233,26 @@ def labelled(streams):
     return ", ".join(f"{name} {label}" for name, label in streams.items())
 
 
+def but(changed):
+    return "".join(f", but {reads_and_keeps(it)}" for it in changed)
+
+
+def reads_and_keeps(it):
+    return f"{it['component']} reads port {listed(it['ports'])} and keeps it"
+
+
 def hint_lines(hints):
     for it in hints["could_be"]:
         mode = "" if it["mode"] == "free" else f" in {it['mode']}"
         apart = f"if {listed(it['apart'])} had a component of {'its' if len(it['apart']) == 1 else 'their'} own"
-        yield f"could be: {labelled(it['streams'])}{mode}, {apart if it['apart'] else 'without a sequencer'}"
+        yield f"could be: {labelled(it['streams'])}{mode}, {apart if it['apart'] else 'without a sequencer'}{but(it['changes'])}"
     for it in hints["would_be"]:
-        yield f"would be: {labelled(it['streams'])}, if {listed(it['sources'])} were sealed by {', '.join(it['key'])}"
+        yield f"would be: {labelled(it['streams'])}, if {listed(it['sources'])} were sealed by {', '.join(it['key'])}{but(it['changes'])}"
     for it in hints["in_the_way"]:
         has = "has" if len(it["sources"]) == 1 else "have"
         yield f"in the way at {it['component']}: {listed(it['sources'])} {has} no {', '.join(it['key'])}"
     for it in hints["changes"]:
-        yield (f"changes: {it['component']} reads port {listed(it['ports'])} and keeps it; in {it['mode']} each row sees its "
-               f"whole partition: {listed(it['outputs'])}")
+        yield f"changes: {reads_and_keeps(it)}; in {it['mode']} each row sees its whole partition: {listed(it['outputs'])}"
     for it in hints["waits"]:
         yield f"waits: {listed(it['questions'])} at {it['component']} for the seal of {', '.join(it['key'])} of {listed(it['seals'])}"
     for it in hints["agrees"]:

@@ -70,11 +70,12 @@ class Places:
         return [table] if opening == "{" else tables
 
 
-def stream_lines(file, topology):
-    """The name of each source and stream of a topology, and the line of its file on which the entry begins."""
+def stream_lines(file, topology, kinds=("source", "stream")):
+    """The name of each source and stream of a topology, and the line of its file on which the entry begins; or of
+    entries of other kinds."""
     with open(file, encoding="utf-8", newline="") as opened:
         text = opened.read()
     entries = Places(text).entries
-    for kind in ("source", "stream"):
+    for kind in kinds:
         for table, entry in zip(topology.get(kind, []), entries.get(kind, [])):
             yield table["name"], text.count("\n", 0, entry.start) + 1

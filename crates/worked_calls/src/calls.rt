@@ -8,6 +8,7 @@ use crate::inputs::{FILE_LIMIT, bytes_in};
 use crate::modules::module_shown;
 use crate::shells::shells_shown;
 use crate::sides::sides_shown;
+use crate::types::name_all;
 use anyhow::{Result, bail};
 use blz_outside::MemFiles;
 use sched_text::{Schedule, ScheduleFault, print, read_line};
@@ -26,6 +27,7 @@ pub fn shown(alloc: Global, words: &[String], files: &mut MemFiles) -> Result<Ve
         (λ text. AreShown (map string_bytes words.now) (bytes_at files.old.files) text.items) }
     ensures files { files.new.files ≡ files.old.files }
 {
+    name_all();
     let [kind, name] = words else {
         bail!("nothing is shown for so many words");
     };

@@ -13,6 +13,7 @@ mod nets;
 mod roots;
 mod shells;
 mod sides;
+mod types;
 mod works;
 
 pub use benches::{PoorShell, TellingShell};

@@ -228,6 +228,11 @@ class Reader:
         needs += [(0, it.text) for it in sides if it.kind == "name"]
 
 
+def parts_of(part):
+    """A part and all below it, those below first."""
+    return [it for below in part.parts for it in parts_of(below)] + [part]
+
+
 def module_of(data):
     """The module of a text, where it is one."""
     return Reader(data).module()

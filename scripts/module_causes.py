@@ -2,6 +2,7 @@
 import re
 
 from causes import lacking, listed
+from expected import parts_of
 
 MOST = {"columns": 8, "input": 8, "output": 8, "collections": 32, "rules": 64}
 
@@ -21,13 +22,9 @@ class Faults:
         text = re.sub(r"\s+", " ", self.data[part.start : part.end].decode(errors="replace"))
         return text if len(text) <= WIDTH else f"{text[:WIDTH]} .."
 
-    def parts(self, part):
-        """A part and all below it, those below first."""
-        return [it for below in part.parts for it in self.parts(below)] + [part]
-
     def names(self, part):
         """The collections that a part names."""
-        return [it.gives[0] for it in self.parts(part) if not it.operator]
+        return [it.gives[0] for it in parts_of(part) if not it.operator]
 
     def of_kinds(self, *kinds):
         return [it.name for it in self.module.collections if it.kind in kinds]
@@ -68,7 +65,7 @@ class Faults:
 
     def columns(self, rule, _):
         """What is wrong with the columns of a rule's parts, and else of its body and its head."""
-        told = [it for part in self.parts(rule.body) for it in self.columns_told(part)]
+        told = [it for part in parts_of(rule.body) for it in self.columns_told(part)]
         body, head = self.columns_of(rule.body), self.collections[rule.head].columns
         if not told and len(body) != len(head):
             told = [f"the body has {counted(body)} ({', '.join(body)}), and {rule.head} has {len(head)} ({', '.join(head)})"]
@@ -129,7 +126,7 @@ class Faults:
         return [it for it in found if self.collections[it].kind == "input"]
 
     def momentary_mix(self, rule, _):
-        for part in self.parts(rule.body):
+        for part in parts_of(rule.body):
             sides = [self.ports(it) for it in part.parts]
             if part.operator in ("group", "atleast") and sides[0]:
                 yield f"{self.shown(part)} is over {port(sides[0])}: keep these rows in a table, and take that"

@@ -54,6 +54,8 @@ class Making:
         self.delivered = {it: set() for it in batches.wiring.lanes()}
         self.known = {(it.stream, it.sender): 0 for it in self.delivered}
         self.share = chance.choice([0.2, 0.5, 0.8, 1.0])
+        # In every second schedule, by chance, one stream is starved: it waits until nothing else is left.
+        self.starved = chance.choice([None, chance.choice(list(batches.wiring.streams))])
 
     def made(self):
         for step in range(MOST_STEPS):
@@ -62,7 +64,9 @@ class Making:
                 break
             self.learn(text)
             if not self.waiting() and (is_delivered(text) or not self.find()):
-                return self.lines, text, status
+                if is_delivered(text) or self.starved is None:
+                    return self.lines, text, status
+                self.starved = None
             if waiting := self.waiting():
                 self.deliver(waiting, self.share if step < MANY_STEPS else 1.0)
         return None
@@ -100,9 +104,12 @@ class Making:
         return count
 
     def waiting(self):
-        """What is known and not delivered, by the place where it goes: a component, and a replica or its log."""
+        """What is known and not delivered, but of a stream that is starved, by the place where it goes: a component,
+        and a replica or its log."""
         found = {}
         for lane, delivered in self.delivered.items():
+            if lane.stream == self.starved:
+                continue
             for index in range(self.known[lane.stream, lane.sender]):
                 if index not in delivered:
                     found.setdefault((lane.component, lane.receiver), []).append((lane, index))

@@ -49,10 +49,10 @@ class Files:
 def seen_in_runs(files, wanted, seeds):
     """What vary sees of each stream, until the first of the wanted ones was seen to vary."""
     vary, seen, is_told = script("vary"), {}, sys.stderr.isatty()
-    for number, (lines, text) in enumerate(vary.runs(files.calls, *files.names, seeds), 1):
+    for number, (seed, lines, text) in enumerate(vary.runs(files.calls, *files.names, seeds), 1):
         contents, is_complete = contents_of(text)
         for stream, records in contents.items():
-            seen.setdefault(stream, vary.Seen()).add(records, lines, is_complete)
+            seen.setdefault(stream, vary.Seen()).add(seed, records, lines, is_complete)
         if is_told:
             print(f"\rpage: {number} of {2 * seeds} runs", end="", file=sys.stderr, flush=True)
         first = seen[wanted[0]]

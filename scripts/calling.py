@@ -131,6 +131,12 @@ def built(also_unproved=False):
     return os.path.abspath(program)
 
 
+def is_started(program):
+    """Whether a script starts the program, as it does one that is kept, so that nothing reaches it but its words."""
+    with open(program, "rb") as file:
+        return file.read(2) == b"#!"
+
+
 class Calls:
     """Many calls, one after the other: a later one may have words and files that an earlier one gave."""
 

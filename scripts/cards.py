@@ -4,6 +4,7 @@ import re
 
 from boxes import start_of
 from explained import HELPS, MEANING, RULES, kind, mode_words, note_words
+from hints import hint_lines
 from picture import SVG, tag
 from streams import changed
 from styles import LOOKS
@@ -128,7 +129,7 @@ def marked_lines(text, outputs):
 # ---- the plan and the streams
 
 
-def plan(before, after):
+def plan(before, after, hints):
     """The modes of all components, and what becomes of the labels."""
     rows = []
     for old, new in zip(before.components, after.components):
@@ -139,6 +140,9 @@ def plan(before, after):
     yield tag("p", f"Better: {said(', '.join(better)) or 'nothing'}.")
     words = f"Worse: {said(', '.join(worse))}" if worse else "Worse: nothing."
     yield tag("p", tag("b", words), class_="worse") if worse else tag("p", words)
+    more = [tag("li", tag("b", said(name)), said(f":{told}")) for name, _, told in (it.partition(":") for it in hint_lines(hints))]
+    if more:
+        yield tag("h3", "What the plan doesn't try and doesn't say") + tag("ul", *more)
 
 
 def streams(topology, before, after):

@@ -143,7 +143,7 @@ fn reports() {
 }
 
 /// Names each call with its type.
-pub fn name_all() {
+pub(crate) fn name_all() {
     modules();
     shells();
     valid_topologies();

@@ -16,7 +16,8 @@ use Rattle.topo_forms.specs.Data.{SourceData, key_places, rows_with_key}
 use Rattle.topo_forms.specs.Messages.{row, seal, is_same_row, distinct_rows, rows_in, partitions, source_seals, source_messages}
 use Rattle.topo_forms.specs.View.{Stream}
 use Rattle.inbox.specs.Emission.{with_row, with_rows}
-use Rattle.messages.specs.Messages.{is_same_message}
+use Rattle.messages.specs.Emitted.{has_seal}
+use Rattle.messages.specs.Messages.{is_same_message, sealed_in}
 use Rattle.messages.proofs.MessagesLemmas.{is_same_row-is, is_same_row-itself}
 use Rattle.topo_forms.specs.DataCounts.{count_of}
 use Rattle.topo_forms.proofs.DistinctRows.{no_more_rows}
@@ -24,6 +25,14 @@ use Rattle.topo_forms.proofs.DistinctRows.{is_among, distinct_rows-more, Has-fro
 use Rattle.messages.specs.EmittedCounts.{seals_of}
 
 -- ---- records
+
+no_key_sealed : (rows : List Row) → sealed_in (map row rows) ≡ []
+no_key_sealed [] = refl
+no_key_sealed (r ∷ rows) = no_key_sealed rows
+
+-- no partition has a seal among records
+pub no_seal : (rows : List Row) (key : Row) → has_seal (map row rows) key ≡ false
+no_seal rows key = ap (list_any (is_same_row key)) (no_key_sealed rows)
 
 -- each record of a list is one of the distinct ones
 Has-distinct : (q : Row) (xs : List Row) → Has q xs → Has q (distinct_rows xs)

@@ -1,4 +1,4 @@
-use Rattle.std.proofs.Common.{◌≡◌, ◌∙◌, ◌++◌, ℕ, List, ap, length, map, subst, sym, arith}
+use Rattle.std.proofs.Common.{◌≡◌, ◌∙◌, ◌++◌, ℕ, false, List, ap, length, map, slice_index_or, subst, sym, arith}
 use Rattle.blz_value.specs.Operators.{cells}
 use Rattle.blz_value.specs.Record.{Row}
 use Rattle.blz_value.specs.Sets.{set_of}
@@ -6,10 +6,11 @@ use Rattle.topo_forms.specs.Data.{SourceData}
 use Rattle.topo_forms.specs.Messages.{Message, row, distinct_rows, source_messages}
 use Rattle.topo_forms.specs.View.{stream_at}
 use Rattle.messages.specs.Lists.{OneListBecomes, list_at, read_lists}
+use Rattle.messages.specs.Emitted.{has_seal}
 use Rattle.messages.specs.EmittedCounts.{seals_of}
 use Rattle.messages.proofs.ListsLemmas.{same_count}
 use Rattle.inbox.proofs.SourceLists.{becomes_then, grown, list_then}
-use Rattle.inbox.proofs.SourceMessages.{keys_are, few_keys, few_rows, all_messages_are}
+use Rattle.inbox.proofs.SourceMessages.{keys_are, few_keys, few_rows, no_seal, all_messages_are}
 use Rattle.inbox.proofs.sources.emit_keyed.Goals as goal
 
 pub emit_records-requires-clause-room : goal.emit_records-requires-clause-room
@@ -36,6 +37,14 @@ seal_partitions-requires-clause-room c =
       few_keys c.deref.result.now c.in_ok-keys.keys.keys d are,
       grown c.args.lists.now c.emit_records.new.lists c.args.place (map row (distinct_rows rows)) c.requires.place c.in_ok-emit_records.ensures.ok c.requires.empty,
     )
+
+pub seal_partitions-requires-clause-unsealed : goal.seal_partitions-requires-clause-unsealed
+seal_partitions-requires-clause-unsealed c k d lt =
+    let rows : List Row = c.held.inside.rows.items in
+    let key : Row = slice_index_or c.in_ok-keys.keys.keys k d in
+    subst (λ (list : List Message). has_seal list key ≡ false)
+    (sym (list_then c.args.lists.now c.emit_records.new.lists c.args.place (map row (distinct_rows rows)) c.requires.place c.in_ok-emit_records.ensures.ok))
+    (no_seal (distinct_rows rows) key)
 
 pub returns-clause-ok : goal.returns-clause-ok
 returns-clause-ok c =

@@ -11,8 +11,12 @@ Collection = namedtuple("Collection", "kind name columns is_momentary")
 # What a part may read: anything, at least one port, or tables alone.
 ANY, PORT, KEPT = "any", "port", "kept"
 
-# The least and the most columns of a collection, the most of a part of a join, and how often a join has no pairs.
-LEAST, WIDEST, PART_COLUMNS, PRODUCTS = 2, 3, 3, 0.08
+# The least and the most columns of a collection, and the most of a part of a join.
+LEAST, WIDEST, PART_COLUMNS = 2, 3, 3
+
+# How often a join or a notin has no pairs, so that all rows of a side have one key, and how often what a notin lacks
+# is a join.
+PRODUCTS, OF_JOINS = 0.15, 0.25
 
 OPERATORS = {"select": 2, "project": 3, "join": 4, "notin": 3, "group": 5, "atleast": 2}
 COMPARISONS = ["=", "!=", "!=", "!=", "<", "<=", "<=", ">", ">=", ">="]
@@ -166,10 +170,15 @@ class RandomModule:
         return Part(f"join({', '.join(words)})", columns, left.is_momentary or right.is_momentary)
 
     def notin(self, reads, depth):
-        left, right = self.part(reads, depth), self.narrow(self.part(KEPT, depth))
+        left, right = self.part(reads, depth), self.narrow(self.lacked(depth))
         pairs = self.pairs(left, right, 0 if self.chance.random() < PRODUCTS else self.chance.randint(1, 2))
         words = [left.text, right.text] + [f"{one} = {other}" for one, other in pairs]
         return Part(f"notin({', '.join(words)})", left.columns, left.is_momentary)
+
+    def lacked(self, depth):
+        """What a notin lacks: tables alone, and a join more often than any other."""
+        is_join = depth and self.chance.random() < OF_JOINS
+        return self.join(KEPT, depth - 1) if is_join else self.part(KEPT, depth)
 
     def keys(self, part, least):
         return self.chance.sample(part.columns, self.chance.randint(least, min(2, len(part.columns))))

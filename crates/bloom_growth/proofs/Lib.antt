@@ -1,6 +1,7 @@
 pub mod GrowSets
 pub mod GrowOne
 pub mod SidesLemmas
+pub mod MergedLemmas
 pub mod PartnersLemmas
 pub mod Extending
 pub mod TurnedLemmas
@@ -17,3 +18,4 @@ pub mod KeyedLemmas
 pub mod JoinedLemmas
 pub mod TurnJoins
 pub mod TurnNotIns
+pub mod WholeLemmas

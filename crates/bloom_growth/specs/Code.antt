@@ -3,3 +3,4 @@ pub mod Aggregates
 pub mod Joins
 pub mod NotIns
 pub mod Tallies
+pub mod Sides

@@ -12,6 +12,11 @@ use Rattle.bloom_growth.specs.Kept.{Kept, IsKeptOf, PartTurns}
 abbrev pub HaveWidth : ℕ → (old new : List Row) → Type 0
 HaveWidth width old new = All (λ row. length row ≡ width) old × All (λ row. length row ≡ width) new
 
+-- the rows of a part have one width, before and after
+pub record IsWide (old new : List Row) : Type 0 where
+  pub width : ℕ
+  pub wide : HaveWidth width old new
+
 -- both parts turned, their rows of one width each, and what is kept is that of the old rows, with the number of joined rows
 pub record JoinTurns (pairs : Pairs) (lo ln lm lg ro rn rm rg : List Row) (left right : Kept) (count : ℕ) : Type 0 where
   pub left_turns : PartTurns (lefts_of pairs) lo ln lm lg left

@@ -6,6 +6,7 @@ pub mod Keyed
 pub mod KeptForms
 pub mod JoinTurns
 pub mod NotInTurns
+pub mod Whole
 pub mod Sides
 pub mod Tallies
 pub mod TurningGroups

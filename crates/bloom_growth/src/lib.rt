@@ -17,6 +17,7 @@ mod turn;
 mod turn_joins;
 mod turn_notins;
 mod turning_groups;
+mod whole;
 
 pub use bag::{Bag, Passing};
 pub use by_key::{RowsByKey, turn_part};
@@ -28,3 +29,4 @@ pub use turn::{Turn, Turning, differ, less};
 pub use turn_joins::{KeptJoin, join_kept_left, join_kept_right, turn_join};
 pub use turn_notins::{KeptNotIn, notin_kept, turn_notin};
 pub use turning_groups::TurningGroups;
+pub use whole::turn_projected;

@@ -4,6 +4,7 @@ ghost use Rattle.blz_value.specs.Operators.{cells};
 ghost use Rattle.blz_value.specs.Record.{Row};
 ghost use Rattle.blz_value.specs.Sets.{set_of, IsRowSet};
 ghost use Rattle.bloom_growth.specs.ByKey.{rows_found, AreByKey, AddsTo, MakesByKey};
+ghost use Rattle.bloom_growth.specs.Code.Sides.{HaveRowSets, AddsSetAt, AddsSet, Merges};
 
 use crate::columns::copy_cells;
 use crate::turn::one_row;
@@ -11,6 +12,9 @@ use blz_set::{RecordSet, SetFault};
 use blz_value::Record;
 use std::alloc::{AllocError, Global};
 use std::collections::BTreeMap;
+
+// From so many rows on, a merge with those of their key is quicker than to move these for each.
+const MANY_ROWS: usize = 64;
 
 /// An index of rows by some of their columns.
 #[derive(Drop)]
@@ -34,6 +38,23 @@ fn add_at(
     match sets.get_mut(key) {
         Some(set) => {
             let _ = set.insert(row.copy()?)?;
+            Ok(true)
+        }
+        None => Ok(false),
+    }
+}
+
+// Adds rows to those with a key, where there are some, and answers whether there are.
+fn add_set_at(
+    sets: &mut BTreeMap<Record, RecordSet>,
+    key: &Record,
+    set: &RecordSet,
+) -> Result<bool, SetFault>
+    ensures { AddsSetAt key.now set.now sets.old sets.new result }
+{
+    match sets.get_mut(key) {
+        Some(there) => {
+            there.union_in(set)?;
             Ok(true)
         }
         None => Ok(false),
@@ -87,8 +108,9 @@ impl Side {
         Ok(())
     }
 
-    // Adds rows. After a fault it has lost some.
-    fn add_all(&mut self, more: &RecordSet) -> Result<(), SetFault>
+    // Adds rows one by one, each of which moves those of its key that stand behind it. After a fault
+    // it has lost some.
+    fn add_each(&mut self, more: &RecordSet) -> Result<(), SetFault>
         ensures columns { self.new.columns ≡ self.old.columns }
         ensures side { (rows : List Row) → IsRowSet rows → AreByKey self.old.columns.items rows self.old.sets → MakesByKey self.old.columns.items (set_of (rows ++ more.now)) self.new.sets result }
     {
@@ -96,6 +118,43 @@ impl Side {
             self.add(row)?;
         }
         Ok(())
+    }
+
+    // Adds the rows of a set at a key. After a fault they aren't there.
+    fn add_set(&mut self, key: Record, set: RecordSet) -> Result<(), SetFault>
+        ensures columns { self.new.columns ≡ self.old.columns }
+        ensures rows { AddsSet key set self.old.sets self.new.sets result }
+    {
+        if !add_set_at(&mut self.sets, &key, &set)? {
+            let _ = self.sets.insert(key, set)?;
+        }
+        Ok(())
+    }
+
+    // Adds rows that stand by their keys, those of a key at once. After a fault it has lost some.
+    fn merge(&mut self, more: BTreeMap<Record, RecordSet>) -> Result<(), SetFault>
+        ensures columns { self.new.columns ≡ self.old.columns }
+        ensures rows { HaveRowSets self.old.sets → Merges self.old.sets more self.new.sets result }
+    {
+        for (key, set) in more {
+            self.add_set(key, set)?;
+        }
+        Ok(())
+    }
+
+    // Adds rows, those of a key at once where they are many. After a fault it has lost some.
+    fn add_all(&mut self, more: &RecordSet) -> Result<(), SetFault>
+        ensures columns { self.new.columns ≡ self.old.columns }
+        ensures side { (rows : List Row) → IsRowSet rows → AreByKey self.old.columns.items rows self.old.sets → MakesByKey self.old.columns.items (set_of (rows ++ more.now)) self.new.sets result }
+    {
+        // in the empty side none of them moves, since they come in record order
+        if more.len() < MANY_ROWS || self.sets.is_empty() {
+            return self.add_each(more);
+        }
+        let columns = Vec::from_slice(self.alloc, &self.columns)?;
+        let mut come = Side::new(self.alloc, columns);
+        come.add_each(more)?;
+        self.merge(come.sets)
     }
 
     /// Adds the rows that are new of a part that grows. After a fault it has lost some.

@@ -1,15 +1,13 @@
 -- The tables that are kept have rows of their widths, each has the rows of its collection, and what is kept of the rules can be looked into.
-use Rattle.std.proofs.Common.{◌≡◌, ◌<◌, ℕ, Bool, List, [], length, Option, None, Some, Result, Ok, Err, ap, ◌∙◌, sym, subst, arith}
+use Rattle.std.proofs.Common.{◌≡◌, ◌<◌, ℕ, List, [], length, Option, None, Some, Result, Ok, Err, ap, ◌∙◌, sym, subst, arith}
 use Rattle.std.proofs.lemmas.List.{length-map}
 use Rattle.std.specs.Result.{IsErrAnd}
 use Rattle.bloom_eval.proofs.EmptyTables.{empties_wide}
 use Rattle.bloom_forms.specs.declared.module.Kind.TheVariants.{Table}
 use Rattle.bloom_forms.specs.declared.module.Collection.{Collection}
-use Rattle.bloom_forms.specs.declared.numbered.NumberedRule.{NumberedRule}
 use Rattle.bloom_forms.specs.declared.program.Program.TheVariants.{Module}
 use Rattle.bloom_forms.specs.Form.{Accepted}
 use Rattle.bloom_forms.specs.Kinds.{of_kind, kind_at, place_in_kind}
-use Rattle.bloom_forms.specs.Numbered.{AreNumbered}
 use Rattle.bloom_forms.specs.Program.{columns_of_kind, table_columns}
 use Rattle.bloom_forms.specs.ProgramStep.{empty_tables}
 use Rattle.bloom_forms.specs.Step.{Sets, set_at}
@@ -18,11 +16,10 @@ use Rattle.bloom_forms.proofs.Collections.Numbers.{set-of_kind}
 use Rattle.bloom_forms.proofs.Ends.SameEnds.{none_at}
 use Rattle.bloom_eval.specs.declared.fault.StepFault.{StepFault}
 use Rattle.bloom_eval.proofs.Widths.{length-sets_of}
-use Rattle.bloom_index.specs.declared.memo.Memo.{Memo}
+use Rattle.bloom_index.specs.declared.plan.Plan.{Plan}
 use Rattle.bloom_index.specs.declared.step.Parts.{Parts}
-use Rattle.bloom_index.specs.Code.Kept.{tables_in, held_over, kept_tables, PartsStand, KeptStands}
-use Rattle.bloom_index.specs.Code.Lasting.{GrowLast}
-use Rattle.bloom_index.specs.Code.SideParts.{BodiesStand, AreKept}
+use Rattle.bloom_index.specs.Code.Kept.{tables_in, held_over, kept_tables, PlansStand, PartsStand, KeptStands}
+use Rattle.bloom_index.specs.Code.SideParts.{AreKept}
 use Rattle.bloom_index.proofs.LastsLemmas.{grow_last}
 
 module _ (a : Accepted) where
@@ -45,16 +42,14 @@ module _ (a : Accepted) where
 
   -- ---- sides
 
-  abbrev pub are_kept : (parts : Parts) → PartsStand a parts → (growing : List Bool) (memos : List Memo) → growing ≡ parts.growing.items → memos ≡ parts.memos.items → (rules : List NumberedRule) → AreNumbered a.form.collections a.form.rules rules → AreKept growing rules memos
-  are_kept parts stands growing memos is also rules numbered =
+  abbrev pub are_kept : (parts : Parts) → PartsStand a parts → (plans : List Plan) → plans ≡ parts.plans.items → AreKept parts.growing.items plans
+  are_kept parts stands plans is =
       let sets = held_over a (tables_in a parts.rows.items) in
-      let grow = sym is in
-      let kept = sym also in
       record {
         lasting = parts.lasting.items;
         sets = sets;
-        last = subst (λ (marks : List Bool). GrowLast marks parts.lasting.items) grow (grow_last a parts.growing.items parts.lasting.items stands.growing stands.lasting);
-        stand = subst (λ (X : Type 0). X) (λ i. BodiesStand (grow i) parts.lasting.items sets rules (kept i)) (stands.memos rules numbered);
+        last = grow_last a parts.growing.items parts.lasting.items stands.growing stands.lasting;
+        stand = subst (PlansStand parts.growing.items parts.lasting.items sets) (sym is) stands.plans;
       }
 
 -- what holds of a step of an equal module, over tables that are kept and what arrives

@@ -25,15 +25,16 @@ use Rattle.bloom_forms.proofs.Ends.Equated.{length-at_end}
 use Rattle.bloom_forms.proofs.Ends.SameEnds.{same_by_places, none_at}
 use Rattle.bloom_growth.specs.declared.bag.Bag.{Bag}
 use Rattle.bloom_growth.specs.Bags.{IsBag}
-use Rattle.bloom_index.specs.declared.memo.Memo.{Memo}
+use Rattle.bloom_index.specs.declared.plan.Plan.{Plan}
 use Rattle.bloom_index.specs.declared.step.Parts.{Parts}
 use Rattle.bloom_index.specs.Code.Emptiness.{IsFresh, AreNoBags}
 use Rattle.bloom_index.specs.Code.Growth.{AreGrowing}
 use Rattle.bloom_index.specs.Code.Heads.{kept_rules}
 use Rattle.bloom_index.specs.Code.Kept.{tables_in, held_over, PartsStand}
 use Rattle.bloom_index.specs.Code.Lasting.{AreLasting}
+use Rattle.bloom_index.specs.Code.Plans.{rules_by}
+use Rattle.bloom_index.proofs.Copying.{fresh_plans}
 use Rattle.bloom_index.proofs.FreshLemmas.{AreEmpty, all_fresh, none_given, ends_empty, no_tables, no_ports, nothing_held}
-use Rattle.bloom_index.proofs.Renumbering.{renumbered}
 
 -- ---- rules
 
@@ -82,7 +83,7 @@ module _ (a : Accepted) where
 
   -- what is kept of all
   pub parts_fresh : (parts : Parts) (rules : List NumberedRule) → AreNumbered a.form.collections a.form.rules rules → AreGrowing a parts.growing.items → AreLasting a parts.lasting.items → parts.rows.items ≡ map (λ (c : Collection). []) a.form.collections
-      → AreNoBags (length a.form.collections) parts.bags.items → AllZip (λ (rule : NumberedRule) (memo : Memo). IsFresh parts.growing.items rule.body memo) rules parts.memos.items → PartsStand a parts
+      → AreNoBags (length a.form.collections) parts.bags.items → AllZip (λ (rule : NumberedRule) (plan : Plan). IsFresh parts.growing.items rule.body plan) rules parts.plans.items → PartsStand a parts
   parts_fresh parts rules numbered growing lasting none bags fresh =
       let cs = a.form.collections in
       let tables : tables_in a parts.rows.items ≡ empty_tables (Module a) = fresh_tables a parts.rows.items none in
@@ -95,7 +96,8 @@ module _ (a : Accepted) where
         growing = growing;
         lasting = lasting;
         rows = λ number grow. ap (λ (sets : Sets). set_at sets number) none ∙ none_at cs number ∙ sym (held number);
-        bags = λ others number bag also is other needs. subst (λ (rows : List Row). IsBag rows bag) (sym (none_given over held (kept_rules parts.lasting.items others number))) (bags.each bag (Has-slice_get parts.bags.items number bag is));
-        memos = renumbered a parts.growing.items parts.lasting.items over rules parts.memos.items numbered (all_fresh over held parts.growing.items parts.lasting.items rules parts.memos.items fresh);
+        numbered = fresh_plans cs parts.growing.items a.form.rules rules parts.plans.items numbered fresh;
+        bags = λ number bag is other needs. subst (λ (rows : List Row). IsBag rows bag) (sym (none_given over held (kept_rules parts.lasting.items (rules_by cs a.form.rules parts.plans.items) number))) (bags.each bag (Has-slice_get parts.bags.items number bag is));
+        plans = all_fresh over held parts.growing.items parts.lasting.items rules parts.plans.items fresh;
         still = subst (λ (t : Sets). tables_after a t (no_arrivals (Module a)) ≡ t) (sym tables) empty_still;
       }

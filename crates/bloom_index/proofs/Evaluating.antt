@@ -1,5 +1,5 @@
 -- The evaluation of an expression from that of its parts.
-use Rattle.std.proofs.Common.{◌≡◌, ℕ, ◌≤◌, Bool, true, false, List, ◌∷◌, ◌++◌, length, get_or, Result, Ok, Err, OnOk, refl, sym, subst, inl, inr}
+use Rattle.std.proofs.Common.{◌≡◌, ◌∙◌, ◌≤◌, Bool, true, false, List, ◌∷◌, ◌++◌, length, get_or, Result, Ok, Err, OnOk, refl, ap, sym, subst, inl, inr}
 use Rattle.std.specs.List.{All}
 use Rattle.std.specs.Result.{IsErrAnd}
 use Rattle.blz_value.specs.Members.{Has}
@@ -10,7 +10,6 @@ use Rattle.blz_set.specs.declared.fault.SetFault.{SetFault}
 use Rattle.blz_set.specs.declared.fault.SetFault.TheVariants.{TooManyRows, NoMemory}
 use Rattle.blz_set.proofs.Unions.{handed_on}
 use Rattle.bloom_forms.specs.declared.numbered.NumberedExpr.{NumberedExpr}
-use Rattle.bloom_forms.specs.declared.numbered.NumberedExpr as expr
 use Rattle.bloom_forms.specs.Step.{Sets}
 use Rattle.bloom_eval.specs.NumberedRows.{numbered_rows, numbered_sets, TestsFit}
 use Rattle.bloom_eval.specs.StepAnswers.{AllFit, SomeIsOver}
@@ -19,17 +18,17 @@ use Rattle.bloom_parts.specs.declared.change.Change.{Change}
 use Rattle.bloom_parts.specs.KeptParts.{PartChanges}
 use Rattle.bloom_parts.specs.Turns.{rows_in, HasTurned, Turns, TurnsTo}
 use Rattle.bloom_parts.proofs.Turning.{flagged, none_lost, turned_of}
-use Rattle.bloom_index.specs.declared.memo.Memo.{Memo}
-use Rattle.bloom_index.specs.declared.memo.Memo as memo
-use Rattle.bloom_index.specs.Code.Evaluation.{Stands, HaveGrown, JoinsFit, IsReady, Evaluates}
+use Rattle.bloom_index.specs.declared.plan.Plan.{Plan}
+use Rattle.bloom_index.specs.Code.Evaluation.{PlanStands, Stands, HaveGrown, JoinsFit, IsReady, Evaluates}
 use Rattle.bloom_index.specs.Code.Growth.{grows}
 use Rattle.bloom_index.specs.Code.Lasting.{lasts, KeepsEnough}
+use Rattle.bloom_index.specs.Code.Plans.{expr_of}
 use Rattle.bloom_index.proofs.Monotone.{grown}
 
 -- ---- readiness
 
--- readiness of equal expressions and memos
-abbrev pub moved : (e0 e : NumberedExpr) (m0 m : Memo) (held : List Change) → e0 ≡ e → m0 ≡ m → IsReady e0 m0 held → IsReady e m held
+-- readiness of equal expressions and plans
+abbrev pub moved : (e0 e : NumberedExpr) (m0 m : Plan) (held : List Change) → e0 ≡ e → m0 ≡ m → IsReady e0 m0 held → IsReady e m held
 moved e0 e m0 m held ee em ready = record {
   growing = ready.growing;
   lasting = ready.lasting;
@@ -37,23 +36,31 @@ moved e0 e m0 m held ee em ready = record {
   new = ready.new;
   turned = ready.turned;
   grown = ready.grown;
-  stands = subst (λ (x : Memo). Stands ready.growing ready.lasting ready.old e x) em (subst (λ (x : NumberedExpr). Stands ready.growing ready.lasting ready.old x m0) ee ready.stands);
+  stands = subst (λ (x : Plan). Stands ready.growing ready.lasting ready.old e x) em (subst (λ (x : NumberedExpr). Stands ready.growing ready.lasting ready.old x m0) ee ready.stands);
   enough = subst (KeepsEnough ready.lasting) ee ready.enough;
   fit_old = subst (TestsFit ready.old) ee ready.fit_old;
   fit = subst (TestsFit ready.new) ee ready.fit;
   wide = subst (JoinsFit ready.old ready.new) ee ready.wide;
 }
 
+-- readiness by the plan's own expression
+abbrev pub ready_here : (e : NumberedExpr) (m : Plan) (held : List Change) → IsReady e m held → IsReady (expr_of m) m held
+ready_here e m held ready = moved e (expr_of m) m m held (sym ready.stands.same) refl ready
+
+-- the same of an equal plan
+abbrev pub ready_as : (m0 m : Plan) (held : List Change) → m0 ≡ m → IsReady (expr_of m0) m0 held → IsReady (expr_of m) m held
+ready_as m0 m held is ready = moved (expr_of m0) (expr_of m) m0 m held (ap expr_of is) is ready
+
 -- readiness of a part
-abbrev pub part_of : (e e1 : NumberedExpr) (m m1 : Memo) (held : List Change) (ready : IsReady e m held) → Stands ready.growing ready.lasting ready.old e1 m1 → KeepsEnough ready.lasting e1 → TestsFit ready.old e1 → TestsFit ready.new e1 → JoinsFit ready.old ready.new e1 → IsReady e1 m1 held
-part_of e e1 m m1 held ready stands enough fit_old fit wide = record {
+abbrev pub part_of : (e : NumberedExpr) (m m1 : Plan) (held : List Change) (ready : IsReady e m held) → PlanStands ready.growing ready.lasting ready.old m1 → KeepsEnough ready.lasting (expr_of m1) → TestsFit ready.old (expr_of m1) → TestsFit ready.new (expr_of m1) → JoinsFit ready.old ready.new (expr_of m1) → IsReady (expr_of m1) m1 held
+part_of e m m1 held ready kept enough fit_old fit wide = record {
   growing = ready.growing;
   lasting = ready.lasting;
   old = ready.old;
   new = ready.new;
   turned = ready.turned;
   grown = ready.grown;
-  stands = stands;
+  stands = record { same = refl; kept = kept };
   enough = enough;
   fit_old = fit_old;
   fit = fit;
@@ -62,21 +69,33 @@ part_of e e1 m m1 held ready stands enough fit_old fit wide = record {
 
 -- ---- answers
 
--- what is answered of equal expressions and memos
-pub transport : (e0 e : NumberedExpr) (m0 m after : Memo) (held : List Change) (r : Result Change SetFault) (ee : e0 ≡ e) (em : m0 ≡ m) → ((ready : IsReady e m held) → Evaluates e m after held ready r) → (ready : IsReady e0 m0 held) → Evaluates e0 m0 after held ready r
+-- what is answered of equal expressions and plans
+pub transport : (e0 e : NumberedExpr) (m0 m after : Plan) (held : List Change) (r : Result Change SetFault) (ee : e0 ≡ e) (em : m0 ≡ m) → ((ready : IsReady e m held) → Evaluates e m after held ready r) → (ready : IsReady e0 m0 held) → Evaluates e0 m0 after held ready r
 transport e0 e m0 m after held (Ok change) ee em f ready =
     subst (λ (x : NumberedExpr). TurnsTo (lasts ready.lasting x) (numbered_rows ready.old x) (numbered_rows ready.new x) (Ok change) × Stands ready.growing ready.lasting ready.new x after × AllFit (numbered_sets ready.new x)) (sym ee) (f (moved e0 e m0 m held ee em ready))
 transport e0 e m0 m after held (Err TooManyRows) ee em f ready = subst (λ (x : NumberedExpr). SomeIsOver (numbered_sets ready.new x)) (sym ee) (f (moved e0 e m0 m held ee em ready))
 transport e0 e m0 m after held (Err NoMemory) ee em f ready = tt
 
+-- it is answered, by whatever expression the plan is ready
+abbrev pub IsAnswered : (m after : Plan) (held : List Change) → Result Change SetFault → Type 0
+IsAnswered m after held r = (e : NumberedExpr) (ready : IsReady e m held) → Evaluates e m after held ready r
+
+-- what is answered of an equal plan, which stands behind a box
+pub behind : (m0 m after : Plan) (held : List Change) (r : Result Change SetFault) → m ≡ m0 → IsAnswered m after held r → IsAnswered m0 after held r
+behind m0 m after held r is f e ready = transport e e m0 m after held r refl (sym is) (f e) ready
+
+-- what is answered by the plan's own expression is answered
+pub opened : (m0 m after : Plan) (held : List Change) (r : Result Change SetFault) → m0 ≡ m → ((ready : IsReady (expr_of m) m held) → Evaluates (expr_of m) m after held ready r) → IsAnswered m0 after held r
+opened m0 m after held r is f e ready = transport e (expr_of m) m0 m after held r (sym ready.stands.same ∙ ap expr_of is) is f ready
+
 -- a fault of a part is one of the whole
-pub refused : (e0 e e1 : NumberedExpr) (m0 m1 after after1 : Memo) (held : List Change) (r : Result Change SetFault) (fault : SetFault) (ready : IsReady e0 m0 held) (part : IsReady e1 m1 held) → e0 ≡ e → part.new ≡ ready.new → ((sets : Sets) (rows : List Row) → Has rows (numbered_sets sets e1) → Has rows (numbered_sets sets e)) → IsErrAnd r (λ d. d ≡ fault) → Evaluates e1 m1 after1 held part (Err fault) → Evaluates e0 m0 after held ready r
-refused e0 e e1 m0 m1 after after1 held r fault ready part ee same within is answers = subst (Evaluates e0 m0 after held ready) (sym (handed_on Change r fault is)) (go fault answers)
+pub refused : (e e1 : NumberedExpr) (m m1 after after1 : Plan) (held : List Change) (r : Result Change SetFault) (fault : SetFault) (ready : IsReady e m held) (part : IsReady e1 m1 held) → part.new ≡ ready.new → ((sets : Sets) (rows : List Row) → Has rows (numbered_sets sets e1) → Has rows (numbered_sets sets e)) → IsErrAnd r (λ d. d ≡ fault) → Evaluates e1 m1 after1 held part (Err fault) → Evaluates e m after held ready r
+refused e e1 m m1 after after1 held r fault ready part same within is answers = subst (Evaluates e m after held ready) (sym (handed_on Change r fault is)) (go fault answers)
   where
-    go : (d : SetFault) → Evaluates e1 m1 after1 held part (Err d) → Evaluates e0 m0 after held ready (Err d)
+    go : (d : SetFault) → Evaluates e1 m1 after1 held part (Err d) → Evaluates e m after held ready (Err d)
     go TooManyRows over = record {
       rows = over.rows;
-      stands = subst (λ (x : NumberedExpr). Has over.rows (numbered_sets ready.new x)) (sym ee) (subst (λ (sets : Sets). Has over.rows (numbered_sets sets e)) same (within part.new over.rows over.stands));
+      stands = subst (λ (sets : Sets). Has over.rows (numbered_sets sets e)) same (within part.new over.rows over.stands);
       over = over.over;
     }
     go NoMemory h = tt
@@ -85,7 +104,7 @@ pub both_fit : (left right : Sets) → AllFit left → AllFit right → AllFit (
 both_fit left right fit also rows h = elim (Has-append_cases rows left right h) [ inl l ↦ fit rows l | inr r ↦ also rows r ]
 
 -- what an operator answers, whose parts fit
-pub answered : (e : NumberedExpr) (m after : Memo) (held : List Change) (ready : IsReady e m held) (last : Bool) (sub : Sets) (r : Result Change SetFault) → last ≡ lasts ready.lasting e → numbered_sets ready.new e ≡ numbered_rows ready.new e ∷ sub → AllFit sub → TurnsTo last (numbered_rows ready.old e) (numbered_rows ready.new e) r → OnOk r (Stands ready.growing ready.lasting ready.new e after) → Evaluates e m after held ready r
+pub answered : (e : NumberedExpr) (m after : Plan) (held : List Change) (ready : IsReady e m held) (last : Bool) (sub : Sets) (r : Result Change SetFault) → last ≡ lasts ready.lasting e → numbered_sets ready.new e ≡ numbered_rows ready.new e ∷ sub → AllFit sub → TurnsTo last (numbered_rows ready.old e) (numbered_rows ready.new e) r → OnOk r (Stands ready.growing ready.lasting ready.new e after) → Evaluates e m after held ready r
 answered e m after held ready last sub (Ok change) same sets fit made stands = (
   flagged last (lasts ready.lasting e) (numbered_rows ready.old e) (numbered_rows ready.new e) (Ok change) same made,
   stands,
@@ -117,13 +136,3 @@ part_changes growing old new have e part t = record {
   turned = t;
   none_gone = λ g is. none_lost (numbered_rows old e) (numbered_rows new e) (rows_in part.rows) (rows_in part.gone) (turned_of (numbered_rows old e) (numbered_rows new e) part t is).0 (grown growing old new have e g).within;
 }
-
--- of a base nothing is kept, and of nothing else that stands for one
-pub base_stands : (growing lasting : List Bool) (old new : Sets) (number : ℕ) (m : Memo) → Stands growing lasting old (expr.Base number) m → Stands growing lasting new (expr.Base number) m
-base_stands growing lasting old new number memo.Base h = h
-base_stands growing lasting old new number (memo.Select' p m) h = h
-base_stands growing lasting old new number (memo.Project' p m bag) h = h
-base_stands growing lasting old new number (memo.Join' p a q b kept) h = h
-base_stands growing lasting old new number (memo.NotIn' p a q b kept) h = h
-base_stands growing lasting old new number (memo.Group' p m groups) h = h
-base_stands growing lasting old new number (memo.AtLeast' p m groups) h = h

@@ -1,7 +1,7 @@
 -- Where no collection holds a row, no expression has one, and what is kept before the first step stands.
 -- Over empty tables, with nothing arriving, no collection holds a row.
-use Rattle.std.proofs.Common.{◌≡◌, ◌∙◌, ◌++◌, ℕ, zero, suc, Bool, Option, None, Some, unwrap_or, List, [], ◌∷◌, length, refl, ap, sym, subst, arith}
-use Rattle.std.specs.Prelude.{slice_get, slice_set}
+use Rattle.std.proofs.Common.{◌≡◌, ◌∙◌, ◌++◌, ℕ, zero, suc, Bool, Option, None, Some, unwrap_or, List, [], ◌∷◌, length, refl, ap, sym, subst, inl, inr, arith}
+use Rattle.std.specs.Prelude.{◌&&◌, slice_get, slice_set}
 use Rattle.std.specs.Option.{option_map_or}
 use Rattle.std.specs.List.{AllZip, fold}
 use Rattle.blz_value.specs.declared.aggregate.Agg.TheVariants.{Count}
@@ -33,6 +33,8 @@ use Rattle.bloom_eval.specs.NumberedRows.{numbered_rows}
 use Rattle.bloom_growth.specs.declared.turn_joins.KeptJoin.{KeptJoin}
 use Rattle.bloom_growth.specs.declared.turn_notins.KeptNotIn.{KeptNotIn}
 use Rattle.bloom_growth.specs.Bags.{IsBag}
+use Rattle.bloom_growth.specs.TurningGroups.{AreFreshTallies}
+use Rattle.bloom_growth.specs.Whole.{counted_rows}
 use Rattle.bloom_growth.specs.Kept.{Kept}
 use Rattle.bloom_growth.proofs.Fresh.{none_found, tallies_of_none}
 use Rattle.bloom_growth.proofs.KeyedLemmas.{keyed_of_none}
@@ -40,12 +42,14 @@ use Rattle.bloom_parts.specs.declared.part_rows.PartRows.{PartRows}
 use Rattle.bloom_parts.specs.FreshParts.{IsFreshPart, IsFreshJoin, IsFreshNotIn}
 use Rattle.bloom_parts.specs.KeptParts.{PartStands, JoinStands, NotInStands}
 use Rattle.bloom_parts.specs.PartForms.{kept_of}
-use Rattle.bloom_index.specs.declared.memo.Memo.{Memo}
-use Rattle.bloom_index.specs.declared.memo.Memo as memo
-use Rattle.bloom_index.specs.Code.Evaluation.{Stands}
+use Rattle.bloom_index.specs.declared.plan.Plan.{Plan}
+use Rattle.bloom_index.specs.declared.plan.Plan as plan
+use Rattle.bloom_index.specs.Code.Evaluation.{PlanStands}
 use Rattle.bloom_index.specs.Code.Emptiness.{IsFresh}
 use Rattle.bloom_index.specs.Code.Heads.{rows_given}
-use Rattle.bloom_index.specs.Code.Kept.{held_over}
+use Rattle.bloom_index.specs.Code.Growth.{grows_at, grows}
+use Rattle.bloom_index.specs.Code.Kept.{held_over, PlansStand}
+use Rattle.bloom_index.specs.Code.Plans.{expr_of}
 use Rattle.bloom_index.specs.Sides.{module_sides, part_side, side_rows, SidePart}
 
 -- ---- what is kept
@@ -76,6 +80,20 @@ module _ (pairs : Pairs) (lefts rights : List Row) (none : lefts ≡ []) (also :
     right = part_of_none (rights_of pairs) rg rl rights (kept_of kept.right) fresh.right also;
   }
 
+-- the plan of an expression grows where the expression does
+fresh_grows : (growing : List Bool) (e : NumberedExpr) (m : Plan) → IsFresh growing e m → grows growing (expr_of m) ≡ grows growing e
+fresh_grows growing (expr.Base number) (plan.Base copy) fresh = ap (grows_at growing) fresh
+fresh_grows growing (expr.Select' p e test) (plan.Select' q m copy) fresh = fresh_grows growing e m fresh.0
+fresh_grows growing (expr.Project' p e columns) (plan.Project' q m copy bag) fresh = fresh_grows growing e m fresh.0
+fresh_grows growing (expr.Join' p l q r pairs) (plan.Join' s m t n copy kept) fresh =
+    let first = fresh_grows growing l m fresh.0 in
+    let second = fresh_grows growing r n fresh.1 in
+    λ i. first i && second i
+fresh_grows growing (expr.NotIn' p l q r pairs) (plan.NotIn' s m t n copy kept) fresh = refl
+fresh_grows growing (expr.Group' p e keys agg) (plan.Group' q m groups) fresh = refl
+fresh_grows growing (expr.AtLeast' p e keys bound) (plan.AtLeast' q m copy groups) fresh = fresh_grows growing e m fresh.0
+fresh_grows growing e m fresh = absurd fresh
+
 -- ---- where no collection holds a row
 
 -- no collection holds a row
@@ -92,26 +110,36 @@ module _ (sets : Sets) (empty : AreEmpty sets) where
   no_rows (expr.Group' p e keys agg) = ap (λ (rows : List Row). set_of (group_rows keys agg rows)) (no_rows e)
   no_rows (expr.AtLeast' p e keys bound) = ap (λ (rows : List Row). set_of (at_least_rows keys bound rows)) (no_rows e)
 
-  pub fresh_stands : (growing lasting : List Bool) (e : NumberedExpr) (m : Memo) → IsFresh growing e m → Stands growing lasting sets e m
-  fresh_stands growing lasting (expr.Base number) memo.Base fresh = tt
-  fresh_stands growing lasting (expr.Select' p e test) (memo.Select' q m) fresh = fresh_stands growing lasting e m fresh
-  fresh_stands growing lasting (expr.Project' p e columns) (memo.Project' q m bag) fresh =
-      (fresh_stands growing lasting e m fresh.0, λ last. subst (λ (rows : List Row). IsBag (project_rows columns rows) bag) (sym (no_rows e)) fresh.1)
-  fresh_stands growing lasting (expr.Join' p l q r pairs) (memo.Join' s m t n kept) fresh =
-      (fresh_stands growing lasting l m fresh.0, fresh_stands growing lasting r n fresh.1, join_of_none pairs (numbered_rows sets l) (numbered_rows sets r) (no_rows l) (no_rows r) _ _ _ _ kept fresh.2)
-  fresh_stands growing lasting (expr.NotIn' p l q r pairs) (memo.NotIn' s m t n kept) fresh =
-      (fresh_stands growing lasting l m fresh.0, fresh_stands growing lasting r n fresh.1, notin_of_none pairs (numbered_rows sets l) (numbered_rows sets r) (no_rows l) (no_rows r) _ _ _ kept fresh.2)
-  fresh_stands growing lasting (expr.Group' p e keys agg) (memo.Group' q m groups) fresh =
-      (fresh_stands growing lasting e m fresh.0, λ last. tallies_of_none keys agg (numbered_rows sets e) groups fresh.1 (no_rows e))
-  fresh_stands growing lasting (expr.AtLeast' p e keys bound) (memo.AtLeast' q m groups) fresh =
-      (fresh_stands growing lasting e m fresh.0, λ last. tallies_of_none keys Count (numbered_rows sets e) groups fresh.1 (no_rows e))
+  fresh_stands : (growing lasting : List Bool) (e : NumberedExpr) (m : Plan) → IsFresh growing e m → PlanStands growing lasting sets m
+  fresh_stands growing lasting (expr.Base number) (plan.Base copy) fresh = tt
+  fresh_stands growing lasting (expr.Select' p e test) (plan.Select' q m copy) fresh = fresh_stands growing lasting e m fresh.0
+  fresh_stands growing lasting (expr.Project' p e columns) (plan.Project' q m copy bag) fresh =
+      (fresh_stands growing lasting e m fresh.0, λ last. subst (λ (rows : List Row). IsBag (counted_rows copy rows) bag) (sym (no_rows (expr_of m))) fresh.2)
+  fresh_stands growing lasting (expr.Join' p l q r pairs) (plan.Join' s m t n copy kept) fresh =
+      let left_grows = fresh_grows growing l m fresh.0 in
+      let right_grows = fresh_grows growing r n fresh.1 in
+      let equated = fresh.2 in
+      let own : IsFreshJoin copy (grows growing (expr_of m)) (grows growing (expr_of n)) kept = subst (λ (X : Type 0). X) (λ i. IsFreshJoin (sym equated i) (sym left_grows i) (sym right_grows i) kept) fresh.3 in
+      (fresh_stands growing lasting l m fresh.0, fresh_stands growing lasting r n fresh.1, join_of_none copy (numbered_rows sets (expr_of m)) (numbered_rows sets (expr_of n)) (no_rows (expr_of m)) (no_rows (expr_of n)) _ _ _ _ kept own)
+  fresh_stands growing lasting (expr.NotIn' p l q r pairs) (plan.NotIn' s m t n copy kept) fresh =
+      let right_grows = fresh_grows growing r n fresh.1 in
+      let equated = fresh.2 in
+      let own : IsFreshNotIn copy (grows growing (expr_of n)) kept = subst (λ (X : Type 0). X) (λ i. IsFreshNotIn (sym equated i) (sym right_grows i) kept) fresh.3 in
+      (fresh_stands growing lasting l m fresh.0, fresh_stands growing lasting r n fresh.1, notin_of_none copy (numbered_rows sets (expr_of m)) (numbered_rows sets (expr_of n)) (no_rows (expr_of m)) (no_rows (expr_of n)) _ _ _ kept own)
+  fresh_stands growing lasting (expr.Group' p e keys agg) (plan.Group' q m groups) fresh =
+      let own : AreFreshTallies groups.keys.items groups.agg groups = record { keys_are = refl; agg_is = refl; none = fresh.1.none } in
+      (fresh_stands growing lasting e m fresh.0, λ last. tallies_of_none groups.keys.items groups.agg (numbered_rows sets (expr_of m)) groups own (no_rows (expr_of m)))
+  fresh_stands growing lasting (expr.AtLeast' p e keys bound) (plan.AtLeast' q m copy groups) fresh =
+      let own : AreFreshTallies groups.keys.items Count groups = record { keys_are = refl; agg_is = fresh.2.agg_is; none = fresh.2.none } in
+      (fresh_stands growing lasting e m fresh.0, λ last. tallies_of_none groups.keys.items Count (numbered_rows sets (expr_of m)) groups own (no_rows (expr_of m)))
   fresh_stands growing lasting e m fresh = absurd fresh
 
-  pub all_fresh : (growing lasting : List Bool) (rules : List NumberedRule) (memos : List Memo) → AllZip (λ (rule : NumberedRule) (memo : Memo). IsFresh growing rule.body memo) rules memos → AllZip (λ (rule : NumberedRule) (memo : Memo). Stands growing lasting sets rule.body memo) rules memos
-  all_fresh growing lasting [] [] fresh = tt
-  all_fresh growing lasting [] (m ∷ memos) fresh = absurd fresh
-  all_fresh growing lasting (r ∷ rules) [] fresh = absurd fresh
-  all_fresh growing lasting (r ∷ rules) (m ∷ memos) fresh = (fresh_stands growing lasting r.body m fresh.0, all_fresh growing lasting rules memos fresh.1)
+  pub all_fresh : (growing lasting : List Bool) (rules : List NumberedRule) (plans : List Plan) → AllZip (λ (rule : NumberedRule) (m : Plan). IsFresh growing rule.body m) rules plans → PlansStand growing lasting sets plans
+  all_fresh growing lasting [] [] fresh m among = absurd among
+  all_fresh growing lasting [] (n ∷ plans) fresh m among = absurd fresh
+  all_fresh growing lasting (r ∷ rules) [] fresh m among = absurd fresh
+  all_fresh growing lasting (r ∷ rules) (n ∷ plans) fresh m (inl e) = subst (PlanStands growing lasting sets) e (fresh_stands growing lasting r.body n fresh.0)
+  all_fresh growing lasting (r ∷ rules) (n ∷ plans) fresh m (inr among) = all_fresh growing lasting rules plans fresh.1 m among
 
   -- rules give nothing
   pub none_given : (rules : List NumberedRule) → rows_given sets rules ≡ []

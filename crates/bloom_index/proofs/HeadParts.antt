@@ -36,7 +36,7 @@ use Rattle.bloom_parts.specs.declared.change.Change.{Change}
 use Rattle.bloom_parts.specs.Bodies.{BodyRows, BodyTurns}
 use Rattle.bloom_parts.specs.Turns.{rows_in, HasTurned, Turns}
 use Rattle.bloom_index.specs.declared.heads.HeadParts.{HeadParts}
-use Rattle.bloom_index.specs.declared.memo.Memo.{Memo}
+use Rattle.bloom_index.specs.declared.plan.Plan.{Plan}
 use Rattle.bloom_index.specs.Code.Evaluation.{Evaluates}
 use Rattle.bloom_index.specs.Code.HeadRules.{AreReady, AddsRule, AreTurned, MakesParts}
 use Rattle.bloom_index.specs.Code.Heads.{body_of, bodies_of, kept_rules, passing_rules, rows_given}
@@ -98,7 +98,7 @@ rows_of_all old new part t is = subst (λ (b : Bool). HasTurned b old new (rows_
 
 -- ---- the rules so far
 
-module _ (rules : List NumberedRule) (head : ℕ) (memos : List Memo) (held : List Change) (ready : AreReady rules head memos held) where
+module _ (rules : List NumberedRule) (head : ℕ) (plans : List Plan) (held : List Change) (ready : AreReady rules head plans held) where
   -- the rows that the head's rules give
   pub ruled : (sets : Sets) → rows_given sets (own_rules rules head) ≡ ruled_at ready.a.form sets head
   ruled sets = named_rows ready.a.form.collections sets head ready.a.form.rules rules ready.numbered
@@ -133,18 +133,18 @@ module _ (rules : List NumberedRule) (head : ℕ) (memos : List Memo) (held : Li
       ]
 
   -- so many rules were evaluated: those that are kept changed, and the others gave the set
-  pub record ArePartsAt (i : ℕ) (parts : HeadParts) (now : List Memo) : Type 0 where
+  pub record ArePartsAt (i : ℕ) (parts : HeadParts) (now : List Plan) : Type 0 where
     pub each : AllZip BodyTurns (bodies_of ready.old ready.new (kept_rules ready.lasting (take i rules) head)) parts.changes.items
     pub rows : rows_in parts.rows ≡ set_of (rows_given ready.new (passing_rules ready.lasting (take i rules) head))
     pub fit : (rule : NumberedRule) → Has rule (take i rules) → rule.head ≡ head → AllFit (numbered_sets ready.new rule.body)
-    pub turned : AreTurned ready.growing ready.lasting ready.new rules head i memos now
+    pub turned : AreTurned ready.growing ready.lasting ready.new rules head i plans now
 
-  pub parts_begin : (parts : HeadParts) → parts.changes.items ≡ [] → rows_in parts.rows ≡ [] → ArePartsAt 0 parts memos
+  pub parts_begin : (parts : HeadParts) → parts.changes.items ≡ [] → rows_in parts.rows ≡ [] → ArePartsAt 0 parts plans
   parts_begin parts none empty = record {
     each = subst (λ (l : List Change). AllZip BodyTurns [] l) (sym none) tt;
     rows = empty;
     fit = λ rule h. absurd h;
-    turned = none_turned ready.growing ready.lasting ready.new rules head memos;
+    turned = none_turned ready.growing ready.lasting ready.new rules head plans;
   }
 
   module _ (i : ℕ) (rule : NumberedRule) (lt : i < length rules) (is : rule ≡ get_or rules i rule) where
@@ -175,22 +175,22 @@ module _ (rules : List NumberedRule) (head : ℕ) (memos : List Memo) (held : Li
           | inr o ↦ elim o [ inl e ↦ subst (λ (x : NumberedRule). AllFit (numbered_sets ready.new x.body)) e (own (ap (λ (x : NumberedRule). x.head) e ∙ same)) | inr n ↦ absurd n ]
         ]
 
-    pub parts_other : (parts parts2 : HeadParts) (now after : List Memo) → rule.head ≢ head → parts2 ≡ parts → after ≡ now → ArePartsAt i parts now → ArePartsAt (i + 1) parts2 after
+    pub parts_other : (parts parts2 : HeadParts) (now after : List Plan) → rule.head ≢ head → parts2 ≡ parts → after ≡ now → ArePartsAt i parts now → ArePartsAt (i + 1) parts2 after
     parts_other parts parts2 now after differ same put g =
         let apart = ne_eqb rule.head head differ in
         subst (λ (p : HeadParts). ArePartsAt (i + 1) p after) (sym same) (record {
           each = subst (λ (l : List NumberedRule). AllZip BodyTurns (bodies_of ready.old ready.new l) parts.changes.items) (sym (kept_same (ap (λ (b : Bool). b && lasts ready.lasting rule.body) apart))) g.each;
           rows = g.rows ∙ ap (λ (l : List NumberedRule). set_of (rows_given ready.new l)) (sym (passing_same (ap (λ (b : Bool). b && not (lasts ready.lasting rule.body)) apart)));
           fit = fit_more g.fit (λ own. absurd (differ own));
-          turned = other_turned ready.growing ready.lasting ready.new rules head i rule memos now after there differ put g.turned;
+          turned = other_turned ready.growing ready.lasting ready.new rules head i rule plans now after there differ put g.turned;
         })
 
-    module _ (same : rule.head ≡ head) (memo : Memo) (kept : slice_get memos i ≡ Some memo) where
+    module _ (same : rule.head ≡ head) (plan : Plan) (kept : slice_get plans i ≡ Some plan) where
       own : (rule.head == head) ≡ true
       own = eq-eqb rule.head head same
 
       -- a rule of the head that is kept changed
-      kept_own : (parts made : HeadParts) (change : Change) (now : List Memo) → IsTrue change.kept → change.kept ≡ lasts ready.lasting rule.body → Turns (numbered_rows ready.old rule.body) (numbered_rows ready.new rule.body) change
+      kept_own : (parts made : HeadParts) (change : Change) (now : List Plan) → IsTrue change.kept → change.kept ≡ lasts ready.lasting rule.body → Turns (numbered_rows ready.old rule.body) (numbered_rows ready.new rule.body) change
           → AddsRule {X = Unit {0}} change parts made (Ok (tt {0})) → ArePartsAt i parts now
           → AllZip BodyTurns (bodies_of ready.old ready.new (kept_rules ready.lasting (take (i + 1) rules) head)) made.changes.items × (rows_in made.rows ≡ set_of (rows_given ready.new (passing_rules ready.lasting (take (i + 1) rules) head)))
       kept_own parts made change now is_kept flag turns adds g =
@@ -210,7 +210,7 @@ module _ (rules : List NumberedRule) (head : ℕ) (memos : List Memo) (held : Li
           )
 
       -- another of the head gave its rows
-      passing_own : (parts made : HeadParts) (change : Change) (now : List Memo) → change.kept ≡ false → change.kept ≡ lasts ready.lasting rule.body → Turns (numbered_rows ready.old rule.body) (numbered_rows ready.new rule.body) change
+      passing_own : (parts made : HeadParts) (change : Change) (now : List Plan) → change.kept ≡ false → change.kept ≡ lasts ready.lasting rule.body → Turns (numbered_rows ready.old rule.body) (numbered_rows ready.new rule.body) change
           → AddsRule {X = Unit {0}} change parts made (Ok (tt {0})) → ArePartsAt i parts now
           → AllZip BodyTurns (bodies_of ready.old ready.new (kept_rules ready.lasting (take (i + 1) rules) head)) made.changes.items × (rows_in made.rows ≡ set_of (rows_given ready.new (passing_rules ready.lasting (take (i + 1) rules) head)))
       passing_own parts made change now not_kept flag turns adds g =
@@ -231,9 +231,9 @@ module _ (rules : List NumberedRule) (head : ℕ) (memos : List Memo) (held : Li
                 ∙ ap set_of (sym next),
           )
 
-      pub parts_own : (parts parts2 made : HeadParts) (change : Change) (now after : List Memo) (memo2 : Memo) → i < length now → parts2 ≡ made → after ≡ slice_set now i memo2
-          → Evaluates rule.body memo memo2 held (ready_at rules head memos held ready i rule memo lt is kept same) (Ok change) → AddsRule {X = Unit {0}} change parts made (Ok (tt {0})) → ArePartsAt i parts now → ArePartsAt (i + 1) parts2 after
-      parts_own parts parts2 made change now after memo2 within is_made put by adds g =
+      pub parts_own : (parts parts2 made : HeadParts) (change : Change) (now after : List Plan) (plan2 : Plan) → i < length now → parts2 ≡ made → after ≡ slice_set now i plan2
+          → Evaluates rule.body plan plan2 held (ready_at rules head plans held ready i rule plan lt is kept same) (Ok change) → AddsRule {X = Unit {0}} change parts made (Ok (tt {0})) → ArePartsAt i parts now → ArePartsAt (i + 1) parts2 after
+      parts_own parts parts2 made change now after plan2 within is_made put by adds g =
           let both : AllZip BodyTurns (bodies_of ready.old ready.new (kept_rules ready.lasting (take (i + 1) rules) head)) made.changes.items × (rows_in made.rows ≡ set_of (rows_given ready.new (passing_rules ready.lasting (take (i + 1) rules) head))) = elim (cases_Bool change.kept) [
             | inl is_kept ↦ kept_own parts made change now is_kept by.0.0 by.0.1 adds g
             | inr not_kept ↦ passing_own parts made change now not_kept by.0.0 by.0.1 adds g
@@ -242,15 +242,15 @@ module _ (rules : List NumberedRule) (head : ℕ) (memos : List Memo) (held : Li
             each = both.0;
             rows = both.1;
             fit = fit_more g.fit (λ e. by.2);
-            turned = own_turned ready.growing ready.lasting ready.new rules head i rule memos now after memo2 within there same put by.1 g.turned;
+            turned = own_turned ready.growing ready.lasting ready.new rules head i rule plans now after plan2 within there same put by.1 g.turned;
           })
 
       -- a fault of the evaluation
-      pub parts_refused : (after : List Memo) (memo2 : Memo) (r : Result HeadParts SetFault) (fault : SetFault) → IsErrAnd r (λ d. d ≡ fault)
-          → Evaluates rule.body memo memo2 held (ready_at rules head memos held ready i rule memo lt is kept same) (Err fault) → MakesParts rules head memos held ready after r
-      parts_refused after memo2 r fault was by = subst (MakesParts rules head memos held ready after) (sym (handed_on HeadParts r fault was)) (go fault by)
+      pub parts_refused : (after : List Plan) (plan2 : Plan) (r : Result HeadParts SetFault) (fault : SetFault) → IsErrAnd r (λ d. d ≡ fault)
+          → Evaluates rule.body plan plan2 held (ready_at rules head plans held ready i rule plan lt is kept same) (Err fault) → MakesParts rules head plans held ready after r
+      parts_refused after plan2 r fault was by = subst (MakesParts rules head plans held ready after) (sym (handed_on HeadParts r fault was)) (go fault by)
         where
-          go : (d : SetFault) → Evaluates rule.body memo memo2 held (ready_at rules head memos held ready i rule memo lt is kept same) (Err d) → MakesParts rules head memos held ready after (Err d)
+          go : (d : SetFault) → Evaluates rule.body plan plan2 held (ready_at rules head plans held ready i rule plan lt is kept same) (Err d) → MakesParts rules head plans held ready after (Err d)
           go TooManyRows over = record {
             rows = over.rows;
             stands = inr (subst (λ (l : Sets). Has over.rows l) (named_sets ready.a.form.collections ready.new head ready.a.form.rules rules ready.numbered)
@@ -260,9 +260,9 @@ module _ (rules : List NumberedRule) (head : ℕ) (memos : List Memo) (held : Li
           go NoMemory h = tt
 
       -- too many rows of the rules that aren't kept
-      pub parts_over : (parts made : HeadParts) (change : Change) (now after : List Memo) (memo2 : Memo) (r : Result HeadParts SetFault) (fault : SetFault) → IsErrAnd r (λ d. d ≡ fault)
-          → Evaluates rule.body memo memo2 held (ready_at rules head memos held ready i rule memo lt is kept same) (Ok change) → AddsRule {X = Unit {0}} change parts made (Err fault) → ArePartsAt i parts now → MakesParts rules head memos held ready after r
-      parts_over parts made change now after memo2 r fault was by adds g = subst (MakesParts rules head memos held ready after) (sym (handed_on HeadParts r fault was)) (go fault adds)
+      pub parts_over : (parts made : HeadParts) (change : Change) (now after : List Plan) (plan2 : Plan) (r : Result HeadParts SetFault) (fault : SetFault) → IsErrAnd r (λ d. d ≡ fault)
+          → Evaluates rule.body plan plan2 held (ready_at rules head plans held ready i rule plan lt is kept same) (Ok change) → AddsRule {X = Unit {0}} change parts made (Err fault) → ArePartsAt i parts now → MakesParts rules head plans held ready after r
+      parts_over parts made change now after plan2 r fault was by adds g = subst (MakesParts rules head plans held ready after) (sym (handed_on HeadParts r fault was)) (go fault adds)
         where
           within : change.kept ≡ false → IsWithin (set_of (rows_in parts.rows ++ rows_in change.rows)) (set_of (ruled_at ready.a.form ready.new head))
           within not_kept q h = Has-set_of q (ruled_at ready.a.form ready.new head) (elim (Has-append_cases q (rows_in parts.rows) (rows_in change.rows) (Has-from_set_of q (rows_in parts.rows ++ rows_in change.rows) h)) [
@@ -270,7 +270,7 @@ module _ (rules : List NumberedRule) (head : ℕ) (memos : List Memo) (held : Li
             | inr o ↦ in_ruled ready.new rule among same q (subst (λ (l : List Row). Has q l) (rows_of_all (numbered_rows ready.old rule.body) (numbered_rows ready.new rule.body) change by.0.1 not_kept) o)
           ])
 
-          go : (d : SetFault) → AddsRule {X = Unit {0}} change parts made (Err d) → MakesParts rules head memos held ready after (Err d)
+          go : (d : SetFault) → AddsRule {X = Unit {0}} change parts made (Err d) → MakesParts rules head plans held ready after (Err d)
           go TooManyRows over = record {
             rows = set_of (ruled_at ready.a.form ready.new head);
             stands = inl refl;
@@ -278,7 +278,7 @@ module _ (rules : List NumberedRule) (head : ℕ) (memos : List Memo) (held : Li
           }
           go NoMemory h = tt
 
-  pub parts_end : (i : ℕ) (parts : HeadParts) (now : List Memo) → length rules ≤ i → ArePartsAt i parts now → MakesParts rules head memos held ready now (Ok parts)
+  pub parts_end : (i : ℕ) (parts : HeadParts) (now : List Plan) → length rules ≤ i → ArePartsAt i parts now → MakesParts rules head plans held ready now (Ok parts)
   parts_end i parts now le g =
       let all = take_all i rules le in
       let kept = kept_rules ready.lasting rules head in
@@ -298,5 +298,5 @@ module _ (rules : List NumberedRule) (head : ℕ) (memos : List Memo) (held : Li
             let of = Has-from_flat_map (λ (r : NumberedRule). numbered_sets ready.new r.body) rows (own_rules rules head) (subst (λ (l : Sets). Has rows l) (sym (named_sets ready.a.form.collections ready.new head ready.a.form.rules rules ready.numbered)) h) in
             let own = Has-from_filter (λ (r : NumberedRule). r.head == head) of.0 rules of.1 in
             g.fit of.0 (subst (λ (l : List NumberedRule). Has of.0 l) (sym all) own.0) (eqb-true of.0.head head own.1) rows of.2,
-        all_turned ready.growing ready.lasting ready.new rules head i memos now ready.many le g.turned,
+        all_turned ready.growing ready.lasting ready.new rules head i plans now ready.many le g.turned,
       )

@@ -3,6 +3,7 @@ use Rattle.std.proofs.Common.{◌≡◌, ◌≢◌, ◌<◌, ◌≤◌, ◌+◌,
 use Rattle.std.specs.Prelude.{slice_get, slice_set}
 use Rattle.std.proofs.lemmas.Bool.{cases_eq}
 use Rattle.std.proofs.lemmas.List.{length-set}
+use Rattle.std.proofs.lemmas.Slice.Zip.{AllZip-long}
 use Rattle.std.proofs.lemmas.Option.{slice_get_read, slice_get_past, same_Some}
 use Rattle.blz_value.specs.Members.{Has}
 use Rattle.blz_value.specs.Record.{Row}
@@ -31,9 +32,9 @@ use Rattle.bloom_eval.proofs.Rules.{adds_none, adds_one, first_refused, IsFormAt
 use Rattle.bloom_eval.proofs.Widths.{wide_named}
 use Rattle.bloom_parts.specs.declared.change.Change.{Change}
 use Rattle.bloom_parts.specs.KeptParts.{IsWide}
-use Rattle.bloom_index.specs.declared.memo.Memo.{Memo}
+use Rattle.bloom_index.specs.declared.plan.Plan.{Plan}
 use Rattle.bloom_index.specs.Code.Evaluation.{IsReady, JoinsFit, Stands}
-use Rattle.bloom_index.specs.Code.HeadRules.{AreReady, AreTurned}
+use Rattle.bloom_index.specs.Code.HeadRules.{AreReady, HaveHeads, CanTurn, AreTurned}
 use Rattle.bloom_index.specs.Code.Heads.{GrowsBy}
 
 -- ---- places
@@ -101,7 +102,7 @@ none_adds X cs forms rules numbered sets head i le set sorted few x =
 
 -- ---- a rule of a head that is ready
 
--- the parts of joins have rows of one width, over sets of their widths
+-- the parts of joins and projects have rows of one width, over sets of their widths
 module _ (cs : List Collection) (old new : Sets) (wide_old : (name : Name) → AreWide (length (declared cs name)) (rows_named cs old name)) (wide_new : (name : Name) → AreWide (length (declared cs name)) (rows_named cs new name)) where
   part_wide : (q : Query) (e : NumberedExpr) → IsNumbered cs q e → IsWide (numbered_rows old e) (numbered_rows new e)
   part_wide q e is = record {
@@ -115,22 +116,47 @@ module _ (cs : List Collection) (old new : Sets) (wide_old : (name : Name) → A
   pub joins_fit : (q : Query) (e : NumberedExpr) → IsNumbered cs q e → JoinsFit old new e
   joins_fit (base name) (Base number) is = tt
   joins_fit (select q f) (Select' p e test) is = joins_fit q e is.0
-  joins_fit (project q items) (Project' p e columns) is = joins_fit q e is.0
+  joins_fit (project q items) (Project' p e columns) is = (joins_fit q e is.0, part_wide q e is.0)
   joins_fit (join a b pairs) (Join' p left r right numbers) is = (joins_fit a left is.0, joins_fit b right is.1, part_wide a left is.0, part_wide b right is.1)
   joins_fit (notin a b pairs) (NotIn' p left r right numbers) is = (joins_fit a left is.0, joins_fit b right is.1)
   joins_fit (group q keys agg name) (Group' p e numbers by) is = joins_fit q e is.0
   joins_fit (at_least q keys bound) (AtLeast' p e numbers count) is = joins_fit q e is.0
   joins_fit q e is = absurd is
 
-abbrev pub ready_at : (rules : List NumberedRule) (head : ℕ) (memos : List Memo) (held : List Change) (ready : AreReady rules head memos held) (i : ℕ) (rule : NumberedRule) (memo : Memo) → i < length rules → rule ≡ get_or rules i rule → slice_get memos i ≡ Some memo → rule.head ≡ head → IsReady rule.body memo held
-ready_at rules head memos held ready i rule memo lt is kept same = record {
+-- a rule at a place whose head is known
+pub record RuleAt (rules : List NumberedRule) (i head : ℕ) : Type 0 where
+  pub rule : NumberedRule
+  pub within : i < length rules
+  pub is : rule ≡ get_or rules i rule
+  pub head_is : rule.head ≡ head
+
+-- at each place stands a rule with the head of the one that is read there
+pub rule_at : (rules read : List NumberedRule) → HaveHeads rules read → (i : ℕ) (other : NumberedRule) → i < length read → other ≡ get_or read i other → RuleAt rules i other.head
+rule_at [] [] heads i other lt is = absurd (omega (arith, lt))
+rule_at [] (r ∷ read) heads i other lt is = absurd heads
+rule_at (rule ∷ rules) [] heads i other lt is = absurd heads
+rule_at (rule ∷ rules) (r ∷ read) heads zero other lt is = record { rule = rule; within = omega arith; is = refl; head_is = heads.0 ∙ sym (ap (λ (x : NumberedRule). x.head) is) }
+rule_at (rule ∷ rules) (r ∷ read) heads (suc i) other lt is =
+    let there = rule_at rules read heads.1 i other (omega (arith, lt)) is in
+    record { rule = there.rule; within = omega (arith, there.within); is = there.is; head_is = there.head_is }
+
+-- there is a plan for each rule that is read
+pub can_many : (read : List NumberedRule) (head : ℕ) (plans : List Plan) (held : List Change) (can : CanTurn read head plans held) → length plans ≡ length read
+can_many read head plans held can = can.ready.many ∙ sym (AllZip-long (λ (rule other : NumberedRule). rule.head ≡ other.head) can.rules read can.heads)
+
+-- past the last that is read there is no rule
+pub can_ended : (read : List NumberedRule) (head : ℕ) (plans : List Plan) (held : List Change) (can : CanTurn read head plans held) (i : ℕ) → length read ≤ i → length can.rules ≤ i
+can_ended read head plans held can i le = omega (arith, le, AllZip-long (λ (rule other : NumberedRule). rule.head ≡ other.head) can.rules read can.heads)
+
+abbrev pub ready_at : (rules : List NumberedRule) (head : ℕ) (plans : List Plan) (held : List Change) (ready : AreReady rules head plans held) (i : ℕ) (rule : NumberedRule) (plan : Plan) → i < length rules → rule ≡ get_or rules i rule → slice_get plans i ≡ Some plan → rule.head ≡ head → IsReady rule.body plan held
+ready_at rules head plans held ready i rule plan lt is kept same = record {
   growing = ready.growing;
   lasting = ready.lasting;
   old = ready.old;
   new = ready.new;
   turned = ready.turned;
   grown = ready.grown;
-  stands = ready.stands i rule memo (slice_get_read rules (length rules) i rule refl lt is) kept same;
+  stands = ready.stands i rule plan (slice_get_read rules (length rules) i rule refl lt is) kept same;
   enough = ready.enough rule (subst (λ (r : NumberedRule). Has r rules) (sym is) (Has-get_or rules i rule lt));
   fit_old = tests_fit ready.a.form.collections ready.old (wide_named ready.a.form.collections ready.old ready.wide_old) (form_at ready.a.form.collections ready.a.form.rules rules i rule ready.numbered lt is).form.1 rule.body (form_at ready.a.form.collections ready.a.form.rules rules i rule ready.numbered lt is).is.body;
   fit = tests_fit ready.a.form.collections ready.new (wide_named ready.a.form.collections ready.new ready.wide) (form_at ready.a.form.collections ready.a.form.rules rules i rule ready.numbered lt is).form.1 rule.body (form_at ready.a.form.collections ready.a.form.rules rules i rule ready.numbered lt is).is.body;
@@ -140,35 +166,35 @@ ready_at rules head memos held ready i rule memo lt is kept same = record {
 -- ---- what is kept of the rules so far
 
 module _ (growing lasting : List Bool) (new : Sets) (rules : List NumberedRule) (head : ℕ) where
-  pub none_turned : (was : List Memo) → AreTurned growing lasting new rules head 0 was was
+  pub none_turned : (was : List Plan) → AreTurned growing lasting new rules head 0 was was
   none_turned was = record {
     many = refl;
-    own = λ k rule memo lt. absurd (omega (arith, lt));
+    own = λ k rule plan lt. absurd (omega (arith, lt));
     other = λ k rule lt. absurd (omega (arith, lt));
     later = λ k le. refl;
   }
 
-  pub own_turned : (i : ℕ) (rule : NumberedRule) (was now after : List Memo) (memo : Memo) → i < length now → slice_get rules i ≡ Some rule → rule.head ≡ head → after ≡ slice_set now i memo → Stands growing lasting new rule.body memo
+  pub own_turned : (i : ℕ) (rule : NumberedRule) (was now after : List Plan) (plan : Plan) → i < length now → slice_get rules i ≡ Some rule → rule.head ≡ head → after ≡ slice_set now i plan → Stands growing lasting new rule.body plan
       → AreTurned growing lasting new rules head i was now → AreTurned growing lasting new rules head (i + 1) was after
-  own_turned i rule was now after memo lt here same put stands t = record {
-    many = ap length put ∙ length-set now i memo ∙ t.many;
+  own_turned i rule was now after plan lt here same put stands t = record {
+    many = ap length put ∙ length-set now i plan ∙ t.many;
     own = λ k r m below at kept own. elim (cases_eq k i) [
       | inl e ↦
           let rule_is : r ≡ rule = same_Some r rule (sym at ∙ ap (slice_get rules) e ∙ here) in
-          let memo_is : m ≡ memo = same_Some m memo (sym kept ∙ ap (λ (l : List Memo). slice_get l k) put ∙ ap (slice_get (slice_set now i memo)) e ∙ got_set now i memo lt) in
-          subst (λ (z : NumberedRule). Stands growing lasting new z.body m) (sym rule_is) (subst (Stands growing lasting new rule.body) (sym memo_is) stands)
-      | inr differ ↦ t.own k r m (omega (arith, below, differ)) at (sym (got_other now i k memo differ) ∙ sym (ap (λ (l : List Memo). slice_get l k) put) ∙ kept) own
+          let plan_is : m ≡ plan = same_Some m plan (sym kept ∙ ap (λ (l : List Plan). slice_get l k) put ∙ ap (slice_get (slice_set now i plan)) e ∙ got_set now i plan lt) in
+          subst (λ (z : NumberedRule). Stands growing lasting new z.body m) (sym rule_is) (subst (Stands growing lasting new rule.body) (sym plan_is) stands)
+      | inr differ ↦ t.own k r m (omega (arith, below, differ)) at (sym (got_other now i k plan differ) ∙ sym (ap (λ (l : List Plan). slice_get l k) put) ∙ kept) own
     ];
     other = λ k r below at apart. elim (cases_eq k i) [
       | inl e ↦
           let rule_is : r ≡ rule = same_Some r rule (sym at ∙ ap (slice_get rules) e ∙ here) in
           absurd (apart (ap (λ (z : NumberedRule). z.head) rule_is ∙ same))
-      | inr differ ↦ ap (λ (l : List Memo). slice_get l k) put ∙ got_other now i k memo differ ∙ t.other k r (omega (arith, below, differ)) at apart
+      | inr differ ↦ ap (λ (l : List Plan). slice_get l k) put ∙ got_other now i k plan differ ∙ t.other k r (omega (arith, below, differ)) at apart
     ];
-    later = λ k le. ap (λ (l : List Memo). slice_get l k) put ∙ got_other now i k memo (λ e. absurd (omega (arith, e, le))) ∙ t.later k (omega (arith, le));
+    later = λ k le. ap (λ (l : List Plan). slice_get l k) put ∙ got_other now i k plan (λ e. absurd (omega (arith, e, le))) ∙ t.later k (omega (arith, le));
   }
 
-  pub other_turned : (i : ℕ) (rule : NumberedRule) (was now after : List Memo) → slice_get rules i ≡ Some rule → rule.head ≢ head → after ≡ now → AreTurned growing lasting new rules head i was now → AreTurned growing lasting new rules head (i + 1) was after
+  pub other_turned : (i : ℕ) (rule : NumberedRule) (was now after : List Plan) → slice_get rules i ≡ Some rule → rule.head ≢ head → after ≡ now → AreTurned growing lasting new rules head i was now → AreTurned growing lasting new rules head (i + 1) was after
   other_turned i rule was now after here apart put t = subst (AreTurned growing lasting new rules head (i + 1) was) (sym put) (record {
     many = t.many;
     own = λ k r m below at kept own. elim (cases_eq k i) [
@@ -185,7 +211,7 @@ module _ (growing lasting : List Bool) (new : Sets) (rules : List NumberedRule) 
   })
 
   -- at the end nothing later is left
-  pub all_turned : (i : ℕ) (was now : List Memo) → length was ≡ length rules → length rules ≤ i → AreTurned growing lasting new rules head i was now → AreTurned growing lasting new rules head (length rules) was now
+  pub all_turned : (i : ℕ) (was now : List Plan) → length was ≡ length rules → length rules ≤ i → AreTurned growing lasting new rules head i was now → AreTurned growing lasting new rules head (length rules) was now
   all_turned i was now many le t = record {
     many = t.many;
     own = λ k r m below at kept own. t.own k r m (omega (arith, below, le)) at kept own;
@@ -195,6 +221,6 @@ module _ (growing lasting : List Bool) (new : Sets) (rules : List NumberedRule) 
 
 -- ---- what a rule answers
 
-pub grown_fault : (X : Type 0) (body : NumberedExpr) (m after : Memo) (held : List Change) (ready : IsReady body m held) (start rows new made : List Row) (fault : SetFault) → GrowsBy body m after held ready start rows new made (Err fault) → AddsRows {X = X} (numbered_rows ready.new body) (numbered_sets ready.new body) rows new (Err fault)
+pub grown_fault : (X : Type 0) (body : NumberedExpr) (m after : Plan) (held : List Change) (ready : IsReady body m held) (start rows new made : List Row) (fault : SetFault) → GrowsBy body m after held ready start rows new made (Err fault) → AddsRows {X = X} (numbered_rows ready.new body) (numbered_sets ready.new body) rows new (Err fault)
 grown_fault X body m after held ready start rows new made TooManyRows h = h
 grown_fault X body m after held ready start rows new made NoMemory h = tt

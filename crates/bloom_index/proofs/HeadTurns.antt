@@ -31,7 +31,7 @@ use Rattle.bloom_parts.specs.Turns.{rows_in}
 use Rattle.bloom_parts.proofs.BodiesLemmas.{few_olds, many_bodies}
 use Rattle.bloom_parts.proofs.Turning.{turned_into}
 use Rattle.bloom_index.specs.declared.heads.HeadParts.{HeadParts}
-use Rattle.bloom_index.specs.declared.memo.Memo.{Memo}
+use Rattle.bloom_index.specs.declared.plan.Plan.{Plan}
 use Rattle.bloom_index.specs.Code.HeadRules.{AreReady, HasGiven, AllLast, MakesParts, TurnsHead, MakesHead, IsHeadMade, needs_bag, head_sets}
 use Rattle.bloom_index.specs.Code.Heads.{body_of, bodies_of, kept_rules, passing_rules, rows_given}
 use Rattle.bloom_index.specs.Code.Lasting.{lasts_at, lasts}
@@ -51,7 +51,7 @@ none_given whole rows sorted few = elim whole as (λ (b : Bool). AddsGiven b row
     own : rows ≡ set_of (rows ++ [])
     own = sym (ap set_of (append-nil rows) ∙ set_of-sorted rows sorted)
 
-module _ (rules : List NumberedRule) (head : ℕ) (memos : List Memo) (held : List Change) (ready : AreReady rules head memos held) where
+module _ (rules : List NumberedRule) (head : ℕ) (plans : List Plan) (held : List Change) (ready : AreReady rules head plans held) where
   -- the bodies of the rules that are kept
   abbrev pub Bodies : List BodyRows
   Bodies = bodies_of ready.old ready.new (kept_rules ready.lasting rules head)
@@ -72,7 +72,7 @@ module _ (rules : List NumberedRule) (head : ℕ) (memos : List Memo) (held : Li
     ])
 
     ruled_kept : (sets : Sets) → rows_given sets (kept_rules ready.lasting rules head) ≡ ruled_at ready.a.form sets head
-    ruled_kept sets = ap (rows_given sets) all_kept ∙ ruled rules head memos held ready sets
+    ruled_kept sets = ap (rows_given sets) all_kept ∙ ruled rules head plans held ready sets
 
     ruled_old : olds_of Bodies ≡ ruled_at ready.a.form ready.old head
     ruled_old = olds_are ∙ ruled_kept ready.old
@@ -99,8 +99,8 @@ module _ (rules : List NumberedRule) (head : ℕ) (memos : List Memo) (held : Li
     pub bag_before : (bag : Bag) → HasGiven ready.lasting ready.old rules head bag → ¬ (length Bodies ≡ 1) → IsBag (olds_of Bodies) bag
     bag_before bag given several = subst (λ (l : List Row). IsBag l bag) (sym olds_are) (given (several_need several))
 
-    pub head_turned : (parts : HeadParts) (bag after_bag : Bag) (turn : Turn) (change : Change) (after : List Memo) → change.kept ≡ true → rows_in change.rows ≡ turn.more → rows_in change.gone ≡ turn.gone → MakesParts rules head memos held ready after (Ok parts) → HasGiven ready.lasting ready.old rules head bag
-        → TurnsInto (set_of (olds_of Bodies)) (set_of (news_of Bodies)) (Ok turn) → (¬ (length Bodies ≡ 1) → IsBag (olds_of Bodies) bag → IsBag (news_of Bodies) after_bag) → TurnsHead rules head memos held ready after_bag after (Ok change)
+    pub head_turned : (parts : HeadParts) (bag after_bag : Bag) (turn : Turn) (change : Change) (after : List Plan) → change.kept ≡ true → rows_in change.rows ≡ turn.more → rows_in change.gone ≡ turn.gone → MakesParts rules head plans held ready after (Ok parts) → HasGiven ready.lasting ready.old rules head bag
+        → TurnsInto (set_of (olds_of Bodies)) (set_of (news_of Bodies)) (Ok turn) → (¬ (length Bodies ≡ 1) → IsBag (olds_of Bodies) bag → IsBag (news_of Bodies) after_bag) → TurnsHead rules head plans held ready after_bag after (Ok change)
     head_turned parts bag after_bag turn change after kept more gone made given turns ended =
         let old = set_of (ruled_at ready.a.form ready.old head) in
         let new = set_of (ruled_at ready.a.form ready.new head) in
@@ -113,18 +113,18 @@ module _ (rules : List NumberedRule) (head : ℕ) (memos : List Memo) (held : Li
         )
 
     -- a fault of its bag
-    pub head_turn_over : (bag : Bag) (after : List Memo) (r : Result Change SetFault) (fault : SetFault) → IsErrAnd r (λ d. d ≡ fault) → TurnsInto (set_of (olds_of Bodies)) (set_of (news_of Bodies)) (Err fault) → TurnsHead rules head memos held ready bag after r
-    head_turn_over bag after r fault was turns = subst (TurnsHead rules head memos held ready bag after) (sym (handed_on Change r fault was)) (go fault turns)
+    pub head_turn_over : (bag : Bag) (after : List Plan) (r : Result Change SetFault) (fault : SetFault) → IsErrAnd r (λ d. d ≡ fault) → TurnsInto (set_of (olds_of Bodies)) (set_of (news_of Bodies)) (Err fault) → TurnsHead rules head plans held ready bag after r
+    head_turn_over bag after r fault was turns = subst (TurnsHead rules head plans held ready bag after) (sym (handed_on Change r fault was)) (go fault turns)
       where
-        go : (d : SetFault) → TurnsInto (set_of (olds_of Bodies)) (set_of (news_of Bodies)) (Err d) → TurnsHead rules head memos held ready bag after (Err d)
+        go : (d : SetFault) → TurnsInto (set_of (olds_of Bodies)) (set_of (news_of Bodies)) (Err d) → TurnsHead rules head plans held ready bag after (Err d)
         go TooManyRows over = record { rows = set_of (ruled_at ready.a.form ready.new head); stands = inl refl; over = subst (λ (l : List Row). row_limit < length (set_of l)) ruled_new over }
         go NoMemory h = tt
 
   -- a fault of its rules
-  pub head_turn_refused : (bag : Bag) (parts after : List Memo) (r : Result Change SetFault) (fault : SetFault) → IsErrAnd r (λ d. d ≡ fault) → MakesParts rules head memos held ready parts (Err fault) → TurnsHead rules head memos held ready bag after r
-  head_turn_refused bag parts after r fault was made = subst (TurnsHead rules head memos held ready bag after) (sym (handed_on Change r fault was)) (go fault made)
+  pub head_turn_refused : (bag : Bag) (parts after : List Plan) (r : Result Change SetFault) (fault : SetFault) → IsErrAnd r (λ d. d ≡ fault) → MakesParts rules head plans held ready parts (Err fault) → TurnsHead rules head plans held ready bag after r
+  head_turn_refused bag parts after r fault was made = subst (TurnsHead rules head plans held ready bag after) (sym (handed_on Change r fault was)) (go fault made)
     where
-      go : (d : SetFault) → MakesParts rules head memos held ready parts (Err d) → TurnsHead rules head memos held ready bag after (Err d)
+      go : (d : SetFault) → MakesParts rules head plans held ready parts (Err d) → TurnsHead rules head plans held ready bag after (Err d)
       go TooManyRows over = over
       go NoMemory h = tt
 
@@ -145,12 +145,12 @@ module _ (rules : List NumberedRule) (head : ℕ) (memos : List Memo) (held : Li
       ∙ set_of-append_set others given
       ∙ ap (λ (l : List Row). set_of (others ++ l)) kept
       ∙ same_set_of (others ++ own) all (
-        λ q h. elim (Has-append_cases q others own h) [ inl o ↦ passing_rows ready.new q o | inr k ↦ kept_in rules head memos held ready ready.new q k ],
-        λ q h. elim (ruled_cases rules head memos held ready ready.new q h) [ inl o ↦ Has-append_left q others own o | inr k ↦ Has-append_right q others own k ],
+        λ q h. elim (Has-append_cases q others own h) [ inl o ↦ passing_rows ready.new q o | inr k ↦ kept_in rules head plans held ready ready.new q k ],
+        λ q h. elim (ruled_cases rules head plans held ready ready.new q h) [ inl o ↦ Has-append_left q others own o | inr k ↦ Has-append_right q others own k ],
       )
     where
       passing_rows : (sets : Sets) → IsWithin (rows_given sets (passing_rules ready.lasting rules head)) (ruled_at ready.a.form sets head)
-      passing_rows sets q h = passing_in rules head memos held ready sets (length rules) q (subst (λ (l : List NumberedRule). Has q (rows_given sets (passing_rules ready.lasting l head))) (sym (take_all (length rules) rules (omega arith))) h)
+      passing_rows sets q h = passing_in rules head plans held ready sets (length rules) q (subst (λ (l : List NumberedRule). Has q (rows_given sets (passing_rules ready.lasting l head))) (sym (take_all (length rules) rules (omega arith))) h)
 
   -- what comes of the rules that are kept is among what they give
   pub more_within : (turn : Turn) → TurnsInto (set_of (olds_of Bodies)) (set_of (news_of Bodies)) (Ok turn) → IsWithin turn.more (set_of (news_of Bodies))
@@ -188,10 +188,10 @@ module _ (rules : List NumberedRule) (head : ℕ) (memos : List Memo) (held : Li
       }
     where
       was_there : IsWithin (olds_of Bodies) (ruled_at ready.a.form ready.old head)
-      was_there q h = kept_in rules head memos held ready ready.old q (subst (λ (l : List Row). Has q l) olds_are h)
+      was_there q h = kept_in rules head plans held ready ready.old q (subst (λ (l : List Row). Has q l) olds_are h)
 
-  pub head_made : (whole : Bool) (parts : HeadParts) (bag : Bag) (turn : Turn) (set : List Row) (change : Change) (after : List Memo) → change.kept ≡ false → rows_in change.rows ≡ set → MakesParts rules head memos held ready after (Ok parts) → TurnsInto (set_of (olds_of Bodies)) (set_of (news_of Bodies)) (Ok turn)
-      → IsBag (news_of Bodies) bag → AddsGiven whole (rows_in parts.rows) (news_of Bodies) turn.more (Ok set) → MakesHead rules head memos held ready whole bag after (Ok change)
+  pub head_made : (whole : Bool) (parts : HeadParts) (bag : Bag) (turn : Turn) (set : List Row) (change : Change) (after : List Plan) → change.kept ≡ false → rows_in change.rows ≡ set → MakesParts rules head plans held ready after (Ok parts) → TurnsInto (set_of (olds_of Bodies)) (set_of (news_of Bodies)) (Ok turn)
+      → IsBag (news_of Bodies) bag → AddsGiven whole (rows_in parts.rows) (news_of Bodies) turn.more (Ok set) → MakesHead rules head plans held ready whole bag after (Ok change)
   head_made whole parts bag turn set change after kept is made turns stands adds = (
     kept,
     subst (IsHeadMade ready.a ready.old ready.new head whole) (sym is) (head_is_made whole (rows_in parts.rows) set turn made.1 made.2 turns adds),
@@ -200,8 +200,8 @@ module _ (rules : List NumberedRule) (head : ℕ) (memos : List Memo) (held : Li
   )
 
   -- where no rule is kept the others give all its rows, and its bag has none
-  pub head_passing : (whole : Bool) (parts : HeadParts) (bag : Bag) (change : Change) (after : List Memo) → length parts.changes.items ≡ 0 → change.kept ≡ false → rows_in change.rows ≡ rows_in parts.rows → length (rows_in parts.rows) ≤ row_limit
-      → MakesParts rules head memos held ready after (Ok parts) → IsBag (olds_of Bodies) bag → MakesHead rules head memos held ready whole bag after (Ok change)
+  pub head_passing : (whole : Bool) (parts : HeadParts) (bag : Bag) (change : Change) (after : List Plan) → length parts.changes.items ≡ 0 → change.kept ≡ false → rows_in change.rows ≡ rows_in parts.rows → length (rows_in parts.rows) ≤ row_limit
+      → MakesParts rules head plans held ready after (Ok parts) → IsBag (olds_of Bodies) bag → MakesHead rules head plans held ready whole bag after (Ok change)
   head_passing whole parts bag change after none kept is few made stands =
       let empty : Bodies ≡ [] = nil_from_length Bodies (many_bodies Bodies parts.changes.items made.0 ∙ none) in
       let others = rows_given ready.new (passing_rules ready.lasting rules head) in
@@ -217,29 +217,29 @@ module _ (rules : List NumberedRule) (head : ℕ) (memos : List Memo) (held : Li
       let all = ruled_at ready.a.form ready.new head in
       omega (arith, over, length-within (set_of rows) (set_of all) (sorted_set_of rows) (λ q h. Has-set_of q all (within q (Has-from_set_of q rows h))))
 
-  module _ (whole : Bool) (bag : Bag) (after : List Memo) (r : Result Change SetFault) (fault : SetFault) (was : IsErrAnd r (λ d. d ≡ fault)) where
-    pub head_make_refused : (parts : List Memo) → MakesParts rules head memos held ready parts (Err fault) → MakesHead rules head memos held ready whole bag after r
-    head_make_refused parts made = subst (MakesHead rules head memos held ready whole bag after) (sym (handed_on Change r fault was)) (go fault made)
+  module _ (whole : Bool) (bag : Bag) (after : List Plan) (r : Result Change SetFault) (fault : SetFault) (was : IsErrAnd r (λ d. d ≡ fault)) where
+    pub head_make_refused : (parts : List Plan) → MakesParts rules head plans held ready parts (Err fault) → MakesHead rules head plans held ready whole bag after r
+    head_make_refused parts made = subst (MakesHead rules head plans held ready whole bag after) (sym (handed_on Change r fault was)) (go fault made)
       where
-        go : (d : SetFault) → MakesParts rules head memos held ready parts (Err d) → MakesHead rules head memos held ready whole bag after (Err d)
+        go : (d : SetFault) → MakesParts rules head plans held ready parts (Err d) → MakesHead rules head plans held ready whole bag after (Err d)
         go TooManyRows over = over
         go NoMemory h = tt
 
-    pub head_kept_over : TurnsInto (set_of (olds_of Bodies)) (set_of (news_of Bodies)) (Err fault) → MakesHead rules head memos held ready whole bag after r
-    head_kept_over turns = subst (MakesHead rules head memos held ready whole bag after) (sym (handed_on Change r fault was)) (go fault turns)
+    pub head_kept_over : TurnsInto (set_of (olds_of Bodies)) (set_of (news_of Bodies)) (Err fault) → MakesHead rules head plans held ready whole bag after r
+    head_kept_over turns = subst (MakesHead rules head plans held ready whole bag after) (sym (handed_on Change r fault was)) (go fault turns)
       where
-        go : (d : SetFault) → TurnsInto (set_of (olds_of Bodies)) (set_of (news_of Bodies)) (Err d) → MakesHead rules head memos held ready whole bag after (Err d)
+        go : (d : SetFault) → TurnsInto (set_of (olds_of Bodies)) (set_of (news_of Bodies)) (Err d) → MakesHead rules head plans held ready whole bag after (Err d)
         go TooManyRows over = record {
           rows = set_of (ruled_at ready.a.form ready.new head);
           stands = inl refl;
-          over = ruled_over (news_of Bodies) (λ q h. kept_in rules head memos held ready ready.new q (subst (λ (l : List Row). Has q l) news_are h)) over;
+          over = ruled_over (news_of Bodies) (λ q h. kept_in rules head plans held ready ready.new q (subst (λ (l : List Row). Has q l) news_are h)) over;
         }
         go NoMemory h = tt
 
-    pub head_made_over : (rows more : List Row) → rows ≡ set_of (rows_given ready.new (passing_rules ready.lasting rules head)) → AddsGiven whole rows (news_of Bodies) more (Err fault) → MakesHead rules head memos held ready whole bag after r
-    head_made_over rows more passing adds = subst (MakesHead rules head memos held ready whole bag after) (sym (handed_on Change r fault was)) (go whole fault adds)
+    pub head_made_over : (rows more : List Row) → rows ≡ set_of (rows_given ready.new (passing_rules ready.lasting rules head)) → AddsGiven whole rows (news_of Bodies) more (Err fault) → MakesHead rules head plans held ready whole bag after r
+    head_made_over rows more passing adds = subst (MakesHead rules head plans held ready whole bag after) (sym (handed_on Change r fault was)) (go whole fault adds)
       where
-        go : (b : Bool) (d : SetFault) → AddsGiven b rows (news_of Bodies) more (Err d) → MakesHead rules head memos held ready whole bag after (Err d)
+        go : (b : Bool) (d : SetFault) → AddsGiven b rows (news_of Bodies) more (Err d) → MakesHead rules head plans held ready whole bag after (Err d)
         go true TooManyRows over = record { rows = set_of (ruled_at ready.a.form ready.new head); stands = inl refl; over = subst (λ (l : List Row). row_limit < length l) (made_is rows (news_of Bodies) passing news_are) over }
         go false TooManyRows over = record { rows = set_of (ruled_at ready.a.form ready.new head); stands = inl refl; over = subst (λ (l : List Row). row_limit < length l) (made_is rows (news_of Bodies) passing news_are) over }
         go true NoMemory h = tt

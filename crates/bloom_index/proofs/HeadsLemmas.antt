@@ -18,7 +18,7 @@ use Rattle.bloom_eval.specs.StepAnswers.{AllFit}
 use Rattle.bloom_parts.specs.declared.change.Change.{Change}
 use Rattle.bloom_parts.specs.Turns.{HasTurned}
 use Rattle.bloom_parts.proofs.Turning.{gets}
-use Rattle.bloom_index.specs.declared.memo.Memo.{Memo}
+use Rattle.bloom_index.specs.declared.plan.Plan.{Plan}
 use Rattle.bloom_growth.specs.Growth.{Extends, Takes}
 use Rattle.bloom_growth.proofs.Extending.{sorted_new, old_is_in, fresh_is_in, old_or_fresh}
 use Rattle.bloom_growth.proofs.TurnedLemmas.{held_or_not, came}
@@ -75,9 +75,9 @@ few_on start rows new first more e f = length-within (set_of (first ++ more)) ne
   | inr m ↦ fresh_is_in rows new more f q m
 ])
 
-module _ (body : NumberedExpr) (m after : Memo) (held : List Change) (ready : IsReady body m held) (start rows new made : List Row) (r : Result (Unit {0}) SetFault) (fault : SetFault) (is : IsErrAnd r (λ d. d ≡ fault)) where
+module _ (body : NumberedExpr) (m after : Plan) (held : List Change) (ready : IsReady body m held) (start rows new made : List Row) (r : Result (Unit {0}) SetFault) (fault : SetFault) (is : IsErrAnd r (λ d. d ≡ fault)) where
   -- a fault of the evaluation
-  pub head_refused : (after1 : Memo) → Evaluates body m after1 held ready (Err fault) → GrowsBy body m after held ready start rows new made r
+  pub head_refused : (after1 : Plan) → Evaluates body m after1 held ready (Err fault) → GrowsBy body m after held ready start rows new made r
   head_refused after1 h = subst (GrowsBy body m after held ready start rows new made) (sym (handed_on (Unit {0}) r fault is)) (go fault h)
     where
       go : (d : SetFault) → Evaluates body m after1 held ready (Err d) → GrowsBy body m after held ready start rows new made (Err d)
@@ -93,7 +93,7 @@ module _ (body : NumberedExpr) (m after : Memo) (held : List Change) (ready : Is
       go NoMemory h = tt
 
 -- the new rows of a head, which are never too many, are put to others
-pub head_put : (body : NumberedExpr) (m after : Memo) (held : List Change) (ready : IsReady body m held) (start rows took first more all : List Row) (r : Result (Unit {0}) SetFault)
+pub head_put : (body : NumberedExpr) (m after : Plan) (held : List Change) (ready : IsReady body m held) (start rows took first more all : List Row) (r : Result (Unit {0}) SetFault)
     → took ≡ set_of (rows ++ numbered_rows ready.new body) → length took ≤ row_limit → Stands ready.growing ready.lasting ready.new body after → AllFit (numbered_sets ready.new body) → Extends start rows first → Extends rows took more
     → OnOk r (all ≡ set_of (first ++ more)) → (r ≡ Err TooManyRows → row_limit < length (set_of (first ++ more))) → GrowsBy body m after held ready start rows took all r
 head_put body m after held ready start rows took first more all (Ok x) is few stands fits e f put over =

@@ -10,12 +10,13 @@ pub mod Monotone
 pub mod GrowsLemmas
 pub mod LastsLemmas
 pub mod Marking
+pub mod Copying
 pub mod FreshLemmas
 pub mod SideLemmas
 pub mod NamedNumbers
 pub mod KeptLemmas
 pub mod StandsAfter
-pub mod Renumbering
+pub mod PlanRules
 pub mod EmptyLemmas
 pub mod BodyLemmas
 pub mod SidePlaces

@@ -1,37 +1,28 @@
--- Sides one rule after the other, and one part of a rule after the other.
+-- Sides one plan after the other, and one part of a plan after the other.
 use Rattle.std.proofs.Common.{◌≡◌, ◌∙◌, ◌<◌, ◌+◌, ℕ, zero, suc, Bool, if◌then◌else◌, IsSomeAnd, List, [], ◌∷◌, ◌++◌, length, get_or, take, drop, slice_get, Bor, ap, sym, subst, arith}
-use Rattle.std.specs.List.{AllZip, flat_map}
+use Rattle.std.specs.List.{flat_map}
 use Rattle.std.specs.declared.ops.ControlFlow.{ControlFlow}
 use Rattle.std.specs.declared.ops.ControlFlow.TheVariants.{Continue, Break}
 use Rattle.std.proofs.lemmas.List.{append-nil, take_more, take-append-drop, drop_more, length-append}
 use Rattle.std.proofs.lemmas.List.Concat.{flat_map-append}
-use Rattle.std.proofs.lemmas.Slice.Zip.{AllZip-long}
+use Rattle.blz_value.specs.Members.{Has}
+use Rattle.blz_value.proofs.Membership.{Has-get_or}
 use Rattle.bloom_forms.specs.declared.numbered.NumberedExpr.{NumberedExpr}
-use Rattle.bloom_forms.specs.declared.numbered.NumberedExpr as expr
-use Rattle.bloom_forms.specs.declared.numbered.NumberedRule.{NumberedRule}
 use Rattle.bloom_forms.specs.Step.{Sets}
 use Rattle.bloom_parts.specs.declared.part_rows.PartRows.{PartRows}
 use Rattle.bloom_parts.specs.declared.part_rows.PartRows.TheVariants.{Growing, Keyed}
 use Rattle.bloom_parts.specs.KeptParts.{PartStands}
 use Rattle.bloom_parts.specs.PartForms.{kept_of}
-use Rattle.bloom_index.specs.declared.memo.Memo.{Memo}
-use Rattle.bloom_index.specs.declared.memo.Memo as shape
+use Rattle.bloom_index.specs.declared.plan.Plan.{Plan}
 use Rattle.bloom_growth.specs.declared.side.Side.{Side}
 use Rattle.bloom_eval.specs.NumberedRows.{numbered_rows}
-use Rattle.bloom_index.specs.Code.Evaluation.{Stands}
+use Rattle.bloom_index.specs.Code.Evaluation.{PlanStands}
 use Rattle.bloom_index.specs.Code.Growth.{grows}
 use Rattle.bloom_growth.specs.Sides.{IsSideOf}
 use Rattle.bloom_index.specs.Code.Lasting.{lasts, GrowLast}
-use Rattle.bloom_index.specs.Code.Memos.{part_kept}
-use Rattle.bloom_index.specs.Code.SideParts.{NumberedSide, grown_side, numbered_sides, rules_sides, IsKept, AreKept, HasRowsOf, IsSideAt, FindsOwn, Finds}
+use Rattle.bloom_index.specs.Code.Plans.{expr_of}
+use Rattle.bloom_index.specs.Code.SideParts.{NumberedSide, grown_side, numbered_sides, plans_sides, IsKept, AreKept, HasRowsOf, IsSideAt, FindsOwn, Finds}
 use Rattle.bloom_index.proofs.LastsLemmas.{grow_lasts}
-
--- the element at a place of two lists
-pub zip_at : {X Y : Type 0} (R : X → Y → Type 0) (xs : List X) (ys : List Y) (i : ℕ) (x : X) (y : Y) → AllZip R xs ys → i < length xs → x ≡ get_or xs i x → y ≡ get_or ys i y → R x y
-zip_at R [] ys i x y all lt ex ey = absurd (omega (arith, lt))
-zip_at R (u ∷ xs) [] i x y all lt ex ey = absurd all
-zip_at {X} {Y} R (u ∷ xs) (v ∷ ys) zero x y all lt ex ey = subst (λ (z : X). R z y) (sym ex) (subst (λ (w : Y). R u w) (sym ey) all.0)
-zip_at R (u ∷ xs) (v ∷ ys) (suc i) x y all lt ex ey = zip_at R xs ys i x y all.1 (omega (arith, lt)) ex ey
 
 -- a place in a later list, and in an earlier one
 pub at_after : {X : Type 0} (Q : X → Type 0) (before xs : List X) (k n : ℕ) → k + length before ≡ n → IsSomeAnd (slice_get xs k) Q → IsSomeAnd (slice_get (before ++ xs) n) Q
@@ -44,28 +35,28 @@ at_before Q [] more k h = absurd h
 at_before Q (x ∷ xs) more zero h = h
 at_before Q (x ∷ xs) more (suc k) h = at_before Q xs more k h
 
-module _ (growing : List Bool) (rules : List NumberedRule) where
-  abbrev own : NumberedRule → List NumberedSide
-  own rule = numbered_sides growing rule.body
+module _ (growing : List Bool) (plans : List Plan) where
+  abbrev own : Plan → List NumberedSide
+  own m = numbered_sides growing (expr_of m)
 
-  -- the sides with those of one rule more
-  pub sides_more : (i : ℕ) (rule : NumberedRule) → i < length rules → rule ≡ get_or rules i rule → rules_sides growing (take (i + 1) rules) ≡ rules_sides growing (take i rules) ++ own rule
-  sides_more i rule lt is =
-      ap (λ (l : List NumberedRule). flat_map own l) (take_more rules i rule lt ∙ ap (λ (r : NumberedRule). take i rules ++ r ∷ []) (sym is))
-      ∙ flat_map-append own (take i rules) (rule ∷ [])
-      ∙ ap (λ (l : List NumberedSide). flat_map own (take i rules) ++ l) (append-nil (own rule))
+  -- the sides with those of one plan more
+  pub sides_more : (i : ℕ) (m : Plan) → i < length plans → m ≡ get_or plans i m → plans_sides growing (take (i + 1) plans) ≡ plans_sides growing (take i plans) ++ own m
+  sides_more i m lt is =
+      ap (λ (l : List Plan). flat_map own l) (take_more plans i m lt ∙ ap (λ (n : Plan). take i plans ++ n ∷ []) (sym is))
+      ∙ flat_map-append own (take i plans) (m ∷ [])
+      ∙ ap (λ (l : List NumberedSide). flat_map own (take i plans) ++ l) (append-nil (own m))
 
-  -- those before a rule, its own and those after it
-  sides_split : (i : ℕ) (rule : NumberedRule) → i < length rules → rule ≡ get_or rules i rule → rules_sides growing rules ≡ rules_sides growing (take i rules) ++ (own rule ++ rules_sides growing (drop (i + 1) rules))
-  sides_split i rule lt is =
-      ap (λ (l : List NumberedRule). flat_map own l) (sym (take-append-drop i rules) ∙ ap (λ (l : List NumberedRule). take i rules ++ l) (drop_more rules i rule lt ∙ ap (λ (r : NumberedRule). r ∷ drop (i + 1) rules) (sym is)))
-      ∙ flat_map-append own (take i rules) (rule ∷ drop (i + 1) rules)
+  -- those before a plan, its own and those after it
+  sides_split : (i : ℕ) (m : Plan) → i < length plans → m ≡ get_or plans i m → plans_sides growing plans ≡ plans_sides growing (take i plans) ++ (own m ++ plans_sides growing (drop (i + 1) plans))
+  sides_split i m lt is =
+      ap (λ (l : List Plan). flat_map own l) (sym (take-append-drop i plans) ∙ ap (λ (l : List Plan). take i plans ++ l) (drop_more plans i m lt ∙ ap (λ (n : Plan). n ∷ drop (i + 1) plans) (sym is)))
+      ∙ flat_map-append own (take i plans) (m ∷ drop (i + 1) plans)
 
-  -- the side of a rule with a number is that of all rules with the number that counts those before it
-  pub side_of_all : (sets : Sets) (i : ℕ) (rule : NumberedRule) (left number : ℕ) (side : Side) → i < length rules → rule ≡ get_or rules i rule → left + length (rules_sides growing (take i rules)) ≡ number → IsSideAt sets (own rule) left side → IsSideAt sets (rules_sides growing rules) number side
-  side_of_all sets i rule left number side lt is passed at =
-      subst (λ (sides : List NumberedSide). IsSideAt sets sides number side) (sym (sides_split i rule lt is))
-      (at_after (HasRowsOf sets side) (rules_sides growing (take i rules)) (own rule ++ rules_sides growing (drop (i + 1) rules)) left number passed (at_before (HasRowsOf sets side) (own rule) (rules_sides growing (drop (i + 1) rules)) left at))
+  -- the side of a plan with a number is that of all plans with the number that counts those before it
+  pub side_of_all : (sets : Sets) (i : ℕ) (m : Plan) (left number : ℕ) (side : Side) → i < length plans → m ≡ get_or plans i m → left + length (plans_sides growing (take i plans)) ≡ number → IsSideAt sets (own m) left side → IsSideAt sets (plans_sides growing plans) number side
+  side_of_all sets i m left number side lt is passed at =
+      subst (λ (sides : List NumberedSide). IsSideAt sets sides number side) (sym (sides_split i m lt is))
+      (at_after (HasRowsOf sets side) (plans_sides growing (take i plans)) (own m ++ plans_sides growing (drop (i + 1) plans)) left number passed (at_before (HasRowsOf sets side) (own m) (plans_sides growing (drop (i + 1) plans)) left at))
 
 -- ---- one part after the other
 
@@ -93,57 +84,32 @@ part_finds growing lasting last e sets columns (Keyed rows) number (Continue lef
     let one : NumberedSide = record { part = e; columns = columns } in
     subst (λ (b : Bool). length (if b then one ∷ [] else []) + left ≡ number) stands.form (omega (arith, own))
 
--- what is kept of an expression has what is kept of another
-abbrev pub in_kept : (growing : List Bool) (e part : NumberedExpr) (m own : Memo) → (kept : IsKept growing e m) → Stands growing kept.lasting kept.sets part own → IsKept growing part own
-in_kept growing e part m own kept stands = record { lasting = kept.lasting; sets = kept.sets; last = kept.last; stands = stands }
+-- what is kept by a plan has what is kept by another
+abbrev pub in_kept : (growing : List Bool) (m n : Plan) → (kept : IsKept growing m) → PlanStands growing kept.lasting kept.sets n → IsKept growing n
+in_kept growing m n kept stands = record { lasting = kept.lasting; sets = kept.sets; last = kept.last; stands = stands }
 
--- what is found of equal expressions and memos
-pub transport : (growing : List Bool) (e0 e : NumberedExpr) (m0 m : Memo) (number : ℕ) (r : ControlFlow (Bor Side) ℕ) → e0 ≡ e → m0 ≡ m → ((kept : IsKept growing e m) → Finds kept.sets (numbered_sides growing e) number r)
-    → (kept : IsKept growing e0 m0) → Finds kept.sets (numbered_sides growing e0) number r
-transport growing e0 e m0 m number r ee em f kept =
-    let there : IsKept growing e m = in_kept growing e0 e m0 m kept (subst (λ (x : Memo). Stands growing kept.lasting kept.sets e x) em (subst (λ (x : NumberedExpr). Stands growing kept.lasting kept.sets x m0) ee kept.stands)) in
-    subst (λ (x : NumberedExpr). Finds kept.sets (numbered_sides growing x) number r) (sym ee) (f there)
+-- what is found of an equal plan
+pub transport : (m0 m : Plan) (number : ℕ) (r : ControlFlow (Bor Side) ℕ) → m0 ≡ m → ((growing : List Bool) (kept : IsKept growing m) → Finds kept.sets (numbered_sides growing (expr_of m)) number r)
+    → (growing : List Bool) (kept : IsKept growing m0) → Finds kept.sets (numbered_sides growing (expr_of m0)) number r
+transport m0 m number r is f growing kept =
+    let there : IsKept growing m = in_kept growing m0 m kept (subst (PlanStands growing kept.lasting kept.sets) is kept.stands) in
+    subst (λ (x : Plan). Finds kept.sets (numbered_sides growing (expr_of x)) number r) (sym is) (f growing there)
 
--- the one part of an expression, and one without parts or of two itself
-abbrev part_of : NumberedExpr → NumberedExpr
-part_of (expr.Base number) = expr.Base number
-part_of (expr.Select' p e test) = e
-part_of (expr.Project' p e columns) = e
-part_of (expr.Join' p a q b pairs) = expr.Join' p a q b pairs
-part_of (expr.NotIn' p a q b pairs) = expr.NotIn' p a q b pairs
-part_of (expr.Group' p e keys agg) = e
-part_of (expr.AtLeast' p e keys bound) = e
+-- what is found of a plan in another that has the same sides, of which it is kept
+pub found_in : (m n : Plan) (number : ℕ) (r : ControlFlow (Bor Side) ℕ) → n ≡ m → ((growing : List Bool) (kept : IsKept growing n) → Finds kept.sets (numbered_sides growing (expr_of n)) number r)
+    → (growing : List Bool) (whole : Plan) (kept : IsKept growing whole) → PlanStands growing kept.lasting kept.sets m → Finds kept.sets (numbered_sides growing (expr_of m)) number r
+found_in m n number r is f growing whole kept stands = transport m n number r (sym is) f growing (in_kept growing whole m kept stands)
 
-pub kept_part : (growing lasting : List Bool) (sets : Sets) (e : NumberedExpr) (m : Memo) → Stands growing lasting sets e m → Stands growing lasting sets (part_of e) (part_kept m)
-kept_part growing lasting sets (expr.Base number) shape.Base stands = stands
-kept_part growing lasting sets (expr.Select' p e test) (shape.Select' q m) stands = stands
-kept_part growing lasting sets (expr.Project' p e columns) (shape.Project' q m bag) stands = stands.0
-kept_part growing lasting sets (expr.Join' p a q b pairs) (shape.Join' r m s n kept) stands = stands
-kept_part growing lasting sets (expr.NotIn' p a q b pairs) (shape.NotIn' r m s n kept) stands = stands
-kept_part growing lasting sets (expr.Group' p e keys agg) (shape.Group' q m groups) stands = stands.0
-kept_part growing lasting sets (expr.AtLeast' p e keys bound) (shape.AtLeast' q m groups) stands = stands.0
-kept_part growing lasting sets e m stands = absurd stands
+-- ---- what is kept by the plans
 
--- what is kept of an expression has what is kept of its part
-abbrev pub part_is_kept : (growing : List Bool) (e : NumberedExpr) (m : Memo) → IsKept growing e m → IsKept growing (part_of e) (part_kept m)
-part_is_kept growing e m kept = in_kept growing e (part_of e) m (part_kept m) kept (kept_part growing kept.lasting kept.sets e m kept.stands)
+module _ (growing : List Bool) (plans : List Plan) (all : AreKept growing plans) where
+  -- what is kept by the plan at a place
+  abbrev pub plan_at : (i : ℕ) (m : Plan) → i < length plans → m ≡ get_or plans i m → IsKept growing m
+  plan_at i m lt is = record { lasting = all.lasting; sets = all.sets; last = all.last; stands = all.stand m (subst (λ (n : Plan). Has n plans) (sym is) (Has-get_or plans i m lt)) }
 
--- ---- what is kept of the rules
-
-module _ (growing : List Bool) (rules : List NumberedRule) (memos : List Memo) (all : AreKept growing rules memos) where
-  abbrev Kept : NumberedRule → Memo → Type 0
-  Kept rule memo = Stands growing all.lasting all.sets rule.body memo
-
-  pub as_many : length memos ≡ length rules
-  as_many = AllZip-long Kept rules memos all.stand
-
-  -- what is kept of the rule at a place
-  abbrev pub body_at : (i : ℕ) (rule : NumberedRule) (memo : Memo) → i < length rules → rule ≡ get_or rules i rule → memo ≡ get_or memos i memo → IsKept growing rule.body memo
-  body_at i rule memo lt is also = record { lasting = all.lasting; sets = all.sets; last = all.last; stands = zip_at Kept rules memos i rule memo all.stand lt is also }
-
--- one rule more is passed
-pub passed_more : (growing : List Bool) (rules : List NumberedRule) (i : ℕ) (rule : NumberedRule) (left later number : ℕ) → i < length rules → rule ≡ get_or rules i rule → left + length (rules_sides growing (take i rules)) ≡ number
-    → length (numbered_sides growing rule.body) + later ≡ left → later + length (rules_sides growing (take (i + 1) rules)) ≡ number
-passed_more growing rules i rule left later number lt is before here =
-    let more : length (rules_sides growing (take (i + 1) rules)) ≡ length (rules_sides growing (take i rules) ++ numbered_sides growing rule.body) = ap (λ (l : List NumberedSide). length l) (sides_more growing rules i rule lt is) in
-    omega (arith, before, here, more, length-append (rules_sides growing (take i rules)) (numbered_sides growing rule.body))
+-- one plan more is passed
+pub passed_more : (growing : List Bool) (plans : List Plan) (i : ℕ) (m : Plan) (left later number : ℕ) → i < length plans → m ≡ get_or plans i m → left + length (plans_sides growing (take i plans)) ≡ number
+    → length (numbered_sides growing (expr_of m)) + later ≡ left → later + length (plans_sides growing (take (i + 1) plans)) ≡ number
+passed_more growing plans i m left later number lt is before here =
+    let more : length (plans_sides growing (take (i + 1) plans)) ≡ length (plans_sides growing (take i plans) ++ numbered_sides growing (expr_of m)) = ap (λ (l : List NumberedSide). length l) (sides_more growing plans i m lt is) in
+    omega (arith, before, here, more, length-append (plans_sides growing (take i plans)) (numbered_sides growing (expr_of m)))

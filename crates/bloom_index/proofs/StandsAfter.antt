@@ -1,6 +1,5 @@
 -- What is kept at the end of a step stands over the new tables, which stand still.
-use Rattle.std.proofs.Common.{◌≡◌, ℕ, Bool, IsTrue, List, [], ◌∷◌, length, Option, ap, ◌∙◌, sym, subst}
-use Rattle.std.specs.List.{AllZip}
+use Rattle.std.proofs.Common.{◌≡◌, ℕ, Bool, IsTrue, List, length, Option, ap, ◌∙◌, sym, subst}
 use Rattle.bloom_forms.specs.declared.module.Kind.{Kind}
 use Rattle.bloom_forms.specs.declared.module.Kind.TheVariants.{Input, Table}
 use Rattle.bloom_forms.specs.declared.numbered.NumberedRule.{NumberedRule}
@@ -16,49 +15,42 @@ use Rattle.bloom_forms.proofs.Ends.Equated.{length-at_end}
 use Rattle.bloom_forms.proofs.Ends.SameEnds.{same_kinds}
 use Rattle.bloom_forms.proofs.Ends.Standing.{module_stands}
 use Rattle.bloom_growth.specs.declared.bag.Bag.{Bag}
-use Rattle.bloom_index.specs.declared.memo.Memo.{Memo}
+use Rattle.bloom_index.specs.declared.plan.Plan.{Plan}
 use Rattle.bloom_index.specs.declared.step.Parts.{Parts}
-use Rattle.bloom_index.specs.Code.Evaluation.{Stands}
 use Rattle.bloom_index.specs.Code.Growth.{grows_at, kind_grows, rules_grow, AreGrowing}
-use Rattle.bloom_index.specs.Code.Kept.{tables_in, held_over, MemosStand, BagsStand, PartsStand}
+use Rattle.bloom_index.specs.Code.Kept.{tables_in, held_over, PlansStand, BagsStand, PartsStand}
 use Rattle.bloom_index.specs.Code.Lasting.{lasts_at, AreLasting, GrowLast}
+use Rattle.bloom_index.specs.Code.Plans.{expr_of, ArePlans, rules_by}
 use Rattle.bloom_index.proofs.KeptLemmas.{still_ends, after_ends, after_wide}
-use Rattle.bloom_index.proofs.StandsAlong.{agree_all, stands_along, given_along}
+use Rattle.bloom_index.proofs.StandsAlong.{agree_all, plan_along, given_along}
 
 -- ---- sets that hold the same of what is kept
 
-module _ (a : Accepted) (growing lasting : List Bool) (xs ys : Sets) (same : (k : ℕ) → IsTrue (lasts_at lasting k) → set_at xs k ≡ set_at ys k) where
-  bodies_along : (rules : List NumberedRule) (memos : List Memo) → AllZip (λ (rule : NumberedRule) (memo : Memo). Stands growing lasting xs rule.body memo) rules memos → AllZip (λ (rule : NumberedRule) (memo : Memo). Stands growing lasting ys rule.body memo) rules memos
-  bodies_along [] [] stand = stand
-  bodies_along [] (memo ∷ memos) stand = absurd stand
-  bodies_along (rule ∷ rules) [] stand = absurd stand
-  bodies_along (rule ∷ rules) (memo ∷ memos) stand = (stands_along growing lasting xs ys rule.body memo (agree_all lasting xs ys same rule.body) stand.0, bodies_along rules memos stand.1)
+-- what is kept by plans stands over both
+pub plans_along : (growing lasting : List Bool) (xs ys : Sets) → ((k : ℕ) → IsTrue (lasts_at lasting k) → set_at xs k ≡ set_at ys k) → (plans : List Plan) → PlansStand growing lasting xs plans → PlansStand growing lasting ys plans
+plans_along growing lasting xs ys same plans stand m among = plan_along growing lasting xs ys m (agree_all lasting xs ys same (expr_of m)) (stand m among)
 
-  -- what is kept of the rules stands over both
-  pub memos_along : (memos : List Memo) → MemosStand a growing lasting xs memos → MemosStand a growing lasting ys memos
-  memos_along memos stand rules numbered = bodies_along rules memos (stand rules numbered)
-
-  -- and so do the bags
-  pub bags_along : (bags : List Bag) → BagsStand a growing lasting xs bags → BagsStand a growing lasting ys bags
-  bags_along bags stand rules number bag numbered is other = given_along lasting xs ys rules number bag (λ rule among own. agree_all lasting xs ys same rule.body) (stand rules number bag numbered is other)
+-- and so do bags
+pub bags_along : (growing lasting : List Bool) (xs ys : Sets) → ((k : ℕ) → IsTrue (lasts_at lasting k) → set_at xs k ≡ set_at ys k) → (rules : List NumberedRule) (bags : List Bag) → BagsStand growing lasting xs rules bags → BagsStand growing lasting ys rules bags
+bags_along growing lasting xs ys same rules bags stand number bag is other = given_along lasting xs ys rules number bag (λ rule among own. agree_all lasting xs ys same rule.body) (stand number bag is other)
 
 module _ (a : Accepted) (checked : IsChecked a.form a.heads) (growing lasting : List Bool) where
   -- ---- the beginning of a step: what stands over tables that stand still, stands over what the collections hold with nothing arriving
 
-  pub memos_begin : (tables : Sets) → tables_after a tables (no_arrivals (Module a)) ≡ tables → (memos : List Memo) → MemosStand a growing lasting (held_over a tables) memos → MemosStand a growing lasting (at_end a tables (no_arrivals (Module a))) memos
-  memos_begin tables still memos stand = memos_along a growing lasting (held_over a tables) (at_end a tables (no_arrivals (Module a))) (λ k t. sym (still_ends a checked tables still k)) memos stand
+  pub plans_begin : (tables : Sets) → tables_after a tables (no_arrivals (Module a)) ≡ tables → (plans : List Plan) → PlansStand growing lasting (held_over a tables) plans → PlansStand growing lasting (at_end a tables (no_arrivals (Module a))) plans
+  plans_begin tables still plans stand = plans_along growing lasting (held_over a tables) (at_end a tables (no_arrivals (Module a))) (λ k t. sym (still_ends a checked tables still k)) plans stand
 
-  pub bags_begin : (tables : Sets) → tables_after a tables (no_arrivals (Module a)) ≡ tables → (bags : List Bag) → BagsStand a growing lasting (held_over a tables) bags → BagsStand a growing lasting (at_end a tables (no_arrivals (Module a))) bags
-  bags_begin tables still bags stand = bags_along a growing lasting (held_over a tables) (at_end a tables (no_arrivals (Module a))) (λ k t. sym (still_ends a checked tables still k)) bags stand
+  pub bags_begin : (tables : Sets) → tables_after a tables (no_arrivals (Module a)) ≡ tables → (rules : List NumberedRule) (bags : List Bag) → BagsStand growing lasting (held_over a tables) rules bags → BagsStand growing lasting (at_end a tables (no_arrivals (Module a))) rules bags
+  bags_begin tables still rules bags stand = bags_along growing lasting (held_over a tables) (at_end a tables (no_arrivals (Module a))) (λ k t. sym (still_ends a checked tables still k)) rules bags stand
 
   -- ---- its end
 
   module _ (are : AreLasting a lasting) (tables now : Sets) where
-    pub memos_after : (memos : List Memo) → MemosStand a growing lasting (at_end a tables now) memos → MemosStand a growing lasting (held_over a (tables_after a tables now)) memos
-    memos_after memos stand = memos_along a growing lasting (at_end a tables now) (held_over a (tables_after a tables now)) (after_ends a checked lasting are tables now) memos stand
+    pub plans_after : (plans : List Plan) → PlansStand growing lasting (at_end a tables now) plans → PlansStand growing lasting (held_over a (tables_after a tables now)) plans
+    plans_after plans stand = plans_along growing lasting (at_end a tables now) (held_over a (tables_after a tables now)) (after_ends a checked lasting are tables now) plans stand
 
-    pub bags_after : (bags : List Bag) → BagsStand a growing lasting (at_end a tables now) bags → BagsStand a growing lasting (held_over a (tables_after a tables now)) bags
-    bags_after bags stand = bags_along a growing lasting (at_end a tables now) (held_over a (tables_after a tables now)) (after_ends a checked lasting are tables now) bags stand
+    pub bags_after : (rules : List NumberedRule) (bags : List Bag) → BagsStand growing lasting (at_end a tables now) rules bags → BagsStand growing lasting (held_over a (tables_after a tables now)) rules bags
+    bags_after rules bags stand = bags_along growing lasting (at_end a tables now) (held_over a (tables_after a tables now)) (after_ends a checked lasting are tables now) rules bags stand
 
 -- ---- all that is kept
 
@@ -69,8 +61,9 @@ pub record AreEnded (a : Accepted) (growing lasting : List Bool) (tables now : S
   pub growing_is : parts.growing.items ≡ growing
   pub lasting_is : parts.lasting.items ≡ lasting
   pub rows : (k : ℕ) → IsTrue (grows_at growing k) → set_at parts.rows.items k ≡ set_at (at_end a tables now) k
-  pub memos : MemosStand a growing lasting (at_end a tables now) parts.memos.items
-  pub bags : BagsStand a growing lasting (at_end a tables now) parts.bags.items
+  pub numbered : ArePlans a.form.collections a.form.rules parts.plans.items
+  pub plans : PlansStand growing lasting (at_end a tables now) parts.plans.items
+  pub bags : BagsStand growing lasting (at_end a tables now) (rules_by a.form.collections a.form.rules parts.plans.items) parts.bags.items
 
 module _ (a : Accepted) (checked : IsChecked a.form a.heads) (growing lasting : List Bool) (grow : AreGrowing a growing) (last : AreLasting a lasting) (both : GrowLast growing lasting) (tables now : Sets) (parts : Parts) (ended : AreEnded a growing lasting tables now parts) where
   -- the tables among what is kept are the new ones
@@ -86,6 +79,7 @@ module _ (a : Accepted) (checked : IsChecked a.form a.heads) (growing lasting : 
       let mine : growing ≡ parts.growing.items = sym ended.growing_is in
       let own : lasting ≡ parts.lasting.items = sym ended.lasting_is in
       let still : StandsStill (Module a) = module_stands a checked in
+      let rules = rules_by a.form.collections a.form.rules parts.plans.items in
       record {
         many = ended.many;
         many_bags = ended.many_bags;
@@ -94,7 +88,8 @@ module _ (a : Accepted) (checked : IsChecked a.form a.heads) (growing lasting : 
         lasting = subst (AreLasting a) own last;
         rows = λ k g. let grows : IsTrue (grows_at growing k) = ap (λ (l : List Bool). grows_at l k) mine ∙ g in
             ended.rows k grows ∙ after_ends a checked lasting last tables now k (both k grows) ∙ ap (λ (l : Sets). set_at (held_over a l) k) back;
-        bags = subst (λ (X : Type 0). X) (λ i. BagsStand a (mine i) (own i) (held_over a (back i)) parts.bags.items) (bags_after a checked growing lasting last tables now parts.bags.items ended.bags);
-        memos = subst (λ (X : Type 0). X) (λ i. MemosStand a (mine i) (own i) (held_over a (back i)) parts.memos.items) (memos_after a checked growing lasting last tables now parts.memos.items ended.memos);
+        bags = subst (λ (X : Type 0). X) (λ i. BagsStand (mine i) (own i) (held_over a (back i)) rules parts.bags.items) (bags_after a checked growing lasting last tables now rules parts.bags.items ended.bags);
+        numbered = ended.numbered;
+        plans = subst (λ (X : Type 0). X) (λ i. PlansStand (mine i) (own i) (held_over a (back i)) parts.plans.items) (plans_after a checked growing lasting last tables now parts.plans.items ended.plans);
         still = subst (λ (l : Sets). tables_after a l (no_arrivals (Module a)) ≡ l) back (still.tables tables now);
       }

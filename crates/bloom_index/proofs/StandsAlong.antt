@@ -27,6 +27,7 @@ use Rattle.bloom_growth.specs.declared.bag.Bag.{Bag}
 use Rattle.bloom_growth.specs.declared.turn_joins.KeptJoin.{KeptJoin}
 use Rattle.bloom_growth.specs.declared.turn_notins.KeptNotIn.{KeptNotIn}
 use Rattle.bloom_growth.specs.Bags.{IsBag}
+use Rattle.bloom_growth.specs.Whole.{counted_rows}
 use Rattle.bloom_growth.specs.ByKey.{AreByKey}
 use Rattle.bloom_growth.specs.Kept.{Kept}
 use Rattle.bloom_growth.specs.Keyed.{IsKeyedBy}
@@ -34,13 +35,14 @@ use Rattle.bloom_growth.specs.TurningGroups.{TalliesStand}
 use Rattle.bloom_parts.specs.declared.part_rows.PartRows.{PartRows}
 use Rattle.bloom_parts.specs.KeptParts.{PartStands, JoinStands, NotInStands}
 use Rattle.bloom_parts.specs.PartForms.{kept_of}
-use Rattle.bloom_index.specs.declared.memo.Memo.{Memo}
-use Rattle.bloom_index.specs.declared.memo.Memo as memo
-use Rattle.bloom_index.specs.Code.Evaluation.{Stands}
+use Rattle.bloom_index.specs.declared.plan.Plan.{Plan}
+use Rattle.bloom_index.specs.declared.plan.Plan as plan
+use Rattle.bloom_index.specs.Code.Evaluation.{PlanStands, Stands}
 use Rattle.bloom_index.specs.Code.Growth.{grows}
 use Rattle.bloom_index.specs.Code.HeadRules.{HasGiven}
 use Rattle.bloom_index.specs.Code.Heads.{kept_rules, rows_given}
 use Rattle.bloom_index.specs.Code.Lasting.{lasts_at, lasts}
+use Rattle.bloom_index.specs.Code.Plans.{expr_of}
 
 -- the sets hold the same of each collection that is kept and stands in the expression
 abbrev pub AgreeOn : List Bool → (xs ys : Sets) → NumberedExpr → Type 0
@@ -143,23 +145,27 @@ notin_along pairs left right_grows right ls ms rs ss kept lefts rights s = recor
 }
 
 module _ (growing lasting : List Bool) (xs ys : Sets) where
-  pub stands_along : (e : NumberedExpr) (m : Memo) → AgreeOn lasting xs ys e → Stands growing lasting xs e m → Stands growing lasting ys e m
-  stands_along (expr.Base number) memo.Base agree s = s
-  stands_along (expr.Select' p e test) (memo.Select' q m) agree s = stands_along e m agree s
-  stands_along (expr.Project' p e columns) (memo.Project' q m bag) agree s = (
-    stands_along e m agree s.0,
-    λ t. subst (λ (rows : List Row). IsBag (project_rows columns rows) bag) (same_part lasting xs ys e agree t) (s.1 t),
+  pub plan_along : (m : Plan) → AgreeOn lasting xs ys (expr_of m) → PlanStands growing lasting xs m → PlanStands growing lasting ys m
+  plan_along (plan.Base number) agree s = s
+  plan_along (plan.Select' p m test) agree s = plan_along m agree s
+  plan_along (plan.Project' p m columns bag) agree s = (
+    plan_along m agree s.0,
+    λ t. subst (λ (rows : List Row). IsBag (counted_rows columns rows) bag) (same_part lasting xs ys (expr_of m) agree t) (s.1 t),
   )
-  stands_along (expr.Join' p a q b pairs) (memo.Join' r m t n kept) agree s = (
-    stands_along a m agree.0 s.0,
-    stands_along b n agree.1 s.1,
-    join_along pairs (grows growing a) (lasts lasting a) (grows growing b) (lasts lasting b) (numbered_rows xs a) (numbered_rows ys a) (numbered_rows xs b) (numbered_rows ys b) kept (same_part lasting xs ys a agree.0) (same_part lasting xs ys b agree.1) s.2,
+  plan_along (plan.Join' p m q n pairs kept) agree s = (
+    plan_along m agree.0 s.0,
+    plan_along n agree.1 s.1,
+    join_along pairs (grows growing (expr_of m)) (lasts lasting (expr_of m)) (grows growing (expr_of n)) (lasts lasting (expr_of n)) (numbered_rows xs (expr_of m)) (numbered_rows ys (expr_of m)) (numbered_rows xs (expr_of n)) (numbered_rows ys (expr_of n)) kept
+        (same_part lasting xs ys (expr_of m) agree.0) (same_part lasting xs ys (expr_of n) agree.1) s.2,
   )
-  stands_along (expr.NotIn' p a q b pairs) (memo.NotIn' r m t n kept) agree s = (
-    stands_along a m agree.0 s.0,
-    stands_along b n agree.1 s.1,
-    notin_along pairs (lasts lasting a) (grows growing b) (lasts lasting b) (numbered_rows xs a) (numbered_rows ys a) (numbered_rows xs b) (numbered_rows ys b) kept (same_part lasting xs ys a agree.0) (same_part lasting xs ys b agree.1) s.2,
+  plan_along (plan.NotIn' p m q n pairs kept) agree s = (
+    plan_along m agree.0 s.0,
+    plan_along n agree.1 s.1,
+    notin_along pairs (lasts lasting (expr_of m)) (grows growing (expr_of n)) (lasts lasting (expr_of n)) (numbered_rows xs (expr_of m)) (numbered_rows ys (expr_of m)) (numbered_rows xs (expr_of n)) (numbered_rows ys (expr_of n)) kept
+        (same_part lasting xs ys (expr_of m) agree.0) (same_part lasting xs ys (expr_of n) agree.1) s.2,
   )
-  stands_along (expr.Group' p e keys agg) (memo.Group' q m groups) agree s = (stands_along e m agree s.0, λ t. subst (λ (rows : List Row). TalliesStand keys agg rows groups) (same_part lasting xs ys e agree t) (s.1 t))
-  stands_along (expr.AtLeast' p e keys bound) (memo.AtLeast' q m groups) agree s = (stands_along e m agree s.0, λ t. subst (λ (rows : List Row). TalliesStand keys Count rows groups) (same_part lasting xs ys e agree t) (s.1 t))
-  stands_along e m agree s = absurd s
+  plan_along (plan.Group' p m groups) agree s = (plan_along m agree s.0, λ t. subst (λ (rows : List Row). TalliesStand groups.keys.items groups.agg rows groups) (same_part lasting xs ys (expr_of m) agree t) (s.1 t))
+  plan_along (plan.AtLeast' p m bound groups) agree s = (plan_along m agree s.0, λ t. subst (λ (rows : List Row). TalliesStand groups.keys.items Count rows groups) (same_part lasting xs ys (expr_of m) agree t) (s.1 t))
+
+  pub stands_along : (e : NumberedExpr) (m : Plan) → AgreeOn lasting xs ys e → Stands growing lasting xs e m → Stands growing lasting ys e m
+  stands_along e m agree s = record { same = s.same; kept = plan_along m (subst (AgreeOn lasting xs ys) (sym s.same) agree) s.kept }

@@ -34,17 +34,18 @@ use Rattle.bloom_eval.proofs.Widths.{columns_at, wide_at, all_wide, are_begun}
 use Rattle.bloom_growth.proofs.BagsLemmas.{extends_none}
 use Rattle.bloom_parts.specs.declared.change.Change.{Change}
 use Rattle.bloom_parts.specs.Turns.{HasTurnedAt, rows_in, HasTurned, Turns}
-use Rattle.bloom_index.specs.declared.memo.Memo.{Memo}
+use Rattle.bloom_index.specs.declared.plan.Plan.{Plan}
 use Rattle.bloom_index.specs.declared.step.Parts.{Parts}
 use Rattle.bloom_index.specs.Code.Evaluation.{Stands}
 use Rattle.bloom_index.specs.Code.Growth.{grows_at, kind_grows, rules_grow, IsGrown}
 use Rattle.bloom_index.specs.Code.Heads.{AreNew}
-use Rattle.bloom_index.specs.Code.Kept.{tables_in, held_over, MemosStand, BagsStand, PartsStand, PutsOut}
+use Rattle.bloom_index.specs.Code.Kept.{tables_in, held_over, PlansStand, BagsStand, PartsStand, PutsOut}
 use Rattle.bloom_index.specs.Code.Lasting.{lasts_at, rules_last}
+use Rattle.bloom_index.specs.Code.Plans.{rules_by}
 use Rattle.bloom_index.specs.Code.StepSets.{held_sets, IsBegunAt, AreBegunAt}
 use Rattle.bloom_index.proofs.KeptLemmas.{still_ends, quiet_wide}
-use Rattle.bloom_index.proofs.Renumbering.{renumbered, bags_renumbered}
-use Rattle.bloom_index.proofs.StandsAfter.{memos_begin, bags_begin, AreEnded, tables_ended, parts_ended}
+use Rattle.bloom_index.proofs.PlanRules.{rules_stand, plans_numbered, rules_are, plans_stand}
+use Rattle.bloom_index.proofs.StandsAfter.{plans_begin, bags_begin, AreEnded, tables_ended, parts_ended}
 use Rattle.bloom_index.proofs.StandsAlong.{given_along}
 use Rattle.bloom_index.proofs.StepHeads.{form_of, IsStep, quiet, both}
 use Rattle.bloom_index.proofs.StepNext.{grown_turns, IsMid}
@@ -196,7 +197,7 @@ module _ (a : Accepted) (rules : List NumberedRule) (growing lasting : List Bool
       let f = form_of cs a.form.rules rules st.numbered rule among in
       subst (λ (n : ℕ). Has n a.heads) (sym f.2.head) ((runnable a st.checked).rules f.0 f.1).head
 
-  module _ (parts : Parts) (held : List Change) (stands : PartsStand a parts) (growing_is : parts.growing.items ≡ growing) (lasting_is : parts.lasting.items ≡ lasting) (tables_are : tables ≡ tables_in a parts.rows.items) (sets : (k : ℕ) → IsRecordSet (set_at parts.rows.items k)) (begun_by : AreBegunAt a.form.collections lasting now (length a.form.collections) held) where
+  module _ (parts : Parts) (held : List Change) (stands : PartsStand a parts) (growing_is : parts.growing.items ≡ growing) (lasting_is : parts.lasting.items ≡ lasting) (tables_are : tables ≡ tables_in a parts.rows.items) (rules_is : rules_by a.form.collections a.form.rules parts.plans.items ≡ rules) (sets : (k : ℕ) → IsRecordSet (set_at parts.rows.items k)) (begun_by : AreBegunAt a.form.collections lasting now (length a.form.collections) held) where
     turned_at : (k : ℕ) (o : Option Change) → slice_get held k ≡ o → HasTurnedAt (lasts_at lasting k) (set_at past k) (set_at first k) o
     turned_at k None at =
         let le = past_none held k at in (
@@ -219,14 +220,16 @@ module _ (a : Accepted) (rules : List NumberedRule) (growing lasting : List Bool
           ],
         )
 
-    memos_over : MemosStand a growing lasting (quiet a tables) parts.memos.items
-    memos_over = memos_begin a st.checked growing lasting tables st.still parts.memos.items (subst (λ (X : Type 0). X) (λ i. MemosStand a (growing_is i) (lasting_is i) (held_over a (sym tables_are i)) parts.memos.items) stands.memos)
+    abbrev BodyStands : NumberedRule → Plan → Type 0
+    BodyStands rule plan = Stands growing lasting old rule.body plan
 
-    bags_over : BagsStand a growing lasting (quiet a tables) parts.bags.items
-    bags_over = bags_begin a st.checked growing lasting tables st.still parts.bags.items (subst (λ (X : Type 0). X) (λ i. BagsStand a (growing_is i) (lasting_is i) (held_over a (sym tables_are i)) parts.bags.items) stands.bags)
+    plans_over : AllZip BodyStands rules parts.plans.items
+    plans_over =
+        let plans = plans_begin a st.checked growing lasting tables st.still parts.plans.items (subst (λ (X : Type 0). X) (λ i. PlansStand (growing_is i) (lasting_is i) (held_over a (sym tables_are i)) parts.plans.items) stands.plans) in
+        subst (λ (l : List NumberedRule). AllZip BodyStands l parts.plans.items) rules_is (rules_stand a.form.collections growing lasting old a.form.rules parts.plans.items stands.numbered plans)
 
-    abbrev BodyStands : NumberedRule → Memo → Type 0
-    BodyStands rule memo = Stands growing lasting old rule.body memo
+    bags_over : BagsStand growing lasting (quiet a tables) rules parts.bags.items
+    bags_over = bags_begin a st.checked growing lasting tables st.still rules parts.bags.items (subst (λ (X : Type 0). X) (λ i. BagsStand (growing_is i) (lasting_is i) (held_over a (sym tables_are i)) (rules_is i) parts.bags.items) stands.bags)
 
     -- before the first head
     pub mid_starts : IsMid a rules growing lasting tables now st parts held a.heads
@@ -253,11 +256,11 @@ module _ (a : Accepted) (rules : List NumberedRule) (growing lasting : List Bool
       rows_left = λ k g has. stands.rows k (ap (λ (l : List Bool). grows_at l k) growing_is ∙ g) ∙ ap (λ (l : Sets). set_at (held_over a l) k) (sym tables_are) ∙ sym (still_ends a st.checked tables st.still k);
       rows_done = λ k g lacks. absurd (true≢false (sym g ∙ st.are.each k ∙ no_head (rules_grow a.form k) k lacks));
       bags_many = stands.many_bags;
-      bags_left = λ k bag at none has. bags_over rules k bag st.numbered at none;
-      bags_done = λ k bag at none lacks. given_along lasting old end rules k bag (λ rule among own. absurd (lacks (subst (λ (j : ℕ). Has j a.heads) own (rule_head rule among)))) (bags_over rules k bag st.numbered at none);
-      memos_many = AllZip-long BodyStands rules parts.memos.items (memos_over rules st.numbered);
-      memos_left = λ j rule memo at kept has. zip_at BodyStands rules parts.memos.items j rule memo (memos_over rules st.numbered) at kept;
-      memos_done = λ j rule memo at kept lacks. absurd (lacks (rule_head rule (got_has rules j rule at)));
+      bags_left = λ k bag at none has. bags_over k bag at none;
+      bags_done = λ k bag at none lacks. given_along lasting old end rules k bag (λ rule among own. absurd (lacks (subst (λ (j : ℕ). Has j a.heads) own (rule_head rule among)))) (bags_over k bag at none);
+      plans_many = AllZip-long BodyStands rules parts.plans.items plans_over;
+      plans_left = λ j rule plan at kept has. zip_at BodyStands rules parts.plans.items j rule plan plans_over at kept;
+      plans_done = λ j rule plan at kept lacks. absurd (lacks (rule_head rule (got_has rules j rule at)));
       outs = λ k out lacks. absurd (elim (derived_or cs k) [
         | inl derived ↦ lacks (st.checked.ordered.all k derived)
         | inr other ↦ elim other [
@@ -270,6 +273,10 @@ module _ (a : Accepted) (rules : List NumberedRule) (growing lasting : List Bool
   -- ---- the end
 
   module _ (parts : Parts) (held : List Change) (m : IsMid a rules growing lasting tables now st parts held []) where
+    -- each plan stands for its rule
+    all_stand : AllZip (λ (rule : NumberedRule) (plan : Plan). Stands growing lasting end rule.body plan) rules parts.plans.items
+    all_stand = zip_from (λ (rule : NumberedRule) (plan : Plan). Stands growing lasting end rule.body plan) rules parts.plans.items m.plans_many (λ j rule plan at kept. m.plans_done j rule plan at kept (λ none. none))
+
     ended : AreEnded a growing lasting tables now parts
     ended = record {
       many = m.rows_many;
@@ -277,9 +284,9 @@ module _ (a : Accepted) (rules : List NumberedRule) (growing lasting : List Bool
       growing_is = m.growing_is;
       lasting_is = m.lasting_is;
       rows = λ k g. m.rows_done k g (λ none. none);
-      memos = renumbered a growing lasting end rules parts.memos.items st.numbered
-          (zip_from (λ (rule : NumberedRule) (memo : Memo). Stands growing lasting end rule.body memo) rules parts.memos.items m.memos_many (λ j rule memo at kept. m.memos_done j rule memo at kept (λ none. none)));
-      bags = bags_renumbered a growing lasting end rules parts.bags.items st.numbered (λ k bag at none. m.bags_done k bag at none (λ none. none));
+      numbered = plans_numbered a.form.collections growing lasting end a.form.rules rules parts.plans.items st.numbered all_stand;
+      plans = plans_stand a.form.collections growing lasting end rules parts.plans.items all_stand;
+      bags = subst (λ (l : List NumberedRule). BagsStand growing lasting end l parts.bags.items) (sym (rules_are a.form.collections growing lasting end a.form.rules rules parts.plans.items st.numbered all_stand)) (λ k bag at none. m.bags_done k bag at none (λ lacks. lacks));
     }
 
     -- what is kept stands for the new tables

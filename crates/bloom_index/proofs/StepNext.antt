@@ -35,7 +35,7 @@ use Rattle.bloom_growth.proofs.TurnedLemmas.{came, comes, turned_by}
 use Rattle.bloom_parts.specs.declared.change.Change.{Change}
 use Rattle.bloom_parts.specs.Turns.{HasTurnedAt, rows_in, HasTurned, Turns}
 use Rattle.bloom_parts.proofs.Turning.{turned_of, turns_from}
-use Rattle.bloom_index.specs.declared.memo.Memo.{Memo}
+use Rattle.bloom_index.specs.declared.plan.Plan.{Plan}
 use Rattle.bloom_index.specs.declared.step.Parts.{Parts}
 use Rattle.bloom_index.specs.Code.Evaluation.{HaveTurned, Stands}
 use Rattle.bloom_index.specs.Code.Growth.{grows_at, IsGrown}
@@ -89,9 +89,9 @@ module _ (a : Accepted) (rules : List NumberedRule) (growing lasting : List Bool
     pub bags_many : length parts.bags.items ≡ length a.form.collections
     pub bags_left : (k : ℕ) (bag : Bag) → slice_get parts.bags.items k ≡ Some bag → grows_at growing k ≡ false → Has k left → HasGiven lasting (quiet a tables) rules k bag
     pub bags_done : (k : ℕ) (bag : Bag) → slice_get parts.bags.items k ≡ Some bag → grows_at growing k ≡ false → ¬ Has k left → HasGiven lasting (at_end a tables now) rules k bag
-    pub memos_many : length parts.memos.items ≡ length rules
-    pub memos_left : (j : ℕ) (rule : NumberedRule) (memo : Memo) → slice_get rules j ≡ Some rule → slice_get parts.memos.items j ≡ Some memo → Has rule.head left → Stands growing lasting (quiet a tables) rule.body memo
-    pub memos_done : (j : ℕ) (rule : NumberedRule) (memo : Memo) → slice_get rules j ≡ Some rule → slice_get parts.memos.items j ≡ Some memo → ¬ Has rule.head left → Stands growing lasting (at_end a tables now) rule.body memo
+    pub plans_many : length parts.plans.items ≡ length rules
+    pub plans_left : (j : ℕ) (rule : NumberedRule) (plan : Plan) → slice_get rules j ≡ Some rule → slice_get parts.plans.items j ≡ Some plan → Has rule.head left → Stands growing lasting (quiet a tables) rule.body plan
+    pub plans_done : (j : ℕ) (rule : NumberedRule) (plan : Plan) → slice_get rules j ≡ Some rule → slice_get parts.plans.items j ≡ Some plan → ¬ Has rule.head left → Stands growing lasting (at_end a tables now) rule.body plan
     pub outs : (k : ℕ) → kind_at a.form.collections k ≡ Some Output → ¬ Has k left → AreNew (set_at (quiet a tables) k) (set_at (at_end a tables now) k) (set_at (held_sets held) k)
 
   module _ (parts : Parts) (held : List Change) (h : ℕ) (left : List ℕ) (m : IsMid parts held (h ∷ left)) where
@@ -119,7 +119,7 @@ module _ (a : Accepted) (rules : List NumberedRule) (growing lasting : List Bool
     -- ---- what a head asks
 
     -- its rules can be evaluated
-    abbrev pub mid_ready : AreReady rules h parts.memos.items held
+    abbrev pub mid_ready : AreReady rules h parts.plans.items held
     mid_ready = record {
       a = a;
       growing = growing;
@@ -128,17 +128,17 @@ module _ (a : Accepted) (rules : List NumberedRule) (growing lasting : List Bool
       new = m.seen;
       numbered = st.numbered;
       few = few_rules a rules growing lasting tables now st;
-      many = m.memos_many;
+      many = m.plans_many;
       turned = m.turned;
       grown = m.view.grew;
       wide_old = m.wide_old;
       wide = m.wide;
       enough = keeps_enough a rules growing lasting tables now st;
-      stands = λ k rule memo at kept same. let among = Has-slice_get rules k rule at in
-          stands_along growing lasting old m.past rule.body memo (same_bodies old m.past old_past rule among same) (m.memos_left k rule memo at kept (inl (sym same)));
+      stands = λ k rule plan at kept same. let among = Has-slice_get rules k rule at in
+          stands_along growing lasting old m.past rule.body plan (same_bodies old m.past old_past rule among same) (m.plans_left k rule plan at kept (inl (sym same)));
     }
 
-    pub mid_old : IsTrue (grows_at growing h) → HasOldHead rules h parts.memos.items held mid_ready (set_at parts.rows.items h)
+    pub mid_old : IsTrue (grows_at growing h) → HasOldHead rules h parts.plans.items held mid_ready (set_at parts.rows.items h)
     mid_old grow rule among same t q here = subst (λ (l : List Row). Has q l) (sym (m.rows_left h grow (inl refl))) (old_head a rules growing lasting tables now st m.sets h left m.at m.past m.seen m.view rule among same t q here)
 
     pub mid_given : (bag : Bag) → slice_get parts.bags.items h ≡ Some bag → grows_at growing h ≡ false → HasGiven lasting m.past rules h bag
@@ -156,9 +156,9 @@ module _ (a : Accepted) (rules : List NumberedRule) (growing lasting : List Bool
       pub rows : parts2.rows.items ≡ slice_set parts.rows.items h (set_at parts2.rows.items h)
       pub bags : length parts2.bags.items ≡ length parts.bags.items
       pub others : (k : ℕ) → ¬ (k ≡ h) → slice_get parts2.bags.items k ≡ slice_get parts.bags.items k
-      pub grown : HasOldHead rules h parts.memos.items held mid_ready (set_at parts.rows.items h) → IsTrue (grows_at growing h) → GrowsHead rules h parts.memos.items held mid_ready (set_at parts.rows.items h) (set_at parts2.rows.items h) parts2.memos.items result
-      pub turned : (was is : Bag) → slice_get parts.bags.items h ≡ Some was → slice_get parts2.bags.items h ≡ Some is → HasGiven lasting m.past rules h was → AllLast lasting rules h → grows_at growing h ≡ false → IsTrue (lasts_at lasting h) → TurnsHead rules h parts.memos.items held mid_ready is parts2.memos.items result
-      pub made : (was is : Bag) → slice_get parts.bags.items h ≡ Some was → slice_get parts2.bags.items h ≡ Some is → HasGiven lasting m.past rules h was → grows_at growing h ≡ false → lasts_at lasting h ≡ false → MakesHead rules h parts.memos.items held mid_ready whole is parts2.memos.items result
+      pub grown : HasOldHead rules h parts.plans.items held mid_ready (set_at parts.rows.items h) → IsTrue (grows_at growing h) → GrowsHead rules h parts.plans.items held mid_ready (set_at parts.rows.items h) (set_at parts2.rows.items h) parts2.plans.items result
+      pub turned : (was is : Bag) → slice_get parts.bags.items h ≡ Some was → slice_get parts2.bags.items h ≡ Some is → HasGiven lasting m.past rules h was → AllLast lasting rules h → grows_at growing h ≡ false → IsTrue (lasts_at lasting h) → TurnsHead rules h parts.plans.items held mid_ready is parts2.plans.items result
+      pub made : (was is : Bag) → slice_get parts.bags.items h ≡ Some was → slice_get parts2.bags.items h ≡ Some is → HasGiven lasting m.past rules h was → grows_at growing h ≡ false → lasts_at lasting h ≡ false → MakesHead rules h parts.plans.items held mid_ready whole is parts2.plans.items result
 
     -- the head has its rows in the end, of which evaluation sees some where it is an output
     record IsTaken (parts2 : Parts) (change : Change) : Type 0 where
@@ -172,7 +172,7 @@ module _ (a : Accepted) (rules : List NumberedRule) (growing lasting : List Bool
       grew : IsTrue (grows_at growing h) → IsGrown (set_at (quiet a tables) h) shown
       rows : IsTrue (grows_at growing h) → set_at parts2.rows.items h ≡ made
       bag : (bag : Bag) → slice_get parts2.bags.items h ≡ Some bag → grows_at growing h ≡ false → HasGiven lasting m.seen rules h bag
-      memos : AreTurned growing lasting m.seen rules h (length rules) parts.memos.items parts2.memos.items
+      plans : AreTurned growing lasting m.seen rules h (length rules) parts.plans.items parts2.plans.items
       news : kind_at a.form.collections h ≡ Some Output → AreNew (set_at (quiet a tables) h) made (rows_in change.rows)
 
     module _ (parts2 : Parts) (held2 : List Change) (change : Change) (whole : Bool) (c : HasChanged parts2 whole (Ok change)) (put : held2 ≡ slice_set held h change) (t : IsTaken parts2 change) where
@@ -258,8 +258,8 @@ module _ (a : Accepted) (rules : List NumberedRule) (growing lasting : List Bool
           let made_wide : AreWide (length (columns_at cs h)) t.made = subst (λ (rows : List Row). AreWide (length (columns_at cs h)) rows) made_at (wide_at cs sets2 at2.wide h) in
           set_wide cs m.seen h t.shown m.wide (λ k d lt. All-of_member (λ (r : Row). length r ≡ length (columns_at cs h)) t.made (get_or t.shown k d) made_wide (t.inside (get_or t.shown k d) (Has-get_or t.shown k d lt)))
 
-      memo_there : (j : ℕ) (rule : NumberedRule) (memo : Memo) → slice_get rules j ≡ Some rule → slice_get parts2.memos.items j ≡ Some memo → rule.head ≢ h → slice_get parts.memos.items j ≡ Some memo
-      memo_there j rule memo at kept differ = sym (t.memos.other j rule (slice_get_within rules j rule at) at differ) ∙ kept
+      plan_there : (j : ℕ) (rule : NumberedRule) (plan : Plan) → slice_get rules j ≡ Some rule → slice_get parts2.plans.items j ≡ Some plan → rule.head ≢ h → slice_get parts.plans.items j ≡ Some plan
+      plan_there j rule plan at kept differ = sym (t.plans.other j rule (slice_get_within rules j rule at) at differ) ∙ kept
 
       -- the rows of the changes
       shown_is : held_sets held2 ≡ slice_set (held_sets held) h (rows_in change.rows)
@@ -296,11 +296,11 @@ module _ (a : Accepted) (rules : List NumberedRule) (growing lasting : List Bool
               subst (λ (j : ℕ). HasGiven lasting end rules j bag) (sym e) (given_along lasting m.seen end rules h bag (same_bodies m.seen end seen_end) own)
           | inr differ ↦ m.bags_done k bag (sym (c.others k differ) ∙ at) none (wider k differ lacks)
         ];
-        memos_many = t.memos.many ∙ m.memos_many;
-        memos_left = λ j rule memo at kept has. m.memos_left j rule memo at (memo_there j rule memo at kept (apart rule.head has)) (inr has);
-        memos_done = λ j rule memo at kept lacks. elim (cases_eq rule.head h) [
-          | inl same ↦ stands_along growing lasting m.seen end rule.body memo (same_bodies m.seen end seen_end rule (Has-slice_get rules j rule at) same) (t.memos.own j rule memo (slice_get_within rules j rule at) at kept same)
-          | inr differ ↦ m.memos_done j rule memo at (memo_there j rule memo at kept differ) (wider rule.head differ lacks)
+        plans_many = t.plans.many ∙ m.plans_many;
+        plans_left = λ j rule plan at kept has. m.plans_left j rule plan at (plan_there j rule plan at kept (apart rule.head has)) (inr has);
+        plans_done = λ j rule plan at kept lacks. elim (cases_eq rule.head h) [
+          | inl same ↦ stands_along growing lasting m.seen end rule.body plan (same_bodies m.seen end seen_end rule (Has-slice_get rules j rule at) same) (t.plans.own j rule plan (slice_get_within rules j rule at) at kept same)
+          | inr differ ↦ m.plans_done j rule plan at (plan_there j rule plan at kept differ) (wider rule.head differ lacks)
         ];
         outs = λ k out lacks. elim (cases_eq k h) [
           | inl e ↦
@@ -327,8 +327,8 @@ module _ (a : Accepted) (rules : List NumberedRule) (growing lasting : List Bool
     grown_is : IsTrue (grows_at growing h) → set_of (set_at parts.rows.items h ++ ruled) ≡ set_of (set_at m.sets h ++ ruled)
     grown_is grow = ap (λ (rows : List Row). set_of (rows ++ ruled)) (m.rows_left h grow (inl refl)) ∙ grown_head a rules growing lasting tables now st m.sets h left m.at m.past m.seen m.view grow (m.start_is h (inl refl))
 
-    grown_taken : (parts2 : Parts) (change : Change) → IsTrue (grows_at growing h) → GrowsHead rules h parts.memos.items held mid_ready (set_at parts.rows.items h) (set_at parts2.rows.items h) parts2.memos.items (Ok change) → IsTaken parts2 change
-    grown_taken parts2 change grow (is, fit, kept, e, none, memos) =
+    grown_taken : (parts2 : Parts) (change : Change) → IsTrue (grows_at growing h) → GrowsHead rules h parts.plans.items held mid_ready (set_at parts.rows.items h) (set_at parts2.rows.items h) parts2.plans.items (Ok change) → IsTaken parts2 change
+    grown_taken parts2 change grow (is, fit, kept, e, none, plans) =
         let made = set_at parts2.rows.items h in
         let more = rows_in change.rows in
         let own : Extends before made more = subst (λ (rows : List Row). Extends rows made more) (m.rows_left h grow (inl refl)) e in
@@ -346,12 +346,12 @@ module _ (a : Accepted) (rules : List NumberedRule) (growing lasting : List Bool
           grew = λ t. record { old_sorted = own.sorted; new_sorted = turned.new_sorted; within = old_is_in before made more own };
           rows = λ t. refl;
           bag = λ bag at no. absurd (never no grow);
-          memos = memos;
+          plans = plans;
           news = λ out. record { only = λ q x. (came before made more (rows_in change.gone) turned q x).0; all = comes before made more (rows_in change.gone) turned };
         }
 
-    turned_taken : (parts2 : Parts) (change : Change) (is : Bag) → slice_get parts2.bags.items h ≡ Some is → grows_at growing h ≡ false → IsTrue (lasts_at lasting h) → TurnsHead rules h parts.memos.items held mid_ready is parts2.memos.items (Ok change) → IsTaken parts2 change
-    turned_taken parts2 change is at none last ((kept, turns), given, fit, memos) =
+    turned_taken : (parts2 : Parts) (change : Change) (is : Bag) → slice_get parts2.bags.items h ≡ Some is → grows_at growing h ≡ false → IsTrue (lasts_at lasting h) → TurnsHead rules h parts.plans.items held mid_ready is parts2.plans.items (Ok change) → IsTaken parts2 change
+    turned_taken parts2 change is at none last ((kept, turns), given, fit, plans) =
         let made = set_of ruled in
         let more = rows_in change.rows in
         let own : Turns before made change = subst (λ (rows : List Row). Turns rows made change) (past_is none) turns in
@@ -367,12 +367,12 @@ module _ (a : Accepted) (rules : List NumberedRule) (growing lasting : List Bool
           grew = λ t. absurd (never none t);
           rows = λ t. absurd (never none t);
           bag = λ bag here no. subst (λ (b : Bag). HasGiven lasting m.seen rules h b) (same_Some is bag (sym at ∙ here)) given;
-          memos = memos;
+          plans = plans;
           news = λ out. record { only = λ q x. (came before made more (rows_in change.gone) turned q x).0; all = comes before made more (rows_in change.gone) turned };
         }
 
-    made_taken : (parts2 : Parts) (change : Change) (is : Bag) (whole : Bool) → slice_get parts2.bags.items h ≡ Some is → grows_at growing h ≡ false → lasts_at lasting h ≡ false → IsRecordSet (rows_in change.rows) → (kind_at a.form.collections h ≢ Some Output → IsTrue whole) → MakesHead rules h parts.memos.items held mid_ready whole is parts2.memos.items (Ok change) → IsTaken parts2 change
-    made_taken parts2 change is whole at none passing set asked (kept, made, given, memos) =
+    made_taken : (parts2 : Parts) (change : Change) (is : Bag) (whole : Bool) → slice_get parts2.bags.items h ≡ Some is → grows_at growing h ≡ false → lasts_at lasting h ≡ false → IsRecordSet (rows_in change.rows) → (kind_at a.form.collections h ≢ Some Output → IsTrue whole) → MakesHead rules h parts.plans.items held mid_ready whole is parts2.plans.items (Ok change) → IsTaken parts2 change
+    made_taken parts2 change is whole at none passing set asked (kept, made, given, plans) =
         let shown = rows_in change.rows in
         record {
           made = set_of ruled;
@@ -385,7 +385,7 @@ module _ (a : Accepted) (rules : List NumberedRule) (growing lasting : List Bool
           grew = λ t. absurd (never none t);
           rows = λ t. absurd (never none t);
           bag = λ bag here no. subst (λ (b : Bag). HasGiven lasting m.seen rules h b) (same_Some is bag (sym at ∙ here)) given;
-          memos = memos;
+          plans = plans;
           news = λ out. subst (λ (rows : List Row). AreNew rows (set_of ruled) shown) (past_is none) made.news;
         }
 

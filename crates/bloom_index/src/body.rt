@@ -238,7 +238,7 @@ impl IndexBody {
             Some(parts) => {
                 // For the proof: the module has no fault.
                 let _written = self.program.module();
-                side_at(self.program.rules(), &parts.growing, &parts.memos, side).at(key)
+                side_at(&parts.plans, side).at(key)
             }
             None => &self.none,
         }

@@ -7,24 +7,24 @@ ghost use Rattle.bloom_index.specs.Code.Emptiness.{IsFresh, AreNoBags};
 ghost use Rattle.bloom_index.specs.Code.Kept.{tables_in, PartsStand};
 
 use crate::grows::{growing_heads, lasting_heads};
-use crate::memo::{Memo, memo_of};
+use crate::plan::{Plan, plan_of};
 use crate::step::Parts;
 use bloom_forms::{Checked, Collection, NumberedRule};
 use bloom_growth::{Bag, GrowSet};
 use std::alloc::{AllocError, Global};
 
-fn rule_memos(
+fn rule_plans(
     alloc: Global,
     rules: &[NumberedRule],
     growing: &[bool],
-) -> Result<Vec<Memo>, AllocError>
-    ensures { IfOk result (λ memos. AllZip (λ rule memo. IsFresh growing.now rule.body memo) rules.now memos.items) }
+) -> Result<Vec<Plan>, AllocError>
+    ensures { IfOk result (λ plans. AllZip (λ rule plan. IsFresh growing.now rule.body plan) rules.now plans.items) }
 {
-    let mut memos = Vec::new(alloc);
+    let mut plans = Vec::new(alloc);
     for rule in rules {
-        memos.push(memo_of(alloc, &rule.body, growing)?)?;
+        plans.push(plan_of(alloc, &rule.body, growing)?)?;
     }
-    Ok(memos)
+    Ok(plans)
 }
 
 fn empty_rows(alloc: Global, collections: &[Collection]) -> Result<Vec<GrowSet>, AllocError>
@@ -54,7 +54,7 @@ pub(crate) fn empty_parts(alloc: Global, program: &Checked) -> Result<Parts, All
     let collections = program.module().collections.as_slice();
     let growing = growing_heads(alloc, program)?;
     let lasting = lasting_heads(alloc, program)?;
-    let memos = rule_memos(alloc, program.rules(), &growing)?;
+    let plans = rule_plans(alloc, program.rules(), &growing)?;
     let rows = empty_rows(alloc, collections)?;
     let bags = empty_bags(alloc, collections.len())?;
     Ok(Parts {
@@ -62,6 +62,6 @@ pub(crate) fn empty_parts(alloc: Global, program: &Checked) -> Result<Parts, All
         lasting,
         rows,
         bags,
-        memos,
+        plans,
     })
 }

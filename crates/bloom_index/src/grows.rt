@@ -1,19 +1,19 @@
 //! Which collections and expressions are kept, as their rows come from tables alone, and which of them
 //! grow, as they do without group and notin.
-ghost use Rattle.std.specs.Prelude.{◌≡◌, ◌<◌, false, length, replicate, IfOk};
+ghost use Rattle.std.specs.Prelude.{◌≡◌, ◌<◌, false, length, replicate, slice_index_or, IfOk};
 ghost use Rattle.std.specs.List.{list_all};
 ghost use Rattle.bloom_forms.specs.Kinds.{kind_at};
-ghost use Rattle.bloom_index.specs.Code.Growth.{grows_at, grows, grows_for, rules_grow, kind_grows, AreMarkedBelow, AreGrowing};
-ghost use Rattle.bloom_index.specs.Code.Lasting.{lasts_at, lasts, lasts_for, rules_last, AreLastingBelow, AreLasting};
+ghost use Rattle.bloom_index.specs.Code.Growth.{grows, grows_for, rules_grow, kind_grows, AreMarkedBelow, AreGrowing};
+ghost use Rattle.bloom_index.specs.Code.Lasting.{lasts, lasts_for, rules_last, AreLastingBelow, AreLasting};
 
 use bloom_forms::{Checked, Kind, NumberedExpr, NumberedRule};
 use std::alloc::{AllocError, Global};
 
-// Whether a collection grows. One that there isn't doesn't.
-fn is_growing(growing: &[bool], number: u32) -> bool
-    ensures { result ≡ grows_at growing.now number }
+// Whether a collection is marked. One that there isn't isn't.
+fn is_marked(marks: &[bool], number: u32) -> bool
+    ensures { result ≡ slice_index_or marks.now number false }
 {
-    match growing.get(number as usize) {
+    match marks.get(number as usize) {
         Some(here) => *here,
         None => false,
     }
@@ -24,7 +24,7 @@ pub(crate) fn grows(expr: &NumberedExpr, growing: &[bool]) -> bool
     ensures { result ≡ grows growing.now expr.now }
 {
     match expr {
-        NumberedExpr::Base(number) => is_growing(growing, *number),
+        NumberedExpr::Base(number) => is_marked(growing, *number),
         NumberedExpr::Select(part, _) => grows(part, growing),
         NumberedExpr::Project(part, _) => grows(part, growing),
         NumberedExpr::Join(a, b, _) => grows(a, growing) && grows(b, growing),
@@ -62,22 +62,12 @@ fn head_grows(program: &Checked, head: u32, growing: &[bool]) -> bool
     }
 }
 
-// Whether a collection is kept. One that there isn't isn't.
-fn is_lasting(lasting: &[bool], number: u32) -> bool
-    ensures { result ≡ lasts_at lasting.now number }
-{
-    match lasting.get(number as usize) {
-        Some(here) => *here,
-        None => false,
-    }
-}
-
 // Whether an expression is kept.
 fn lasts(expr: &NumberedExpr, lasting: &[bool]) -> bool
     ensures { result ≡ lasts lasting.now expr.now }
 {
     match expr {
-        NumberedExpr::Base(number) => is_lasting(lasting, *number),
+        NumberedExpr::Base(number) => is_marked(lasting, *number),
         NumberedExpr::Select(part, _) => lasts(part, lasting),
         NumberedExpr::Project(part, _) => lasts(part, lasting),
         NumberedExpr::Join(a, b, _) => lasts(a, lasting) && lasts(b, lasting),

@@ -1,16 +1,18 @@
 //! The heads of a module, each with what its rules give in a step.
 ghost use Rattle.std.specs.Prelude.{◌≡◌, false, List, IsTrue};
 ghost use Rattle.blz_value.specs.Record.{Row};
+ghost use Rattle.bloom_forms.specs.declared.numbered.NumberedExpr.{NumberedExpr};
 ghost use Rattle.bloom_growth.specs.Growth.{Extends, Takes};
 ghost use Rattle.bloom_parts.specs.Turns.{rows_in};
 ghost use Rattle.bloom_index.specs.Code.Evaluation.{IsReady};
 ghost use Rattle.bloom_index.specs.Code.Growth.{grows_at};
-ghost use Rattle.bloom_index.specs.Code.HeadRules.{AreReady, HasOldHead, HasGiven, AllLast, AddsRule, GrowsHead, MakesParts, TurnsHead, MakesHead};
+ghost use Rattle.bloom_index.specs.Code.HeadRules.{CanTurn, HasOldHead, HasGiven, AllLast, AddsRule, GrowsHead, MakesParts, TurnsHead, MakesHead};
 ghost use Rattle.bloom_index.specs.Code.Heads.{HasOldRows, GrowsBy};
 ghost use Rattle.bloom_index.specs.Code.Lasting.{lasts_at};
+ghost use Rattle.bloom_index.specs.Code.Plans.{expr_of};
 
 use crate::evaluate::evaluate;
-use crate::memo::Memo;
+use crate::plan::Plan;
 use bloom_forms::NumberedRule;
 use bloom_growth::{Bag, GrowSet};
 use bloom_parts::{Change, Rows, one_row, turn_bag, turn_bodies, with_bag};
@@ -44,16 +46,15 @@ fn taken(alloc: Global, rows: &mut GrowSet, more: &Rows<'_, '_>) -> Result<Recor
 // Adds to a growing head what a rule gives, and to the new rows those that are new.
 fn grow_by<'r>(
     alloc: Global,
-    rule: &NumberedRule,
-    memo: &mut Memo,
+    plan: &mut Plan,
     held: &[Change<'_, 'r>],
     rows: &mut GrowSet,
     fresh: &mut Rows<'r, 'r>,
 ) -> Result<(), SetFault>
-    requires { IsReady rule.now.body memo.old held.now }
-    ensures { (ready : IsReady rule.now.body memo.old held.now) (start : List Row) → HasOldRows rule.now.body memo.old held.now ready rows.old → Extends start rows.old (rows_in fresh.old) → GrowsBy rule.now.body memo.old memo.new held.now ready start rows.old rows.new (rows_in fresh.new) result }
+    requires { IsReady (expr_of plan.old) plan.old held.now }
+    ensures { (e : NumberedExpr) (ready : IsReady e plan.old held.now) (start : List Row) → HasOldRows e plan.old held.now ready rows.old → Extends start rows.old (rows_in fresh.old) → GrowsBy e plan.old plan.new held.now ready start rows.old rows.new (rows_in fresh.new) result }
 {
-    let change = evaluate(alloc, &rule.body, memo, held)?;
+    let change = evaluate(alloc, plan, held)?;
     let new = taken(alloc, rows, &change.rows)?;
     Rows::Own(new).put_onto(alloc, fresh)
 }
@@ -63,19 +64,19 @@ pub(crate) fn grow_head<'r>(
     alloc: Global,
     rules: &[NumberedRule],
     head: u32,
-    memos: &mut Vec<Memo>,
+    plans: &mut Vec<Plan>,
     held: &[Change<'_, 'r>],
     rows: &mut GrowSet,
 ) -> Result<Change<'r, 'r>, SetFault>
-    requires { AreReady rules.now head memos.old.items held.now }
-    ensures { (ready : AreReady rules.now head memos.old.items held.now) → HasOldHead rules.now head memos.old.items held.now ready rows.old → IsTrue (grows_at ready.growing head) → GrowsHead rules.now head memos.old.items held.now ready rows.old rows.new memos.new.items result }
+    requires { CanTurn rules.now head plans.old.items held.now }
+    ensures { (can : CanTurn rules.now head plans.old.items held.now) → HasOldHead can.rules head plans.old.items held.now can.ready rows.old → IsTrue (grows_at can.ready.growing head) → GrowsHead can.rules head plans.old.items held.now can.ready rows.old rows.new plans.new.items result }
 {
     // for the proof alone: what holds of each set
     rows.known();
     let mut more = Rows::Own(RecordSet::new(alloc));
     for (i, rule) in rules.iter().enumerate() {
         if rule.head == head {
-            grow_by(alloc, rule, &mut memos[i], held, rows, &mut more)?;
+            grow_by(alloc, &mut plans[i], held, rows, &mut more)?;
         }
     }
     let gone = Rows::Own(RecordSet::new(alloc));
@@ -103,11 +104,11 @@ fn head_parts<'a, 'r>(
     alloc: Global,
     rules: &[NumberedRule],
     head: u32,
-    memos: &mut Vec<Memo>,
+    plans: &mut Vec<Plan>,
     held: &'a [Change<'_, 'r>],
 ) -> Result<HeadParts<'a, 'r>, SetFault>
-    requires { AreReady rules.now head memos.old.items held.now }
-    ensures { (ready : AreReady rules.now head memos.old.items held.now) → MakesParts rules.now head memos.old.items held.now ready memos.new.items result }
+    requires { CanTurn rules.now head plans.old.items held.now }
+    ensures { (can : CanTurn rules.now head plans.old.items held.now) → MakesParts can.rules head plans.old.items held.now can.ready plans.new.items result }
 {
     let mut parts = HeadParts {
         changes: Vec::new(alloc),
@@ -115,7 +116,7 @@ fn head_parts<'a, 'r>(
     };
     for (i, rule) in rules.iter().enumerate() {
         if rule.head == head {
-            let change = evaluate(alloc, &rule.body, &mut memos[i], held)?;
+            let change = evaluate(alloc, &mut plans[i], held)?;
             add_rule(alloc, change, &mut parts)?;
         }
     }
@@ -128,14 +129,14 @@ pub(crate) fn turn_head<'a, 'r>(
     alloc: Global,
     rules: &[NumberedRule],
     head: u32,
-    memos: &mut Vec<Memo>,
+    plans: &mut Vec<Plan>,
     held: &[Change<'_, '_>],
     bag: &mut Bag,
 ) -> Result<Change<'a, 'r>, SetFault>
-    requires { AreReady rules.now head memos.old.items held.now }
-    ensures { (ready : AreReady rules.now head memos.old.items held.now) → HasGiven ready.lasting ready.old rules.now head bag.old → AllLast ready.lasting rules.now head → IsTrue (lasts_at ready.lasting head) → TurnsHead rules.now head memos.old.items held.now ready bag.new memos.new.items result }
+    requires { CanTurn rules.now head plans.old.items held.now }
+    ensures { (can : CanTurn rules.now head plans.old.items held.now) → HasGiven can.ready.lasting can.ready.old can.rules head bag.old → AllLast can.ready.lasting can.rules head → IsTrue (lasts_at can.ready.lasting head) → TurnsHead can.rules head plans.old.items held.now can.ready bag.new plans.new.items result }
 {
-    let parts = head_parts(alloc, rules, head, memos, held)?;
+    let parts = head_parts(alloc, rules, head, plans, held)?;
     let turn = turn_bodies(alloc, parts.changes, bag)?;
     Ok(Change::turned(turn))
 }
@@ -146,15 +147,15 @@ pub(crate) fn make_head<'r>(
     alloc: Global,
     rules: &[NumberedRule],
     head: u32,
-    memos: &mut Vec<Memo>,
+    plans: &mut Vec<Plan>,
     held: &[Change<'_, 'r>],
     bag: &mut Bag,
     whole: bool,
 ) -> Result<Change<'r, 'r>, SetFault>
-    requires { AreReady rules.now head memos.old.items held.now }
-    ensures { (ready : AreReady rules.now head memos.old.items held.now) → HasGiven ready.lasting ready.old rules.now head bag.old → lasts_at ready.lasting head ≡ false → MakesHead rules.now head memos.old.items held.now ready whole bag.new memos.new.items result }
+    requires { CanTurn rules.now head plans.old.items held.now }
+    ensures { (can : CanTurn rules.now head plans.old.items held.now) → HasGiven can.ready.lasting can.ready.old can.rules head bag.old → lasts_at can.ready.lasting head ≡ false → MakesHead can.rules head plans.old.items held.now can.ready whole bag.new plans.new.items result }
 {
-    let parts = head_parts(alloc, rules, head, memos, held)?;
+    let parts = head_parts(alloc, rules, head, plans, held)?;
     if parts.changes.is_empty() {
         // for the proof alone: what holds of the set
         parts.rows.known();

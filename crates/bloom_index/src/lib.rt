@@ -3,11 +3,12 @@
 
 mod arrived;
 mod body;
+mod copies;
 mod empty;
 mod evaluate;
 mod grows;
 mod heads;
-mod memo;
+mod plan;
 mod puts;
 mod shell;
 mod sides;

@@ -1,9 +1,10 @@
 //! The sides of rules, in the order of the text.
-ghost use Rattle.std.specs.Prelude.{◌≡◌, ◌+◌, ◌<◌, List, ℕ, length, IfSome, IfOk};
-ghost use Rattle.bloom_index.specs.Code.SideParts.{grown_side, numbered_sides, rules_sides, IsKept, AreKept, IsSideAt, FindsOwn, Finds};
+ghost use Rattle.std.specs.Prelude.{◌≡◌, ◌+◌, Bool, List, ℕ, length, IfSome, IfOk};
+ghost use Rattle.bloom_index.specs.Code.Plans.{expr_of};
+ghost use Rattle.bloom_index.specs.Code.SideParts.{grown_side, numbered_sides, rules_sides, plans_sides, IsKept, HasSide, IsSideAt, FindsOwn, Finds};
 
 use crate::grows::grows;
-use crate::memo::Memo;
+use crate::plan::Plan;
 use bloom_forms::{NumberedExpr, NumberedRule};
 use bloom_growth::Side;
 use bloom_parts::PartRows;
@@ -74,57 +75,39 @@ fn this_side(rows: &PartRows, number: u32) -> ControlFlow<&Side, u32>
     }
 }
 
-// The side of an expression with a number, counted from 0 in the order of the text, or how many are
-// to be passed after it.
-fn find_side<'a>(
-    expr: &NumberedExpr,
-    growing: &[bool],
-    memo: &'a Memo,
-    number: u32,
-) -> ControlFlow<&'a Side, u32>
-    requires { IsKept growing.now expr.now memo.now }
-    ensures { (kept : IsKept growing.now expr.now memo.now) → Finds kept.sets (numbered_sides growing.now expr.now) number result }
+// The side of a plan with a number, counted from 0 in the order of the text, or how many are to be passed
+// after it.
+fn find_side(plan: &Plan, number: u32) -> ControlFlow<&Side, u32>
+    ensures { (growing : List Bool) (kept : IsKept growing plan.now) → Finds kept.sets (numbered_sides growing (expr_of plan.now)) number result }
 {
-    match expr {
-        NumberedExpr::Base(_) => ControlFlow::Continue(number),
-        NumberedExpr::Select(part, _) => find_side(part, growing, memo.part(), number),
-        NumberedExpr::Project(part, _) => find_side(part, growing, memo.part(), number),
-        NumberedExpr::Join(a, b, _) => {
-            let Memo::Join(left, right, memo) = memo else {
-                unreachable!()
-            };
-            let number = this_side(&memo.left, number)?;
-            let number = find_side(a, growing, left, number)?;
-            let number = this_side(&memo.right, number)?;
-            find_side(b, growing, right, number)
+    match plan {
+        Plan::Base(_) => ControlFlow::Continue(number),
+        Plan::Select(part, _) => find_side(part, number),
+        Plan::Project(part, _, _) => find_side(part, number),
+        Plan::Join(left, right, _, kept) => {
+            let number = this_side(&kept.left, number)?;
+            let number = find_side(left, number)?;
+            let number = this_side(&kept.right, number)?;
+            find_side(right, number)
         }
-        NumberedExpr::NotIn(a, b, _) => {
-            let Memo::NotIn(left, right, memo) = memo else {
-                unreachable!()
-            };
-            let number = find_side(a, growing, left, number)?;
-            let number = this_side(&memo.right, number)?;
-            find_side(b, growing, right, number)
+        Plan::NotIn(left, right, _, kept) => {
+            let number = find_side(left, number)?;
+            let number = this_side(&kept.right, number)?;
+            find_side(right, number)
         }
-        NumberedExpr::Group(part, _, _) => find_side(part, growing, memo.part(), number),
-        NumberedExpr::AtLeast(part, _, _) => find_side(part, growing, memo.part(), number),
+        Plan::Group(part, _) => find_side(part, number),
+        Plan::AtLeast(part, _, _) => find_side(part, number),
     }
 }
 
 /// The side with a number, counted from 0 in the order in which the text of the module has them.
-pub(crate) fn side_at<'a>(
-    rules: &[NumberedRule],
-    growing: &[bool],
-    memos: &'a [Memo],
-    number: u32,
-) -> &'a Side
-    requires within { number < length (rules_sides growing.now rules.now) }
-    requires kept { AreKept growing.now rules.now memos.now }
-    ensures { (kept : AreKept growing.now rules.now memos.now) → IsSideAt kept.sets (rules_sides growing.now rules.now) number result.now }
+pub(crate) fn side_at(plans: &[Plan], number: u32) -> &Side
+    requires { HasSide plans.now number }
+    ensures { (has : HasSide plans.now number) → IsSideAt has.kept.sets (plans_sides has.growing plans.now) number result.now }
 {
     let mut left = number;
-    for (i, rule) in rules.iter().enumerate() {
-        match find_side(&rule.body, growing, &memos[i], left) {
+    for plan in plans {
+        match find_side(plan, left) {
             ControlFlow::Break(side) => return side,
             ControlFlow::Continue(later) => left = later,
         }

@@ -12,7 +12,7 @@ ghost use Rattle.bloom_eval.specs.StepAnswers.{AllFit, SomeIsOver, counted_sets}
 ghost use Rattle.bloom_parts.specs.Turns.{rows_in};
 ghost use Rattle.bloom_index.specs.Code.Growth.{grows_at};
 ghost use Rattle.bloom_growth.specs.declared.bag.Bag.{Bag as TheBag};
-ghost use Rattle.bloom_index.specs.Code.HeadRules.{AreReady, HasOldHead, HasGiven, AllLast, GrowsHead, TurnsHead, MakesHead};
+ghost use Rattle.bloom_index.specs.Code.HeadRules.{CanTurn, HasOldHead, HasGiven, AllLast, GrowsHead, TurnsHead, MakesHead};
 ghost use Rattle.bloom_index.specs.Code.Lasting.{lasts_at};
 ghost use Rattle.bloom_index.specs.Code.Kept.{tables_in, PartsStand, PutsOut};
 ghost use Rattle.bloom_index.specs.Code.Arriving.{arrived_in};
@@ -20,7 +20,7 @@ ghost use Rattle.bloom_index.specs.Code.StepSets.{AreBegunAt, outs_in};
 
 use crate::arrived::Arrived;
 use crate::heads::{grow_head, make_head, turn_head};
-use crate::memo::Memo;
+use crate::plan::Plan;
 use bloom_eval::StepFault;
 use bloom_forms::{Checked, Collection, Kind, NumberedRule};
 use bloom_growth::{Bag, GrowSet};
@@ -29,14 +29,14 @@ use blz_set::{RecordSet, SetFault};
 use std::alloc::{AllocError, Global};
 
 /// What is kept: of each collection that grows its rows, of each other what its rules that are kept give
-/// it, and what is kept of each rule.
+/// it, and the plan of each rule's body.
 #[derive(Drop)]
 pub(crate) struct Parts {
     pub(crate) growing: Vec<bool>,
     pub(crate) lasting: Vec<bool>,
     pub(crate) rows: Vec<GrowSet>,
     pub(crate) bags: Vec<Bag>,
-    pub(crate) memos: Vec<Memo>,
+    pub(crate) plans: Vec<Plan>,
 }
 
 // The place of the next port, after a collection of a kind.
@@ -118,26 +118,26 @@ fn head_change<'r>(
     requires lasting { head < length parts.old.lasting.items }
     requires rows { head < length parts.old.rows.items }
     requires bags { head < length parts.old.bags.items }
-    requires ready { AreReady rules.now head parts.old.memos.items held.now }
+    requires ready { CanTurn rules.now head parts.old.plans.items held.now }
     ensures growing { parts.new.growing ≡ parts.old.growing }
     ensures lasting { parts.new.lasting ≡ parts.old.lasting }
     ensures rows { parts.new.rows.items ≡ slice_set parts.old.rows.items head (set_at parts.new.rows.items head) }
     ensures bags { length parts.new.bags.items ≡ length parts.old.bags.items }
     ensures others { (number : ℕ) → ¬ (number ≡ head) → slice_get parts.new.bags.items number ≡ slice_get parts.old.bags.items number }
-    ensures grown { (ready : AreReady rules.now head parts.old.memos.items held.now) → ready.growing ≡ parts.old.growing.items → HasOldHead rules.now head parts.old.memos.items held.now ready (set_at parts.old.rows.items head) → IsTrue (grows_at parts.old.growing.items head) → GrowsHead rules.now head parts.old.memos.items held.now ready (set_at parts.old.rows.items head) (set_at parts.new.rows.items head) parts.new.memos.items result }
-    ensures turned { (ready : AreReady rules.now head parts.old.memos.items held.now) (old new : TheBag) → slice_get parts.old.bags.items head ≡ Some old → slice_get parts.new.bags.items head ≡ Some new → ready.lasting ≡ parts.old.lasting.items → HasGiven ready.lasting ready.old rules.now head old → AllLast ready.lasting rules.now head → grows_at parts.old.growing.items head ≡ false → IsTrue (lasts_at parts.old.lasting.items head) → TurnsHead rules.now head parts.old.memos.items held.now ready new parts.new.memos.items result }
-    ensures made { (ready : AreReady rules.now head parts.old.memos.items held.now) (old new : TheBag) → slice_get parts.old.bags.items head ≡ Some old → slice_get parts.new.bags.items head ≡ Some new → ready.lasting ≡ parts.old.lasting.items → HasGiven ready.lasting ready.old rules.now head old → grows_at parts.old.growing.items head ≡ false → lasts_at parts.old.lasting.items head ≡ false → MakesHead rules.now head parts.old.memos.items held.now ready whole new parts.new.memos.items result }
+    ensures grown { (can : CanTurn rules.now head parts.old.plans.items held.now) → can.ready.growing ≡ parts.old.growing.items → HasOldHead can.rules head parts.old.plans.items held.now can.ready (set_at parts.old.rows.items head) → IsTrue (grows_at parts.old.growing.items head) → GrowsHead can.rules head parts.old.plans.items held.now can.ready (set_at parts.old.rows.items head) (set_at parts.new.rows.items head) parts.new.plans.items result }
+    ensures turned { (can : CanTurn rules.now head parts.old.plans.items held.now) (old new : TheBag) → slice_get parts.old.bags.items head ≡ Some old → slice_get parts.new.bags.items head ≡ Some new → can.ready.lasting ≡ parts.old.lasting.items → HasGiven can.ready.lasting can.ready.old can.rules head old → AllLast can.ready.lasting can.rules head → grows_at parts.old.growing.items head ≡ false → IsTrue (lasts_at parts.old.lasting.items head) → TurnsHead can.rules head parts.old.plans.items held.now can.ready new parts.new.plans.items result }
+    ensures made { (can : CanTurn rules.now head parts.old.plans.items held.now) (old new : TheBag) → slice_get parts.old.bags.items head ≡ Some old → slice_get parts.new.bags.items head ≡ Some new → can.ready.lasting ≡ parts.old.lasting.items → HasGiven can.ready.lasting can.ready.old can.rules head old → grows_at parts.old.growing.items head ≡ false → lasts_at parts.old.lasting.items head ≡ false → MakesHead can.rules head parts.old.plans.items held.now can.ready whole new parts.new.plans.items result }
 {
     let number = head as usize;
     if parts.growing[number] {
         let rows = &mut parts.rows[number];
-        return grow_head(alloc, rules, head, &mut parts.memos, held, rows);
+        return grow_head(alloc, rules, head, &mut parts.plans, held, rows);
     }
     let bag = &mut parts.bags[number];
     if parts.lasting[number] {
-        turn_head(alloc, rules, head, &mut parts.memos, held, bag)
+        turn_head(alloc, rules, head, &mut parts.plans, held, bag)
     } else {
-        make_head(alloc, rules, head, &mut parts.memos, held, bag, whole)
+        make_head(alloc, rules, head, &mut parts.plans, held, bag, whole)
     }
 }
 

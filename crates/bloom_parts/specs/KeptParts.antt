@@ -8,7 +8,7 @@ use Rattle.blz_set.specs.RecordSet.{row_limit}
 use Rattle.bloom_growth.specs.declared.turn_joins.KeptJoin.{KeptJoin}
 use Rattle.bloom_growth.specs.declared.turn_notins.KeptNotIn.{KeptNotIn}
 use Rattle.bloom_growth.specs.ByKey.{AreByKey}
-use Rattle.bloom_growth.specs.JoinTurns.{HaveWidth}
+pub use Rattle.bloom_growth.specs.JoinTurns.{IsWide}
 use Rattle.bloom_growth.specs.Kept.{Kept}
 use Rattle.bloom_growth.specs.Keyed.{IsKeyedBy}
 use Rattle.bloom_parts.specs.declared.change.Change.{Change}
@@ -39,11 +39,6 @@ pub record NotInStands (pairs : Pairs) (left_lasts right_grows right_lasts : Boo
 pub record PartChanges (grow : Bool) (old new : List Row) (change : Change) : Type 0 where
   pub turned : Turns old new change
   pub none_gone : IsTrue grow → IsTrue change.kept → rows_in change.gone ≡ []
-
--- the rows of a part have one width, before and after
-pub record IsWide (old new : List Row) : Type 0 where
-  pub width : ℕ
-  pub wide : HaveWidth width old new
 
 -- both parts of a join turned, the rows of each of one width, and what is kept is that of the old rows
 pub record JoinChanges (pairs : Pairs) (left_grows right_grows : Bool) (lo ln ro rn : List Row) (left right : Change) (memo : KeptJoin PartRows PartRows) : Type 0 where

@@ -6,11 +6,13 @@ ghost use Rattle.blz_value.specs.Record.{Row};
 ghost use Rattle.blz_value.specs.Sets.{set_of};
 ghost use Rattle.blz_value.specs.Test.{test_holds, TestFits};
 ghost use Rattle.bloom_growth.specs.Bags.{IsBag};
+ghost use Rattle.bloom_growth.specs.JoinTurns.{IsWide};
+ghost use Rattle.bloom_growth.specs.Whole.{counted_rows};
 ghost use Rattle.bloom_parts.specs.Turns.{rows_in, Turns, TurnsTo};
 ghost use Rattle.bloom_parts.specs.Code.Settled.{AreSets};
 
 use crate::change::{Change, Rows};
-use bloom_growth::Bag;
+use bloom_growth::{Bag, turn_projected};
 use blz_set::{RecordSet, SetFault};
 use blz_value::{Record, Test, holds};
 use std::alloc::{AllocError, Global};
@@ -75,7 +77,7 @@ pub fn select<'a, 'r>(
     Ok(Change::kept(rows, gone))
 }
 
-// Project: each row is kept with how many rows give it.
+// Project: each row that several rows may give is kept with how many do.
 fn project_sets<'a, 'r>(
     alloc: Global,
     part: &Change<'_, '_>,
@@ -83,25 +85,26 @@ fn project_sets<'a, 'r>(
     bag: &mut Bag,
 ) -> Result<Change<'a, 'r>, SetFault>
     requires { AreSets part.now }
-    ensures turned { (old new : List Row) → Turns old new part.now → (IsTrue part.now.kept → IsBag (project_rows columns.now old) bag.old) → TurnsTo part.now.kept (set_of (project_rows columns.now old)) (set_of (project_rows columns.now new)) result }
-    ensures kept { OnOk result ((old new : List Row) → Turns old new part.now → (IsTrue part.now.kept → IsBag (project_rows columns.now old) bag.old) → IsTrue part.now.kept → IsBag (project_rows columns.now new) bag.new) }
+    ensures turned { (old new : List Row) → Turns old new part.now → IsWide old new → (IsTrue part.now.kept → IsBag (counted_rows columns.now old) bag.old) → TurnsTo part.now.kept (set_of (project_rows columns.now old)) (set_of (project_rows columns.now new)) result }
+    ensures kept { OnOk result ((old new : List Row) → Turns old new part.now → IsWide old new → (IsTrue part.now.kept → IsBag (counted_rows columns.now old) bag.old) → IsTrue part.now.kept → IsBag (counted_rows columns.now new) bag.new) }
 {
     if !part.kept {
         return Ok(Change::of_set(alloc, part.rows.as_set().project(columns)?));
     }
-    let turn = bag.turn_columns(alloc, part.turning(), columns)?;
+    let turn = turn_projected(alloc, part.turning(), columns, bag)?;
     Ok(Change::turned(turn))
 }
 
-/// Project: each row is kept with how many rows give it.
+/// Project: each row that several rows may give is kept with how many do. None is where all columns are
+/// kept.
 pub fn project<'a, 'r>(
     alloc: Global,
     part: Change<'_, '_>,
     columns: &[u32],
     bag: &mut Bag,
 ) -> Result<Change<'a, 'r>, SetFault>
-    ensures turned { (old new : List Row) → Turns old new part.entry → (IsTrue part.entry.kept → IsBag (project_rows columns.now old) bag.old) → TurnsTo part.entry.kept (set_of (project_rows columns.now old)) (set_of (project_rows columns.now new)) result }
-    ensures kept { OnOk result ((old new : List Row) → Turns old new part.entry → (IsTrue part.entry.kept → IsBag (project_rows columns.now old) bag.old) → IsTrue part.entry.kept → IsBag (project_rows columns.now new) bag.new) }
+    ensures turned { (old new : List Row) → Turns old new part.entry → IsWide old new → (IsTrue part.entry.kept → IsBag (counted_rows columns.now old) bag.old) → TurnsTo part.entry.kept (set_of (project_rows columns.now old)) (set_of (project_rows columns.now new)) result }
+    ensures kept { OnOk result ((old new : List Row) → Turns old new part.entry → IsWide old new → (IsTrue part.entry.kept → IsBag (counted_rows columns.now old) bag.old) → IsTrue part.entry.kept → IsBag (counted_rows columns.now new) bag.new) }
 {
     let part = part.settled(alloc)?;
     project_sets(alloc, &part, columns, bag)

@@ -24,8 +24,12 @@ one_of_both false = inr refl
 
 module _ (rows others : List Row) where
   -- none of the missing rows is there
-  missing_apart : (q : Row) → Has q rows → ¬ Has q (missing_from rows others)
+  pub missing_apart : (q : Row) → Has q rows → ¬ Has q (missing_from rows others)
   missing_apart q h m = not_both (has_row rows q) (Has-from_filter (λ row. not (has_row rows row)) q others m).1 (has_row-from_Has rows q h)
+
+  -- they are sorted as the others are
+  pub missing_sorted : IsRowSet others → IsRowSet (missing_from rows others)
+  missing_sorted t = IsStrictlySortedBy-filter record_cmp (λ row. not (has_row rows row)) others t
 
   -- the missing rows make the union
   pub union_missing : set_of (rows ++ missing_from rows others) ≡ set_of (rows ++ others)
@@ -47,7 +51,7 @@ module _ (rows others : List Row) where
   pub length_union : IsRowSet rows → IsRowSet others → length (set_of (rows ++ others)) ≡ length rows + length (missing_from rows others)
   length_union s t =
       ap length (sym union_missing)
-      ∙ length-set_of-disjoint rows (missing_from rows others) s (IsStrictlySortedBy-filter record_cmp (λ row. not (has_row rows row)) others t) missing_apart
+      ∙ length-set_of-disjoint rows (missing_from rows others) s (missing_sorted t) missing_apart
 
   -- the union where one row is missing
   pub one_missing : (row : Row) → row ∷ [] ≡ missing_from rows others → set_of (row ∷ rows) ≡ set_of (rows ++ others)

@@ -6,6 +6,7 @@ mod fault;
 mod group;
 mod index;
 mod join;
+mod merge;
 mod set;
 mod value_ref;
 

@@ -16,6 +16,7 @@ use crate::fault::SetFault;
 use crate::group::grouped_row;
 use crate::index::Index;
 use crate::join::{add_joined, left_columns, right_columns};
+use crate::merge::merge_in;
 use blz_value::{Agg, Record, Test, compare, holds};
 use std::alloc::{AllocError, Global};
 use std::marker::Model;
@@ -274,23 +275,4 @@ fn copies_of(alloc: Global, refs: &[&Record]) -> Result<Vec<Record>, AllocError>
         rows.push(row.copy()?)?;
     }
     Ok(rows)
-}
-
-// Moves rows to others. Where both are sorted, the stable sort merges them in one pass.
-fn merge_in(rows: &mut Vec<Record>, more: &mut Vec<Record>) -> Result<(), AllocError>
-    ensures ok { OnOk result (rows.new.items ≡ set_of (rows.old.items ++ more.old.items)) }
-    ensures err { OnErr result (rows.new.items ≡ rows.old.items) }
-{
-    let count = rows.len();
-    rows.append(more)?;
-    match rows.sort() {
-        Ok(()) => {
-            rows.dedup();
-            Ok(())
-        }
-        Err(error) => {
-            rows.truncate(count);
-            Err(error)
-        }
-    }
 }

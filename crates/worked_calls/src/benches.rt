@@ -6,8 +6,16 @@ use bloom_ast::Program;
 use bloom_eval::{Arrivals, Outs, StepFault};
 use blz_boxes::{Component, LatestShell};
 use blz_set::RecordSet;
-use blz_value::write_record;
+use blz_value::{Record, Value};
 use std::alloc::{AllocError, Global};
+
+// Whether a record is the second put of the word `a`.
+fn is_second_put(row: &Record) -> bool {
+    match row.values() {
+        [Value::Text(word), Value::Int(count)] => word.as_str() == "a" && *count == 2,
+        _ => false,
+    }
+}
 
 // Whether a loaded shell of Latest keeps the second put of the word `a` alone.
 fn keeps_second_put(alloc: Global, shell: &LatestShell) -> Result<bool, AllocError>
@@ -15,11 +23,10 @@ fn keeps_second_put(alloc: Global, shell: &LatestShell) -> Result<bool, AllocErr
 {
     let mut rows = RecordSet::new(alloc);
     shell.kept_rows(0, &mut rows)?;
-    let mut text = Vec::new(alloc);
-    for row in rows.rows() {
-        write_record(row, &mut text)?;
+    match rows.rows() {
+        [row] => Ok(is_second_put(row)),
+        _ => Ok(false),
     }
-    Ok(text.as_slice() == b"(\"a\", 2)".as_slice())
 }
 
 /// A shell of Latest that wants memory when it is loaded again, where it kept the second put after its

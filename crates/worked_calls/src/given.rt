@@ -2,7 +2,7 @@
 ghost use Rattle.topo_forms.specs.Data.{IsData};
 
 use crate::inputs::{given_of, valid_of};
-use crate::sides::show_rows;
+use crate::texts::Text;
 use anyhow::Result;
 use blz_outside::MemFiles;
 use data_read::Data;
@@ -26,10 +26,10 @@ pub(crate) fn held_shown(
 fn sources_shown(alloc: Global, valid: &Valid, given: &Data) -> Result<Vec<u8>>
     requires { IsData valid.now.view given.now }
 {
-    let mut shown = Vec::new(alloc);
+    let mut shown = Text::new(alloc);
     for source in 0..valid.source_count() {
-        show_rows("rows", given.rows(source), &mut shown)?;
-        show_rows("parts", given.parts(source), &mut shown)?;
+        shown.add_line("rows", given.rows(source));
+        shown.add_line("parts", given.parts(source));
     }
-    Ok(shown)
+    shown.into_bytes()
 }

@@ -4,6 +4,7 @@
 
 mod benches;
 mod calls;
+mod checked;
 mod dependencies;
 mod given;
 mod inboxes;
@@ -13,6 +14,7 @@ mod nets;
 mod roots;
 mod shells;
 mod sides;
+mod texts;
 mod types;
 mod works;
 

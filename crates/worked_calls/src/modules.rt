@@ -2,10 +2,11 @@
 ghost use Rattle.std.specs.Prelude.{◌≡◌, ◌<◌, ◌-◌, ◌^◌, IfOk, codes, length};
 ghost use Rattle.worked_calls.specs.Shown.{IsModuleShown};
 
+use crate::checked::checked_of;
 use crate::roots::roots_shown;
+use crate::texts::Text;
 use anyhow::{Result, bail};
-use bloom_ast::check;
-use bloom_parse::{ParseFault, parse, print, tokens};
+use bloom_parse::{ParseFault, Token, print, tokens};
 use std::alloc::{AllocError, Global};
 
 /// What is shown of a text:
@@ -29,24 +30,31 @@ pub(crate) fn module_shown(alloc: Global, kind: &str, text: &[u8]) -> Result<Vec
 fn tokens_shown(alloc: Global, text: &[u8]) -> Result<Vec<u8>>
     requires { length text.now < 2 ^ 32 - 1 }
 {
-    let mut shown = String::new(alloc);
     match tokens(alloc, text) {
-        Ok(tokens) => {
-            for token in &tokens {
-                writeln!(shown, "{} {} {:?}", token.from, token.to, token.class)?;
-            }
-        }
-        Err(ParseFault::Text(fault)) => writeln!(shown, "bad {} {}", fault.line, fault.column)?,
-        Err(ParseFault::NoMemory) => return Err(AllocError.into()),
+        Ok(tokens) => lines_of(alloc, &tokens),
+        Err(ParseFault::Text(fault)) => bad_line(alloc, fault.line, fault.column),
+        Err(ParseFault::NoMemory) => Err(AllocError.into()),
     }
-    Ok(shown.into_bytes())
+}
+
+// A line for each token.
+fn lines_of(alloc: Global, tokens: &[Token]) -> Result<Vec<u8>> {
+    let mut shown = Text::new(alloc);
+    for token in tokens {
+        shown.add_text(format!(in alloc; "{} {} {:?}\n", token.from, token.to, token.class));
+    }
+    shown.into_bytes()
+}
+
+// The line of a place at which there is no token.
+fn bad_line(alloc: Global, line: u32, column: u32) -> Result<Vec<u8>> {
+    Ok(format!(in alloc; "bad {line} {column}\n")?.into_bytes())
 }
 
 fn printed(alloc: Global, text: &[u8]) -> Result<Vec<u8>>
     requires { length text.now < 2 ^ 32 - 1 }
     ensures { IfOk result (λ shown. IsModuleShown text.now shown.items) }
 {
-    let module = parse(alloc, text)?;
-    let checked = check(alloc, &module)?;
+    let checked = checked_of(alloc, text)?;
     Ok(print(alloc, &checked)?)
 }

@@ -2,9 +2,10 @@
 ghost use Rattle.std.specs.Prelude.{◌<◌, ◌-◌, ◌^◌, IfOk, length};
 ghost use Rattle.bloom_forms.specs.Program.{IsStock, output_columns};
 
+use crate::checked::checked_of;
+use crate::texts::Text;
 use anyhow::{Result, ensure};
-use bloom_ast::{Checked, Collection, Kind, Program, check};
-use bloom_parse::parse;
+use bloom_ast::{Checked, Collection, Kind, Program};
 use fd_closure::AttrNames;
 use path_annotate::roots;
 use std::alloc::Global;
@@ -14,8 +15,7 @@ use std::alloc::Global;
 pub(crate) fn roots_shown(alloc: Global, text: &[u8]) -> Result<Vec<u8>>
     requires { length text.now < 2 ^ 32 - 1 }
 {
-    let module = parse(alloc, text)?;
-    let checked = check(alloc, &module)?;
+    let checked = checked_of(alloc, text)?;
     let names = port_names(alloc, &checked)?;
     program_shown(alloc, &Program::Module(checked), &names)
 }
@@ -24,11 +24,11 @@ pub(crate) fn roots_shown(alloc: Global, text: &[u8]) -> Result<Vec<u8>>
 fn program_shown(alloc: Global, program: &Program, names: &AttrNames) -> Result<Vec<u8>>
     requires { IsStock program.now }
 {
-    let mut shown = Vec::new(alloc);
+    let mut shown = Text::new(alloc);
     for output in 0..program.output_count() {
         output_shown(alloc, program, names, output, &mut shown)?;
     }
-    Ok(shown)
+    shown.into_bytes()
 }
 
 // The names of the columns of a module's ports, each once.
@@ -55,7 +55,7 @@ fn output_shown(
     program: &Program,
     names: &AttrNames,
     output: u32,
-    shown: &mut Vec<u8>,
+    shown: &mut Text,
 ) -> Result<()>
     requires stock { IsStock program.now }
     requires within { output < length (output_columns program.now) }
@@ -65,13 +65,18 @@ fn output_shown(
         found.len() == program.output_width(output) as usize,
         "each column of the output has its root",
     );
-    shown.extend_from_slice(b"roots")?;
-    for root in &found {
-        shown.push(b' ')?;
-        shown.extend_from_slice(name_of(names, *root).as_bytes())?;
-    }
-    shown.push(b'\n')?;
+    line_shown(names, &found, shown);
     Ok(())
+}
+
+// Adds a line with some roots.
+fn line_shown(names: &AttrNames, found: &[Option<u8>], shown: &mut Text) {
+    shown.add(b"roots");
+    for root in found {
+        shown.add(b" ");
+        shown.add(name_of(names, *root).as_bytes());
+    }
+    shown.add(b"\n");
 }
 
 // The name of a root, or that there is none.

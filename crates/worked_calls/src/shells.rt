@@ -1,17 +1,18 @@
 //! Three boxed shells, with a module, with Number and with Latest: what they put out step by step, and what
 //! they keep.
-ghost use Rattle.std.specs.Prelude.{◌≡◌, ◌<◌, ◌-◌, ◌^◌, ◌∷◌, [], codes, length, Some, IsSome, IfOk, All};
+ghost use Rattle.std.specs.Prelude.{◌≡◌, ◌<◌, ◌-◌, ◌^◌, ◌∷◌, [], codes, length, Some, IsSome, IfOk, OnOk, All};
 ghost use Rattle.bloom_forms.specs.declared.program.Program.TheVariants.{Latest, Number};
 ghost use Rattle.bloom_forms.specs.Program.{IsStock, port_columns, table_columns};
 ghost use Rattle.bloom_forms.specs.Widths.{AreSetsOf};
 
+use crate::checked::program_of;
+use crate::texts::Text;
 use anyhow::{Result, ensure};
-use bloom_ast::{Program, check};
+use bloom_ast::Program;
 use bloom_eval::{Arrivals, Outs};
-use bloom_parse::parse;
 use blz_boxes::{Component, LatestShell, NumberShell, PlainShell};
 use blz_set::RecordSet;
-use blz_value::{Items, Record, Str, Value, write_record};
+use blz_value::{Items, Record, Str, Value};
 use std::alloc::{AllocError, Global};
 
 /// What a shell with Latest, one with Number and one with the module of a text, whose one port has two
@@ -19,124 +20,118 @@ use std::alloc::{AllocError, Global};
 pub(crate) fn shells_shown(alloc: Global, text: &[u8]) -> Result<Vec<u8>>
     requires { length text.now < 2 ^ 32 - 1 }
 {
-    let mut shells: Vec<Box<dyn Component>> = Vec::new(alloc);
-    shells.push(Box::new(alloc, PlainShell::new(alloc))?)?;
-    shells.push(Box::new(alloc, NumberShell::new(alloc))?)?;
-    shells.push(Box::new(alloc, LatestShell::new(alloc))?)?;
-    let mut shown = Vec::new(alloc);
-    if let Some(mut shell) = shells.pop() {
-        latest_shown(alloc, &mut shell, &mut shown)?;
-    }
-    if let Some(mut shell) = shells.pop() {
-        number_shown(alloc, &mut shell, &mut shown)?;
-    }
-    if let Some(mut shell) = shells.pop() {
-        tally_shown(alloc, &mut shell, text, &mut shown)?;
-    }
-    Ok(shown)
+    let mut shown = Text::new(alloc);
+    latest_shown(alloc, &mut shown)?;
+    number_shown(alloc, &mut shown)?;
+    tally_shown(alloc, text, &mut shown)?;
+    shown.into_bytes()
 }
 
 // Two puts of one word and the question for it arrive at once.
-fn latest_shown(alloc: Global, shell: &mut Box<dyn Component>, shown: &mut Vec<u8>) -> Result<()> {
-    let program = latest_program(alloc)?;
-    puts_shown(alloc, shell, &program, shown)
-}
-
-fn puts_shown(
-    alloc: Global,
-    shell: &mut Box<dyn Component>,
-    program: &Program,
-    shown: &mut Vec<u8>,
-) -> Result<()>
-    requires { program.now ≡ Latest (codes "word" ∷ codes "n" ∷ []) (0 ∷ []) }
-{
-    ensure!(shell.fits(program), "the last shell isn't one of Latest");
-    shell.load(program)?;
+fn latest_shown(alloc: Global, shown: &mut Text) -> Result<()> {
+    let mut shell: Box<dyn Component> = boxed(alloc, LatestShell::new(alloc))?;
     let now = puts_and_question(alloc)?;
-    let outs = stepped(alloc, shell, program, &now)?;
-    show_sets("puts out", outs.sets(), shown)?;
-    kept_and_cleared(alloc, shell, program, shown)
+    let program = latest_program(alloc)?;
+    once_shown(alloc, &mut shell, &program, &now, shown)
 }
 
 // The record (7) arrives.
-fn number_shown(alloc: Global, shell: &mut Box<dyn Component>, shown: &mut Vec<u8>) -> Result<()> {
+fn number_shown(alloc: Global, shown: &mut Text) -> Result<()> {
+    let mut shell: Box<dyn Component> = boxed(alloc, NumberShell::new(alloc))?;
+    let now = seven(alloc)?;
     let program = number_program(alloc)?;
-    seven_shown(alloc, shell, &program, shown)
+    once_shown(alloc, &mut shell, &program, &now, shown)
 }
 
-fn seven_shown(
+// What a shell puts out and keeps where this arrives.
+fn once_shown(
     alloc: Global,
     shell: &mut Box<dyn Component>,
-    program: &Program,
-    shown: &mut Vec<u8>,
+    given: &Program,
+    now: &Arrivals,
+    shown: &mut Text,
 ) -> Result<()>
-    requires { program.now ≡ Number (codes "x" ∷ []) }
+    requires stock { IsStock given.now }
+    requires table { length (table_columns given.now) ≡ 1 }
+    requires wide { AreSetsOf (port_columns given.now) now.now }
 {
-    ensure!(shell.fits(program), "the middle shell isn't one of Number");
-    shell.load(program)?;
-    let outs = stepped(alloc, shell, program, &seven(alloc)?)?;
-    show_sets("puts out", outs.sets(), shown)?;
-    kept_and_cleared(alloc, shell, program, shown)
+    load(shell, given)?;
+    step_shown(alloc, shell, given, now, shown)?;
+    kept_and_cleared(alloc, shell, given, shown)
 }
 
 // The records (1, 10) and (1, 11) arrive one after the other.
-fn tally_shown(
-    alloc: Global,
-    shell: &mut Box<dyn Component>,
-    text: &[u8],
-    shown: &mut Vec<u8>,
-) -> Result<()>
+fn tally_shown(alloc: Global, text: &[u8], shown: &mut Text) -> Result<()>
     requires { length text.now < 2 ^ 32 - 1 }
 {
-    let program = program_of(alloc, text)?;
-    clicks_shown(alloc, shell, &program, shown)
+    let mut shell: Box<dyn Component> = boxed(alloc, PlainShell::new(alloc))?;
+    let program = program_of(alloc, text, 1)?;
+    clicks_shown(alloc, &mut shell, &program, shown)
 }
 
 fn clicks_shown(
     alloc: Global,
     shell: &mut Box<dyn Component>,
     program: &Program,
-    shown: &mut Vec<u8>,
+    shown: &mut Text,
 ) -> Result<()>
     requires stock { IsStock program.now }
     requires table { length (table_columns program.now) ≡ 1 }
 {
-    ensure!(shell.fits(program), "the first shell isn't one for modules");
-    shell.load(program)?;
-    let outs = stepped(alloc, shell, program, &click(alloc, program, 10)?)?;
-    show_sets("puts out", outs.sets(), shown)?;
-    let outs = stepped(alloc, shell, program, &click(alloc, program, 11)?)?;
-    show_sets("puts out", outs.sets(), shown)?;
+    load(shell, program)?;
+    click_shown(alloc, shell, program, 10, shown)?;
+    click_shown(alloc, shell, program, 11, shown)?;
     kept_and_cleared(alloc, shell, program, shown)
 }
 
-// The program of the module that a text is, which has one table.
-fn program_of(alloc: Global, text: &[u8]) -> Result<Program>
-    requires { length text.now < 2 ^ 32 - 1 }
-    ensures stock { IfOk result IsStock }
-    ensures table { IfOk result (λ program. length (table_columns program) ≡ 1) }
+// The record of 1 and a number arrives.
+fn click_shown(
+    alloc: Global,
+    shell: &mut Box<dyn Component>,
+    given: &Program,
+    id: i64,
+    shown: &mut Text,
+) -> Result<()>
+    requires stock { IsStock given.now }
+    requires loaded { program shell.old ≡ Some given.now }
+    ensures loaded { program shell.new ≡ Some given.now }
+    ensures kept { OnOk result (length (kept shell.new) ≡ length (table_columns given.now)) }
 {
-    let module = parse(alloc, text)?;
-    let program = Program::Module(check(alloc, &module)?);
-    ensure!(program.table_count() == 1, "the module has one table");
-    Ok(program)
+    let now = click(alloc, given, id)?;
+    step_shown(alloc, shell, given, &now, shown)
 }
 
-// Steps a shell that is loaded, and gives what it puts out.
-pub(crate) fn stepped(
+/// A value in a box of its own.
+pub(crate) fn boxed<T: Drop>(alloc: Global, value: T) -> Result<Box<T>, AllocError> {
+    Ok(Box::new(alloc, value)?)
+}
+
+/// Loads a shell with a program for which it is one.
+pub(crate) fn load(shell: &mut Box<dyn Component>, given: &Program) -> Result<()>
+    requires { IsStock given.now }
+    ensures { OnOk result (program shell.new ≡ Some given.now) }
+{
+    ensure!(shell.fits(given), "the shell isn't one for the program");
+    Ok(shell.load(given)?)
+}
+
+/// Steps a shell that is loaded, and adds a line with what it puts out.
+pub(crate) fn step_shown(
     alloc: Global,
     shell: &mut Box<dyn Component>,
     given: &Program,
     now: &Arrivals,
-) -> Result<Outs>
+    shown: &mut Text,
+) -> Result<()>
     requires loaded { program shell.old ≡ Some given.now }
     requires wide { AreSetsOf (port_columns given.now) now.now }
     ensures loaded { program shell.new ≡ Some given.now }
-    ensures kept { IfOk result (λ _. length (kept shell.new) ≡ length (table_columns given.now)) }
+    ensures kept { OnOk result (length (kept shell.new) ≡ length (table_columns given.now)) }
 {
     let mut outs = Outs::from_sets(Vec::new(alloc));
     shell.step(now, &mut outs)?;
-    Ok(outs)
+    shown.add_sets("puts out", outs.sets());
+    Ok(())
 }
 
 // Shows the one table of a loaded shell, clears the shell, and shows it again.
@@ -144,15 +139,31 @@ fn kept_and_cleared(
     alloc: Global,
     shell: &mut Box<dyn Component>,
     given: &Program,
-    shown: &mut Vec<u8>,
+    shown: &mut Text,
 ) -> Result<()>
     requires loaded { program shell.old ≡ Some given.now }
     requires table { length (table_columns given.now) ≡ 1 }
     requires kept { length (kept shell.old) ≡ 1 }
 {
-    show_kept(alloc, shell, shown)?;
+    show_table(alloc, shell, 0, shown)?;
     shell.clear();
-    show_kept(alloc, shell, shown)
+    show_table(alloc, shell, 0, shown)
+}
+
+/// Adds a line with a table of a loaded shell.
+pub(crate) fn show_table(
+    alloc: Global,
+    shell: &Box<dyn Component>,
+    table: u32,
+    shown: &mut Text,
+) -> Result<()>
+    requires loaded { IsSome (program shell.now) }
+    requires table { table < length (kept shell.now) }
+{
+    let mut rows = RecordSet::new(alloc);
+    shell.kept_rows(table, &mut rows)?;
+    shown.add_line("keeps", rows.rows());
+    Ok(())
 }
 
 /// Adds a line with the first table of a loaded shell.
@@ -160,38 +171,28 @@ pub fn show_kept(alloc: Global, shell: &Box<dyn Component>, shown: &mut Vec<u8>)
     requires loaded { IsSome (program shell.now) }
     requires table { 0 < length (kept shell.now) }
 {
-    let mut rows = RecordSet::new(alloc);
-    shell.kept_rows(0, &mut rows)?;
-    show_sets("keeps", &[rows], shown)?;
-    Ok(())
-}
-
-// Adds a line with a word and the records of some sets.
-pub(crate) fn show_sets(
-    word: &str,
-    sets: &[RecordSet],
-    shown: &mut Vec<u8>,
-) -> Result<(), AllocError> {
-    shown.extend_from_slice(word.as_bytes())?;
-    for rows in sets {
-        for row in rows.rows() {
-            shown.push(b' ')?;
-            write_record(row, shown)?;
-        }
-    }
-    shown.push(b'\n')?;
-    Ok(())
+    let mut line = Text::new(alloc);
+    show_table(alloc, shell, 0, &mut line)?;
+    let line = line.into_bytes()?;
+    Ok(shown.extend_from_slice(&line)?)
 }
 
 // Latest with the columns `word` and `n` and the key `word`.
 fn latest_program(alloc: Global) -> Result<Program, AllocError>
     ensures { IfOk result (λ program. program ≡ Latest (codes "word" ∷ codes "n" ∷ []) (0 ∷ [])) }
 {
-    let columns = vec![in alloc; Str::from_text(alloc, "word")?, Str::from_text(alloc, "n")?]?;
-    Ok(Program::Latest {
-        columns: Items::from_vec(columns),
-        keys: Items::from_vec(vec![in alloc; 0]?),
-    })
+    let columns = Items::from_vec(latest_columns(alloc)?);
+    let keys = Items::from_vec(vec![in alloc; 0]?);
+    Ok(Program::Latest { columns, keys })
+}
+
+// The columns `word` and `n`.
+fn latest_columns(alloc: Global) -> Result<Vec<Str>, AllocError>
+    ensures { IfOk result (λ columns. columns.items ≡ codes "word" ∷ codes "n" ∷ []) }
+{
+    let word = Str::from_text(alloc, "word")?;
+    let n = Str::from_text(alloc, "n")?;
+    Ok(vec![in alloc; word, n]?)
 }
 
 // Number with the column `x`.
@@ -208,11 +209,19 @@ fn text_value(alloc: Global, text: &str) -> Result<Value, AllocError> {
     Ok(Value::Text(Str::from_text(alloc, text)?))
 }
 
-// A record of two values.
+/// A record of two values.
 pub(crate) fn pair(alloc: Global, first: Value, second: i64) -> Result<Record, AllocError>
     ensures { IfOk result (λ row. length row ≡ 2) }
 {
     Ok(Record::from_values(vec![in alloc; first, Value::Int(second)]?))
+}
+
+/// The record of two numbers, alone.
+pub(crate) fn lone_pair(alloc: Global, first: i64, second: i64) -> Result<RecordSet>
+    ensures { IfOk result (All (λ row. length row ≡ 2)) }
+{
+    let row = pair(alloc, Value::Int(first), second)?;
+    Ok(RecordSet::from_rows(vec![in alloc; row]?)?)
 }
 
 // What arrives at the two ports of Latest.
@@ -220,9 +229,24 @@ fn puts_and_question(alloc: Global) -> Result<Arrivals>
     ensures { IfOk result (AreSetsOf (port_columns (Latest (codes "word" ∷ codes "n" ∷ []) (0 ∷ [])))) }
 {
     let puts = puts(alloc)?;
-    let asked = Record::from_values(vec![in alloc; text_value(alloc, "a")?]?);
-    let asks = RecordSet::from_rows(vec![in alloc; asked]?)?;
+    let asks = asks(alloc)?;
     Ok(Arrivals::from_sets(vec![in alloc; puts, asks]?))
+}
+
+// The record ("a"), alone.
+fn asks(alloc: Global) -> Result<RecordSet>
+    ensures { IfOk result (All (λ row. length row ≡ 1)) }
+{
+    let asked = asked(alloc)?;
+    Ok(RecordSet::from_rows(vec![in alloc; asked]?)?)
+}
+
+// The record ("a").
+fn asked(alloc: Global) -> Result<Record, AllocError>
+    ensures { IfOk result (λ row. length row ≡ 1) }
+{
+    let word = text_value(alloc, "a")?;
+    Ok(Record::from_values(vec![in alloc; word]?))
 }
 
 // The records ("a", 1) and ("a", 2).
@@ -251,7 +275,6 @@ fn click(alloc: Global, program: &Program, id: i64) -> Result<Arrivals>
 {
     ensure!(program.port_count() == 1, "the module has one port");
     ensure!(program.port_width(0) == 2, "its port has two columns");
-    let click = pair(alloc, Value::Int(1), id)?;
-    let rows = RecordSet::from_rows(vec![in alloc; click]?)?;
+    let rows = lone_pair(alloc, 1, id)?;
     Ok(Arrivals::from_sets(vec![in alloc; rows]?))
 }

@@ -23,27 +23,62 @@ pub fn work_shown(
     files: &mut MemFiles,
 ) -> Result<Option<Vec<u8>>> {
     match words {
-        [kind, topology] if kind.as_str() == "upheld" => {
-            Ok(Some(upheld_shown(alloc, topology.as_str(), files)?))
-        }
-        [kind, topology] if kind.as_str() == "heard" => {
-            Ok(Some(heard_shown(alloc, topology.as_str(), files)?))
-        }
-        [kind, topology, given] if kind.as_str() == "held" => {
-            Ok(Some(held_shown(alloc, topology.as_str(), given.as_str(), files)?))
-        }
-        [kind, topology, given] if kind.as_str() == "made" => {
-            Ok(Some(made_shown(alloc, topology.as_str(), given.as_str(), files)?))
+        [kind, topology] => topology_shown(alloc, kind.as_str(), topology.as_str(), files),
+        [kind, topology, given] => {
+            data_shown(
+                alloc,
+                kind.as_str(),
+                topology.as_str(),
+                given.as_str(),
+                files,
+            )
         }
         [kind, topology, given, schedule] => {
             let names = (topology.as_str(), given.as_str(), schedule.as_str());
-            match kind.as_str() {
-                "placed" | "poor" | "emitted" => {
-                    Ok(Some(run_shown(alloc, kind.as_str(), names, files)?))
-                }
-                _ => Ok(None),
-            }
+            schedule_shown(alloc, kind.as_str(), names, files)
         }
+        _ => Ok(None),
+    }
+}
+
+// The same for a word and a topology.
+fn topology_shown(
+    alloc: Global,
+    kind: &str,
+    topology: &str,
+    files: &mut MemFiles,
+) -> Result<Option<Vec<u8>>> {
+    match kind {
+        "upheld" => Ok(Some(upheld_shown(alloc, topology, files)?)),
+        "heard" => Ok(Some(heard_shown(alloc, topology, files)?)),
+        _ => Ok(None),
+    }
+}
+
+// The same for a word, a topology and data.
+fn data_shown(
+    alloc: Global,
+    kind: &str,
+    topology: &str,
+    given: &str,
+    files: &mut MemFiles,
+) -> Result<Option<Vec<u8>>> {
+    match kind {
+        "held" => Ok(Some(held_shown(alloc, topology, given, files)?)),
+        "made" => Ok(Some(made_shown(alloc, topology, given, files)?)),
+        _ => Ok(None),
+    }
+}
+
+// The same for a word, a topology, data and a schedule.
+fn schedule_shown(
+    alloc: Global,
+    kind: &str,
+    names: (&str, &str, &str),
+    files: &mut MemFiles,
+) -> Result<Option<Vec<u8>>> {
+    match kind {
+        "placed" | "poor" | "emitted" => Ok(Some(run_shown(alloc, kind, names, files)?)),
         _ => Ok(None),
     }
 }

@@ -232,6 +232,15 @@ const FEW: [Step; 9] = [
     Step::Copy,
 ];
 
+// A set to which few rows come: one goes before its own, and one behind them.
+const MANY: [Step; 5] = [
+    Step::Union(0, 41),
+    Step::Count,
+    Step::At(0),
+    Step::At(1),
+    Step::At(41),
+];
+
 // A set of as many rows as there may be.
 const FULL: [Step; 11] = [
     Step::Insert(0),
@@ -288,6 +297,7 @@ pub(crate) fn show(lines: &mut Lines) -> Result<(), AllocError> {
     show_operators_of_nothing(lines)?;
     show_sums(lines)?;
     show_steps(lines, 3, &FEW)?;
+    show_steps(lines, 40, &MANY)?;
     show_steps(lines, 262_144, &FULL)?;
     show_pairs(lines, 512)?;
     show_pairs(lines, 513)

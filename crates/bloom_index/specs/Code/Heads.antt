@@ -14,21 +14,21 @@ use Rattle.bloom_eval.specs.StepAnswers.{AllFit, SomeIsOver}
 use Rattle.bloom_growth.specs.Growth.{Extends}
 use Rattle.bloom_parts.specs.declared.change.Change.{Change}
 use Rattle.bloom_parts.specs.Bodies.{BodyRows}
-use Rattle.bloom_index.specs.declared.memo.Memo.{Memo}
+use Rattle.bloom_index.specs.declared.plan.Plan.{Plan}
 use Rattle.bloom_index.specs.Code.Evaluation.{Stands, IsReady}
 use Rattle.bloom_index.specs.Code.Lasting.{lasts}
 
 -- ---- one rule
 
 -- a growing head, of which the fresh rows are new since the start, gets the rows of a rule's body; TooManyRows comes exactly where it gets too many or a part has
-abbrev pub GrowsBy : (body : NumberedExpr) (m after : Memo) (held : List Change) → IsReady body m held → (start rows new made : List Row) → Result (Unit {0}) SetFault → Type 0
+abbrev pub GrowsBy : (body : NumberedExpr) (m after : Plan) (held : List Change) → IsReady body m held → (start rows new made : List Row) → Result (Unit {0}) SetFault → Type 0
 GrowsBy body m after held ready start rows new made (Ok x) =
     (new ≡ set_of (rows ++ numbered_rows ready.new body)) × Stands ready.growing ready.lasting ready.new body after × AllFit (new ∷ numbered_sets ready.new body) × Extends start new made
 GrowsBy body m after held ready start rows new made (Err TooManyRows) = SomeIsOver (set_of (rows ++ numbered_rows ready.new body) ∷ numbered_sets ready.new body)
 GrowsBy body m after held ready start rows new made (Err NoMemory) = Unit {0}
 
 -- the rows of the body that a head has already, where the body is kept
-abbrev pub HasOldRows : (body : NumberedExpr) (m : Memo) (held : List Change) → IsReady body m held → (rows : List Row) → Type 0
+abbrev pub HasOldRows : (body : NumberedExpr) (m : Plan) (held : List Change) → IsReady body m held → (rows : List Row) → Type 0
 HasOldRows body m held ready rows = IsTrue (lasts ready.lasting body) → IsWithin (numbered_rows ready.old body) rows
 
 -- rows of the new ones, and each of these that isn't an old one

@@ -1,7 +1,7 @@
 -- The sides of rules by numbers, and the sides that are kept of them.
-use Rattle.std.specs.Prelude.{ℕ, ◌≡◌, ◌+◌, Bool, if◌then◌else◌, List, [], ◌∷◌, ◌++◌, length, slice_get, IsSomeAnd}
+use Rattle.std.specs.Prelude.{ℕ, ◌≡◌, ◌+◌, ◌<◌, Bool, if◌then◌else◌, List, [], ◌∷◌, ◌++◌, length, slice_get, IsSomeAnd}
 use denote.Ref.{Bor}
-use Rattle.std.specs.List.{AllZip, flat_map}
+use Rattle.std.specs.List.{flat_map}
 use Rattle.std.specs.declared.ops.ControlFlow.{ControlFlow}
 use Rattle.std.specs.declared.ops.ControlFlow.TheVariants.{Continue, Break}
 use Rattle.blz_set.specs.Pairs.{lefts_of, rights_of}
@@ -11,11 +11,13 @@ use Rattle.bloom_forms.specs.Step.{Sets}
 use Rattle.bloom_eval.specs.NumberedRows.{numbered_rows}
 use Rattle.bloom_parts.specs.declared.part_rows.PartRows.{PartRows}
 use Rattle.bloom_parts.specs.declared.part_rows.PartRows.TheVariants.{Growing, Keyed}
-use Rattle.bloom_index.specs.declared.memo.Memo.{Memo}
+use Rattle.bloom_index.specs.declared.plan.Plan.{Plan}
 use Rattle.bloom_growth.specs.declared.side.Side.{Side}
-use Rattle.bloom_index.specs.Code.Evaluation.{Stands}
+use Rattle.bloom_index.specs.Code.Evaluation.{PlanStands}
 use Rattle.bloom_index.specs.Code.Growth.{grows}
+use Rattle.bloom_index.specs.Code.Kept.{PlansStand}
 use Rattle.bloom_index.specs.Code.Lasting.{GrowLast}
+use Rattle.bloom_index.specs.Code.Plans.{expr_of}
 use Rattle.bloom_growth.specs.Sides.{IsSideOf}
 
 -- ---- sides by numbers
@@ -44,25 +46,31 @@ numbered_sides growing (AtLeast' p e keys bound) = numbered_sides growing e
 abbrev pub rules_sides : List Bool → List NumberedRule → List NumberedSide
 rules_sides growing rules = flat_map (λ rule. numbered_sides growing rule.body) rules
 
+-- the sides of plans
+abbrev pub plans_sides : List Bool → List Plan → List NumberedSide
+plans_sides growing plans = flat_map (λ (m : Plan). numbered_sides growing (expr_of m)) plans
+
 -- ---- sides that are kept
 
--- what is kept of an expression stands for it over some sets
-pub record IsKept (growing : List Bool) (e : NumberedExpr) (m : Memo) : Type 0 where
+-- what is kept by a plan is that over some sets
+pub record IsKept (growing : List Bool) (m : Plan) : Type 0 where
   pub lasting : List Bool
   pub sets : Sets
   pub last : GrowLast growing lasting
-  pub stands : Stands growing lasting sets e m
+  pub stands : PlanStands growing lasting sets m
 
--- what is kept of each rule's body is that over these sets
-abbrev pub BodiesStand : (growing lasting : List Bool) → Sets → List NumberedRule → List Memo → Type 0
-BodiesStand growing lasting sets rules memos = AllZip (λ rule memo. Stands growing lasting sets rule.body memo) rules memos
-
--- the same over some sets
-pub record AreKept (growing : List Bool) (rules : List NumberedRule) (memos : List Memo) : Type 0 where
+-- what is kept by each plan is
+pub record AreKept (growing : List Bool) (plans : List Plan) : Type 0 where
   pub lasting : List Bool
   pub sets : Sets
   pub last : GrowLast growing lasting
-  pub stand : BodiesStand growing lasting sets rules memos
+  pub stand : PlansStand growing lasting sets plans
+
+-- plans by which something is kept have a side with this number
+pub record HasSide (plans : List Plan) (number : ℕ) : Type 0 where
+  pub growing : List Bool
+  pub kept : AreKept growing plans
+  pub within : number < length (plans_sides growing plans)
 
 -- a side has the rows of a part over the sets, by the part's columns
 abbrev pub HasRowsOf : Sets → Side → NumberedSide → Type 0

@@ -1,7 +1,7 @@
--- the sides of the rules so far were passed
+-- the sides of the plans so far were passed
 use Rattle.std.proofs.Common.{◌≡◌, ◌+◌, length, take}
-use Rattle.bloom_index.specs.Code.SideParts.{rules_sides}
+use Rattle.bloom_index.specs.Code.SideParts.{plans_sides, HasSide}
 use Rattle.bloom_index.proofs.sides.side_at.Given as goal
 
-abbrev pub invariant-loop-i : goal.invariant-loop-i
-invariant-loop-i l = l.left + length (rules_sides l.growing (take l.i l.rules)) ≡ l.number
+abbrev pub invariant-loop-plan : goal.invariant-loop-plan
+invariant-loop-plan l = (has : HasSide l.plans l.number) → l.left + length (plans_sides has.growing (take l.plan-index l.plans)) ≡ l.number

@@ -12,10 +12,13 @@ use Rattle.bloom_forms.specs.Program.{columns_of_kind}
 use Rattle.bloom_eval.proofs.Widths.{length-sets_of}
 use Rattle.bloom_parts.specs.declared.change.Change.{Change}
 use Rattle.bloom_index.specs.Code.Growth.{grows_at}
+use Rattle.bloom_index.specs.Code.HeadRules.{CanTurn}
 use Rattle.bloom_index.specs.Code.Kept.{tables_in}
 use Rattle.bloom_index.specs.Code.Lasting.{lasts_at}
+use Rattle.bloom_index.specs.Code.Plans.{rules_by}
 use Rattle.bloom_index.specs.Code.Arriving.{arrived_in}
 use Rattle.bloom_index.specs.Code.StepSets.{AreBegunAt, outs_in}
+use Rattle.bloom_index.proofs.PlanRules.{rules_numbered, heads_same}
 use Rattle.bloom_index.proofs.StepEnds.{mid_starts, parts_end, tables_end, fits_end, puts_out}
 use Rattle.bloom_index.proofs.StepHeads.{IsStep}
 use Rattle.bloom_index.proofs.StepLoops.{fault_is, kind_read}
@@ -44,12 +47,12 @@ loop-head-init c =
     let lasting = parts.lasting.items in
     let tables = tables_in a parts.rows.items in
     let now = (arrived_in c.args.now.now) in
-    let rules = c.rules-rules.result.now in
+    let rules = rules_by a.form.collections a.form.rules c.args.parts.now.plans.items in
     let held = c.in_ok-held.held.items in
     let same = c.as_slice-collections.ensures ∙ ap (λ (f : Form). f.collections) c.module-written.ensures.form in
     let st : IsStep a rules growing lasting tables now = record {
       checked = c.module-written.ensures.checked;
-      numbered = c.rules-rules.ensures.numbered;
+      numbered = rules_numbered a.form.collections a.form.rules parts.plans.items c.requires.parts.numbered;
       are = c.requires.parts.growing;
       last = c.requires.parts.lasting;
       still = c.requires.parts.still;
@@ -57,7 +60,7 @@ loop-head-init c =
       ports = c.requires.ports;
     } in
     let begun = subst (λ (cs : List Collection). AreBegunAt cs lasting now (length cs) held) same c.in_ok-held.ensures.begun in
-    (st, mid_starts a rules growing lasting tables now st parts held c.requires.parts refl refl refl c.in_ok-held.ensures.sets begun)
+    (st, mid_starts a rules growing lasting tables now st parts held c.requires.parts refl refl refl refl c.in_ok-held.ensures.sets begun)
 
 pub bounds-collections-number : goal.bounds-collections-number
 bounds-collections-number c =
@@ -66,7 +69,7 @@ bounds-collections-number c =
     let lasting = c.args.parts.now.lasting.items in
     let tables = tables_in a c.args.parts.now.rows.items in
     let now = (arrived_in c.args.now.now) in
-    let rules = c.rules-rules.result.now in
+    let rules = rules_by a.form.collections a.form.rules c.args.parts.now.plans.items in
     let parts = c.loop-head.parts in
     let i = c.loop-head.head-index in
     let read = c.heads-head-items.result.now in
@@ -85,7 +88,7 @@ head_change-requires-clause-growing c =
     let lasting = c.args.parts.now.lasting.items in
     let tables = tables_in a c.args.parts.now.rows.items in
     let now = (arrived_in c.args.now.now) in
-    let rules = c.rules-rules.result.now in
+    let rules = rules_by a.form.collections a.form.rules c.args.parts.now.plans.items in
     let parts = c.loop-head.parts in
     let i = c.loop-head.head-index in
     let read = c.heads-head-items.result.now in
@@ -103,7 +106,7 @@ head_change-requires-clause-lasting c =
     let lasting = c.args.parts.now.lasting.items in
     let tables = tables_in a c.args.parts.now.rows.items in
     let now = (arrived_in c.args.now.now) in
-    let rules = c.rules-rules.result.now in
+    let rules = rules_by a.form.collections a.form.rules c.args.parts.now.plans.items in
     let parts = c.loop-head.parts in
     let i = c.loop-head.head-index in
     let read = c.heads-head-items.result.now in
@@ -121,7 +124,7 @@ head_change-requires-clause-rows c =
     let lasting = c.args.parts.now.lasting.items in
     let tables = tables_in a c.args.parts.now.rows.items in
     let now = (arrived_in c.args.now.now) in
-    let rules = c.rules-rules.result.now in
+    let rules = rules_by a.form.collections a.form.rules c.args.parts.now.plans.items in
     let parts = c.loop-head.parts in
     let i = c.loop-head.head-index in
     let read = c.heads-head-items.result.now in
@@ -139,7 +142,7 @@ head_change-requires-clause-bags c =
     let lasting = c.args.parts.now.lasting.items in
     let tables = tables_in a c.args.parts.now.rows.items in
     let now = (arrived_in c.args.now.now) in
-    let rules = c.rules-rules.result.now in
+    let rules = rules_by a.form.collections a.form.rules c.args.parts.now.plans.items in
     let parts = c.loop-head.parts in
     let i = c.loop-head.head-index in
     let read = c.heads-head-items.result.now in
@@ -157,7 +160,7 @@ head_change-requires-clause-ready c =
     let lasting = c.args.parts.now.lasting.items in
     let tables = tables_in a c.args.parts.now.rows.items in
     let now = (arrived_in c.args.now.now) in
-    let rules = c.rules-rules.result.now in
+    let rules = rules_by a.form.collections a.form.rules c.args.parts.now.plans.items in
     let parts = c.loop-head.parts in
     let i = c.loop-head.head-index in
     let read = c.heads-head-items.result.now in
@@ -166,7 +169,11 @@ head_change-requires-clause-ready c =
     let st = c.loop-head.invariant.0 in
     let held = c.deref.result.now in
     let m = mid_one a rules growing lasting tables now st parts c.loop-head.held.items held read i c.deref.ensures.value c.heads-head-items.ensures c.loop-head-test.true c.loop-head.invariant.1 in
-    mid_ready a rules growing lasting tables now st parts held h left m
+    record {
+      rules = rules;
+      heads = heads_same a.form.collections a.form.rules rules c.rules-rules.result.now st.numbered c.rules-rules.ensures.numbered;
+      ready = mid_ready a rules growing lasting tables now st parts held h left m;
+    }
 
 pub returns-in_err-change-clause-too_many : goal.returns-in_err-change-clause-too_many
 returns-in_err-change-clause-too_many c =
@@ -175,7 +182,7 @@ returns-in_err-change-clause-too_many c =
     let lasting = c.args.parts.now.lasting.items in
     let tables = tables_in a c.args.parts.now.rows.items in
     let now = (arrived_in c.args.now.now) in
-    let rules = c.rules-rules.result.now in
+    let rules = rules_by a.form.collections a.form.rules c.args.parts.now.plans.items in
     let parts = c.loop-head.parts in
     let i = c.loop-head.head-index in
     let read = c.heads-head-items.result.now in
@@ -188,7 +195,11 @@ returns-in_err-change-clause-too_many c =
     let fault = c.in_err-change.field-0.0 in
     let parts2 = c.head_change.new.parts in
     let e = c.in_err-change.ensures in
-    let ready = mid_ready a rules growing lasting tables now st parts held h left m in
+    let can : CanTurn c.rules-rules.result.now h parts.plans.items held = record {
+      rules = rules;
+      heads = heads_same a.form.collections a.form.rules rules c.rules-rules.result.now st.numbered c.rules-rules.ensures.numbered;
+      ready = mid_ready a rules growing lasting tables now st parts held h left m;
+    } in
     let grow_is = ap (λ (l : List Bool). grows_at l h) m.growing_is in
     let last_is = ap (λ (l : List Bool). lasts_at l h) m.lasting_is in
     let changed : HasChanged a rules growing lasting tables now st parts held h left m parts2 whole (Err fault) = record {
@@ -197,9 +208,9 @@ returns-in_err-change-clause-too_many c =
       rows = e.rows;
       bags = e.bags;
       others = e.others;
-      grown = λ has grow. e.grown ready (sym m.growing_is) has (grow_is ∙ grow);
-      turned = λ was is at at2 given all none last. e.turned ready was is at at2 (sym m.lasting_is) given all (grow_is ∙ none) (last_is ∙ last);
-      made = λ was is at at2 given none passing. e.made ready was is at at2 (sym m.lasting_is) given (grow_is ∙ none) (last_is ∙ passing);
+      grown = λ has grow. e.grown can (sym m.growing_is) has (grow_is ∙ grow);
+      turned = λ was is at at2 given all none last. e.turned can was is at at2 (sym m.lasting_is) given all (grow_is ∙ none) (last_is ∙ last);
+      made = λ was is at at2 given none passing. e.made can was is at at2 (sym m.lasting_is) given (grow_is ∙ none) (last_is ∙ passing);
     } in
     λ many. head_refused a rules growing lasting tables now st parts held h left m parts2 whole fault changed (fault_is c.from_residual-in_err-change.result fault c.from_residual-in_err-change.ensures.1 many)
 
@@ -210,7 +221,7 @@ put_change-requires c =
     let lasting = c.args.parts.now.lasting.items in
     let tables = tables_in a c.args.parts.now.rows.items in
     let now = (arrived_in c.args.now.now) in
-    let rules = c.rules-rules.result.now in
+    let rules = rules_by a.form.collections a.form.rules c.args.parts.now.plans.items in
     let parts = c.loop-head.parts in
     let i = c.loop-head.head-index in
     let read = c.heads-head-items.result.now in
@@ -228,7 +239,7 @@ loop-head-preserved c =
     let lasting = c.args.parts.now.lasting.items in
     let tables = tables_in a c.args.parts.now.rows.items in
     let now = (arrived_in c.args.now.now) in
-    let rules = c.rules-rules.result.now in
+    let rules = rules_by a.form.collections a.form.rules c.args.parts.now.plans.items in
     let parts = c.loop-head.parts in
     let i = c.loop-head.head-index in
     let read = c.heads-head-items.result.now in
@@ -242,7 +253,11 @@ loop-head-preserved c =
     let held2 = c.put_change.new.held.items in
     let parts2 = c.head_change.new.parts in
     let e = c.in_ok-change.ensures in
-    let ready = mid_ready a rules growing lasting tables now st parts held h left m in
+    let can : CanTurn c.rules-rules.result.now h parts.plans.items held = record {
+      rules = rules;
+      heads = heads_same a.form.collections a.form.rules rules c.rules-rules.result.now st.numbered c.rules-rules.ensures.numbered;
+      ready = mid_ready a rules growing lasting tables now st parts held h left m;
+    } in
     let grow_is = ap (λ (l : List Bool). grows_at l h) m.growing_is in
     let last_is = ap (λ (l : List Bool). lasts_at l h) m.lasting_is in
     let changed : HasChanged a rules growing lasting tables now st parts held h left m parts2 whole (Ok change) = record {
@@ -251,9 +266,9 @@ loop-head-preserved c =
       rows = e.rows;
       bags = e.bags;
       others = e.others;
-      grown = λ has grow. e.grown ready (sym m.growing_is) has (grow_is ∙ grow);
-      turned = λ was is at at2 given all none last. e.turned ready was is at at2 (sym m.lasting_is) given all (grow_is ∙ none) (last_is ∙ last);
-      made = λ was is at at2 given none passing. e.made ready was is at at2 (sym m.lasting_is) given (grow_is ∙ none) (last_is ∙ passing);
+      grown = λ has grow. e.grown can (sym m.growing_is) has (grow_is ∙ grow);
+      turned = λ was is at at2 given all none last. e.turned can was is at at2 (sym m.lasting_is) given all (grow_is ∙ none) (last_is ∙ last);
+      made = λ was is at at2 given none passing. e.made can was is at at2 (sym m.lasting_is) given (grow_is ∙ none) (last_is ∙ passing);
     } in
     let put = c.put_change.ensures.held ∙ ap (λ (l : List Change). slice_set l h change) (sym c.deref.ensures.value) in
     let same = c.as_slice-collections.ensures ∙ ap (λ (f : Form). f.collections) c.module-written.ensures.form in
@@ -270,7 +285,7 @@ returns-clause-parts c =
     let lasting = c.args.parts.now.lasting.items in
     let tables = tables_in a c.args.parts.now.rows.items in
     let now = (arrived_in c.args.now.now) in
-    let rules = c.rules-rules.result.now in
+    let rules = rules_by a.form.collections a.form.rules c.args.parts.now.plans.items in
     let parts = c.loop-head.parts in
     let i = c.loop-head.head-index in
     let st = c.loop-head.invariant.0 in
@@ -285,7 +300,7 @@ returns-clause-tables c =
     let lasting = c.args.parts.now.lasting.items in
     let tables = tables_in a c.args.parts.now.rows.items in
     let now = (arrived_in c.args.now.now) in
-    let rules = c.rules-rules.result.now in
+    let rules = rules_by a.form.collections a.form.rules c.args.parts.now.plans.items in
     let parts = c.loop-head.parts in
     let i = c.loop-head.head-index in
     let st = c.loop-head.invariant.0 in
@@ -300,7 +315,7 @@ returns-clause-many c =
     let lasting = c.args.parts.now.lasting.items in
     let tables = tables_in a c.args.parts.now.rows.items in
     let now = (arrived_in c.args.now.now) in
-    let rules = c.rules-rules.result.now in
+    let rules = rules_by a.form.collections a.form.rules c.args.parts.now.plans.items in
     let parts = c.loop-head.parts in
     let i = c.loop-head.head-index in
     let st = c.loop-head.invariant.0 in
@@ -315,7 +330,7 @@ returns-clause-outs c =
     let lasting = c.args.parts.now.lasting.items in
     let tables = tables_in a c.args.parts.now.rows.items in
     let now = (arrived_in c.args.now.now) in
-    let rules = c.rules-rules.result.now in
+    let rules = rules_by a.form.collections a.form.rules c.args.parts.now.plans.items in
     let parts = c.loop-head.parts in
     let i = c.loop-head.head-index in
     let st = c.loop-head.invariant.0 in
@@ -330,7 +345,7 @@ returns-clause-few c =
     let lasting = c.args.parts.now.lasting.items in
     let tables = tables_in a c.args.parts.now.rows.items in
     let now = (arrived_in c.args.now.now) in
-    let rules = c.rules-rules.result.now in
+    let rules = rules_by a.form.collections a.form.rules c.args.parts.now.plans.items in
     let parts = c.loop-head.parts in
     let i = c.loop-head.head-index in
     let st = c.loop-head.invariant.0 in

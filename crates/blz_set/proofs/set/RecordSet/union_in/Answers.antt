@@ -1,12 +1,13 @@
 use Rattle.std.proofs.Common.{Bool, ◌≤◌, ◌++◌, ◌∷◌, ◌∙◌, refl, sym, ap, subst, arith, length, List, Bor}
 use Rattle.std.proofs.lemmas.List.{length-map}
+use Rattle.blz_value.specs.Members.{Has}
 use Rattle.blz_value.specs.Record.{Row}
 use Rattle.blz_value.specs.Sets.{IsRowSet, set_of}
 use Rattle.blz_set.specs.RecordSet.{IsRecordSet, row_limit}
 use Rattle.blz_set.specs.References.{shown}
 use Rattle.blz_set.specs.Answers.{Becomes}
 use Rattle.blz_set.proofs.RecordSets.{set_is_set}
-use Rattle.blz_set.proofs.Unions.{length_union, union_missing, one_missing, only_one, handed_on, becomes_as}
+use Rattle.blz_set.proofs.Unions.{missing_apart, missing_sorted, length_union, union_missing, one_missing, only_one, handed_on, becomes_as}
 use Rattle.blz_set.proofs.set.RecordSet.union_in.Goals as goal
 
 pub returns-then-len-room : goal.returns-then-len-room
@@ -31,6 +32,17 @@ returns-in-len1 c =
     ap (λ row. set_of (row ∷ old)) c.in_ok-copy.ensures
     ∙ one_missing old c.args.other.now c.row-item.result.now (only_one c.as_slice.result.now c.row-item.result (omega arith) (omega arith) c.row-item.is ∙ ap shown c.as_slice.ensures.value ∙ c.in_ok-missing.ensures.rows) in
     (c.in_ok-insert.ensures.rows.0 ∙ same, subst (λ (l : List Row). length l ≤ row_limit) same c.in_ok-insert.ensures.rows.1)
+
+pub merge_in-requires : goal.merge_in-requires
+merge_in-requires c =
+    let old = c.args.self.now in
+    let others = c.args.other.now in
+    let copies = c.in_ok-copies.ensures ∙ ap shown c.as_slice-2.ensures.value ∙ c.in_ok-missing.ensures.rows in
+    record {
+      rows = c.self.invariant.sorted;
+      more = subst IsRowSet (sym copies) (missing_sorted old others c.missing.ensures.set.sorted);
+      apart = λ q h k. missing_apart old others q (subst (Has q) c.self.view_is h) (subst (Has q) copies k);
+    }
 
 pub invariant_of-self-2 : goal.invariant_of-self-2
 invariant_of-self-2 c =

@@ -3,7 +3,7 @@ use Rattle.std.proofs.Common.{◌≡◌, ◌++◌, List, take}
 use Rattle.blz_value.specs.Record.{Row}
 use Rattle.blz_value.specs.Sets.{set_of, IsRowSet}
 use Rattle.bloom_growth.specs.ByKey.{AreByKey}
-use Rattle.bloom_growth.proofs.side.Side.add_all.Given as goal
+use Rattle.bloom_growth.proofs.side.Side.add_each.Given as goal
 
 abbrev pub invariant-loop-row : goal.invariant-loop-row
 invariant-loop-row l = record {

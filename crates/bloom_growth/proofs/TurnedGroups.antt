@@ -1,12 +1,12 @@
 -- The rows of a group and of an atleast where rows of the part come and go: only keys that are touched change.
-use Rattle.std.proofs.Common.{◌≡◌, ◌⊎◌, BuildHasherDefault, ℕ, ◌+◌, ◌<◌, ◌≤◌, Bool, true, false, cond, Option, Some, List, [], ◌∷◌, ◌++◌, length, map, filter, take, drop, get_or, take-append-drop, length-drop, Result, Ok, Err, refl, ap, ◌∙◌, sym, subst, inl, inr, arith, append_assoc}
+use Rattle.std.proofs.Common.{◌≡◌, ◌⊎◌, ℕ, ◌+◌, ◌<◌, ◌≤◌, Bool, true, false, cond, Option, Some, List, [], ◌∷◌, ◌++◌, length, map, filter, take, drop, get_or, take-append-drop, length-drop, Result, Ok, Err, refl, ap, ◌∙◌, sym, subst, inl, inr, arith, append_assoc}
 use Rattle.std.proofs.lemmas.List.{length-map, drop_more}
 use Rattle.std.specs.Prelude.{nat_le, ◌&&◌}
 use Rattle.indexmap.specs.IndexMap.{IndexMap}
 use Rattle.std.specs.List.Sorted.{IsStrictlySortedBy}
 use Rattle.std.specs.Ordering.{eq_by_cmp}
-use Rattle.std.specs.declared.hash.DefaultHasher.{DefaultHasher}
 use Rattle.blz_value.specs.declared.aggregate.Agg.{Agg}
+use Rattle.blz_value.specs.declared.hash_key.HashKey.{HashKey}
 use Rattle.blz_value.specs.declared.value.Value.{Value}
 use Rattle.blz_value.specs.Groups.{aggregate, with_key, group_rows, at_least_rows}
 use Rattle.blz_value.specs.Members.{Has}
@@ -407,7 +407,7 @@ turn_as keys agg old new more gone others less groups m n g =
     subst (λ (l : List Row). GroupsTurn keys agg old new l less groups) m (subst (λ (l : List Row). GroupsTurn keys agg old new more l groups) n g)
 
 module _ (keys : List ℕ) (agg : Agg) (old new : List Row) (row : Row) (before : TurningGroups) (g : GroupsTurn keys agg old new (row ∷ []) [] before) (key : Row) (same : key ≡ cells before.keys.items row)
-    (next : IndexMap Row Tally (BuildHasherDefault DefaultHasher)) (on : GoesOn before.agg key row before.tallies next) where
+    (next : IndexMap Row Tally HashKey) (on : GoesOn before.agg key row before.tallies next) where
   few_before : length old < row_limit
   few_before = omega (arith, g.few_new, ap (length {A = Row}) (only_all old new row g.turned), length_more row old g.turned.old_sorted (only_lacks old new row g.turned))
 

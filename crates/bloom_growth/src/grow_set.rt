@@ -4,10 +4,9 @@ ghost use Rattle.blz_set.specs.RecordSet.{IsRecordSet};
 ghost use Rattle.bloom_growth.specs.Growth.{Takes, TakesRow};
 
 use blz_set::{RecordSet, SetFault};
-use blz_value::Record;
+use blz_value::{HashKey, Record};
 use indexmap::IndexSet;
 use std::alloc::{AllocError, Global};
-use std::hash::{BuildHasherDefault, DefaultHasher};
 use std::marker::Model;
 
 /// The most rows of a set.
@@ -16,8 +15,8 @@ pub(crate) const ROW_LIMIT: usize = 262_144;
 /// At most 262,144 records, each once.
 #[derive(Drop)]
 pub struct GrowSet {
-    // Files of strangers give the rows, so they are hashed by SipHash.
-    rows: IndexSet<Record, BuildHasherDefault<DefaultHasher>>,
+    // Files of strangers give the rows, so they are hashed under a key that these can't choose.
+    rows: IndexSet<Record, HashKey>,
 }
 
 impl Model for GrowSet {
@@ -34,12 +33,12 @@ impl Model for GrowSet {
 }
 
 impl GrowSet {
-    /// The empty set.
-    pub fn new(alloc: Global) -> GrowSet
+    /// The empty set, which hashes under a key.
+    pub fn new(alloc: Global, key: HashKey) -> GrowSet
         ensures { result ≡ [] }
     {
         GrowSet {
-            rows: IndexSet::with_hasher(alloc, BuildHasherDefault::new()),
+            rows: IndexSet::with_hasher(alloc, key),
         }
     }
 

@@ -3,13 +3,13 @@ ghost use Rattle.std.specs.Prelude.{IfOk, OnOk};
 ghost use Rattle.bloom_growth.specs.Code.Tallies.{GoesOn, GoesBack, IsStep, LeavesAt, StepsAt};
 
 use crate::tally::Tally;
-use blz_value::{Agg, Record, Value};
+use blz_value::{Agg, HashKey, Record, Value};
 use indexmap::IndexMap;
 use std::alloc::{AllocError, Global};
-use std::hash::{BuildHasherDefault, DefaultHasher};
 
-/// Aggregates by keys, in no order. Files of strangers give the keys, so they are hashed by SipHash.
-pub(crate) type Tallies = IndexMap<Record, Tally, BuildHasherDefault<DefaultHasher>>;
+/// Aggregates by keys, in no order. Files of strangers give the keys, so they are hashed under a key that
+/// these can't choose.
+pub(crate) type Tallies = IndexMap<Record, Tally, HashKey>;
 
 /// What the aggregate at a key was, where it was there, and what it is.
 #[derive(Drop)]

@@ -19,10 +19,9 @@ use crate::tallies::{Step, Tallies, put_row, take_row};
 use crate::tally::Tally;
 use crate::turn::{Turn, Turning, differ, exchange, one_row, only_row};
 use blz_set::{RecordSet, SetFault};
-use blz_value::{Agg, Record};
+use blz_value::{Agg, HashKey, Record};
 use indexmap::IndexMap;
 use std::alloc::{AllocError, Global};
-use std::hash::BuildHasherDefault;
 
 /// The aggregate of the rows with each key.
 #[derive(Drop)]
@@ -36,15 +35,15 @@ pub struct TurningGroups {
 impl TurningGroups {
     ghost use Rattle.bloom_growth.specs.TurningGroups.{AreTallied, AreFreshTallies, TalliesStand, GroupsTurn};
 
-    /// The aggregates of no rows.
-    pub fn new(alloc: Global, keys: Vec<u32>, agg: Agg) -> TurningGroups
+    /// The aggregates of no rows. Key values are hashed under `key`.
+    pub fn new(alloc: Global, keys: Vec<u32>, agg: Agg, key: HashKey) -> TurningGroups
         ensures { AreFreshTallies keys.items agg result }
     {
         TurningGroups {
             alloc,
             keys,
             agg,
-            tallies: IndexMap::with_hasher(alloc, BuildHasherDefault::new()),
+            tallies: IndexMap::with_hasher(alloc, key),
         }
     }
 

@@ -28,7 +28,7 @@ use bloom_forms::{Checked, Collection, Kind};
 use bloom_growth::GrowSet;
 use blz_pool::{Id, Pool};
 use blz_set::RecordSet;
-use blz_value::Record;
+use blz_value::{HashKey, Record};
 use std::alloc::{AllocError, Global};
 
 /// A module with what is kept of it, or with nothing kept.
@@ -121,8 +121,8 @@ impl IndexBody {
         })
     }
 
-    // Takes out what is kept, which is made where there is nothing.
-    fn taken(&mut self) -> Result<Parts, AllocError>
+    // Takes out what is kept. Where there is nothing it is made, and hashes under a key.
+    fn taken(&mut self, key: HashKey) -> Result<Parts, AllocError>
         ensures program { self.new.program ≡ self.old.program }
         ensures alloc { self.new.alloc ≡ self.old.alloc }
         ensures none { self.new.parts ≡ None }
@@ -131,7 +131,7 @@ impl IndexBody {
     {
         match self.parts.take() {
             Some(parts) => Ok(parts),
-            None => empty_parts(self.alloc, &self.program),
+            None => empty_parts(self.alloc, &self.program, key),
         }
     }
 
@@ -157,7 +157,7 @@ impl IndexBody {
         ensures too_many { result ≡ Err TooManyRows → SomeIsOver (counted_sets self.old.program (kept_tables self.old.program self.old.parts) now.now) }
         ensures wide { AreSetsOf (columns_of_kind Table self.new.program.form.collections) (kept_tables self.new.program self.new.parts) }
     {
-        let mut parts = self.taken()?;
+        let mut parts = self.taken(HashKey::new())?;
         *outs = self.all_outs(&parts, now)?;
         let _held = step(
             self.alloc,
@@ -170,7 +170,8 @@ impl IndexBody {
     }
 
     /// One step over the records with the ids of some entries, each at the port with its number, which may
-    /// leave out what the tables of before already give. After a fault nothing is kept.
+    /// leave out what the tables of before already give. What is kept hashes under the key of the pool of
+    /// the first step. After a fault nothing is kept.
     pub(crate) fn step_by_ids(
         &mut self,
         pool: &Pool,
@@ -188,7 +189,7 @@ impl IndexBody {
         ensures too_many { result ≡ Err TooManyRows → SomeIsOver (counted_sets self.old.program (kept_tables self.old.program self.old.parts) (timestep_of ports (entries_with_ids pool.now entries.now))) }
         ensures wide { AreSetsOf (columns_of_kind Table self.new.program.form.collections) (kept_tables self.new.program self.new.parts) }
     {
-        let mut parts = self.taken()?;
+        let mut parts = self.taken(pool.key())?;
         step_by_ids(
             self.alloc,
             &self.program,

@@ -11,28 +11,34 @@ use crate::plan::{Plan, plan_of};
 use crate::step::Parts;
 use bloom_forms::{Checked, Collection, NumberedRule};
 use bloom_growth::{Bag, GrowSet};
+use blz_value::HashKey;
 use std::alloc::{AllocError, Global};
 
 fn rule_plans(
     alloc: Global,
     rules: &[NumberedRule],
     growing: &[bool],
+    key: HashKey,
 ) -> Result<Vec<Plan>, AllocError>
     ensures { IfOk result (λ plans. AllZip (λ rule plan. IsFresh growing.now rule.body plan) rules.now plans.items) }
 {
     let mut plans = Vec::new(alloc);
     for rule in rules {
-        plans.push(plan_of(alloc, &rule.body, growing)?)?;
+        plans.push(plan_of(alloc, &rule.body, growing, key)?)?;
     }
     Ok(plans)
 }
 
-fn empty_rows(alloc: Global, collections: &[Collection]) -> Result<Vec<GrowSet>, AllocError>
+fn empty_rows(
+    alloc: Global,
+    collections: &[Collection],
+    key: HashKey,
+) -> Result<Vec<GrowSet>, AllocError>
     ensures { IfOk result (λ rows. rows.items ≡ map (λ collection. []) collections.now) }
 {
     collections
         .iter()
-        .map(|_| GrowSet::new(alloc))
+        .map(|_| GrowSet::new(alloc, key))
         .collect(alloc)
 }
 
@@ -46,16 +52,20 @@ fn empty_bags(alloc: Global, count: usize) -> Result<Vec<Bag>, AllocError>
     Ok(bags)
 }
 
-/// What is kept before the first step.
-pub(crate) fn empty_parts(alloc: Global, program: &Checked) -> Result<Parts, AllocError>
+/// What is kept before the first step. What is looked up by hash is hashed under a key.
+pub(crate) fn empty_parts(
+    alloc: Global,
+    program: &Checked,
+    key: HashKey,
+) -> Result<Parts, AllocError>
     ensures stands { IfOk result (λ parts. PartsStand program.now parts) }
     ensures tables { IfOk result (λ parts. tables_in program.now parts.rows.items ≡ empty_tables (ModuleProgram program.now)) }
 {
     let collections = program.module().collections.as_slice();
     let growing = growing_heads(alloc, program)?;
     let lasting = lasting_heads(alloc, program)?;
-    let plans = rule_plans(alloc, program.rules(), &growing)?;
-    let rows = empty_rows(alloc, collections)?;
+    let plans = rule_plans(alloc, program.rules(), &growing, key)?;
+    let rows = empty_rows(alloc, collections, key)?;
     let bags = empty_bags(alloc, collections.len())?;
     Ok(Parts {
         growing,

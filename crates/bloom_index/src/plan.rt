@@ -8,7 +8,7 @@ use crate::grows::grows;
 use bloom_forms::NumberedExpr;
 use bloom_growth::{Bag, KeptJoin, KeptNotIn, TurningGroups};
 use bloom_parts::{PartRows, fresh_join, fresh_not_in};
-use blz_value::{Agg, Faithful, Items, Test};
+use blz_value::{Agg, Faithful, HashKey, Items, Test};
 use std::alloc::{AllocError, Global};
 
 /// An expression over collections and columns by their numbers, each operator with what is kept of its
@@ -34,10 +34,11 @@ pub(crate) enum Plan {
     AtLeast(Box<Plan>, u64, TurningGroups),
 }
 
-fn groups(alloc: Global, keys: &[u32], agg: Agg) -> Result<TurningGroups, AllocError>
+fn groups(alloc: Global, keys: &[u32], agg: Agg, key: HashKey) -> Result<TurningGroups, AllocError>
     ensures { IfOk result (AreFreshTallies keys.now agg) }
 {
-    Ok(TurningGroups::new(alloc, Vec::from_slice(alloc, keys)?, agg))
+    let keys = Vec::from_slice(alloc, keys)?;
+    Ok(TurningGroups::new(alloc, keys, agg, key))
 }
 
 fn boxed(alloc: Global, plan: Plan) -> Result<Box<Plan>, AllocError>
@@ -47,19 +48,24 @@ fn boxed(alloc: Global, plan: Plan) -> Result<Box<Plan>, AllocError>
 }
 
 // The plan of a part before the first step.
-fn part_plan(alloc: Global, expr: &NumberedExpr, growing: &[bool]) -> Result<Box<Plan>, AllocError>
+fn part_plan(
+    alloc: Global,
+    expr: &NumberedExpr,
+    growing: &[bool],
+    key: HashKey,
+) -> Result<Box<Plan>, AllocError>
     ensures { IfOk result (λ plan. IsFresh growing.now expr.now plan.value) }
 {
     match expr {
         NumberedExpr::Base(number) => boxed(alloc, Plan::Base(*number)),
         NumberedExpr::Select(part, test) => {
             let test = copied_test(alloc, test)?;
-            let part = part_plan(alloc, part, growing)?;
+            let part = part_plan(alloc, part, growing, key)?;
             boxed(alloc, Plan::Select(part, test))
         }
         NumberedExpr::Project(part, columns) => {
             let columns = columns.copied()?;
-            let part = part_plan(alloc, part, growing)?;
+            let part = part_plan(alloc, part, growing, key)?;
             boxed(alloc, Plan::Project(part, columns, Bag::new(alloc)))
         }
         NumberedExpr::Join(a, b, pairs) => {
@@ -70,38 +76,40 @@ fn part_plan(alloc: Global, expr: &NumberedExpr, growing: &[bool]) -> Result<Box
                 grows(b, growing),
             )?;
             let pairs = pairs.copied()?;
-            let left = part_plan(alloc, a, growing)?;
-            let right = part_plan(alloc, b, growing)?;
+            let left = part_plan(alloc, a, growing, key)?;
+            let right = part_plan(alloc, b, growing, key)?;
             boxed(alloc, Plan::Join(left, right, pairs, kept))
         }
         NumberedExpr::NotIn(a, b, pairs) => {
             let kept = fresh_not_in(alloc, pairs.as_slice(), grows(b, growing))?;
             let pairs = pairs.copied()?;
-            let left = part_plan(alloc, a, growing)?;
-            let right = part_plan(alloc, b, growing)?;
+            let left = part_plan(alloc, a, growing, key)?;
+            let right = part_plan(alloc, b, growing, key)?;
             boxed(alloc, Plan::NotIn(left, right, pairs, kept))
         }
         NumberedExpr::Group(part, keys, agg) => {
-            let part = part_plan(alloc, part, growing)?;
-            let groups = groups(alloc, keys.as_slice(), *agg)?;
+            let part = part_plan(alloc, part, growing, key)?;
+            let groups = groups(alloc, keys.as_slice(), *agg, key)?;
             boxed(alloc, Plan::Group(part, groups))
         }
         NumberedExpr::AtLeast(part, keys, bound) => {
-            let part = part_plan(alloc, part, growing)?;
-            let groups = groups(alloc, keys.as_slice(), Agg::Count)?;
+            let part = part_plan(alloc, part, growing, key)?;
+            let groups = groups(alloc, keys.as_slice(), Agg::Count, key)?;
             boxed(alloc, Plan::AtLeast(part, *bound, groups))
         }
     }
 }
 
-/// The plan of an expression before the first step. It recurses as deep as the expression.
+/// The plan of an expression before the first step. Groups hash under a key. It recurses as deep as
+/// the expression.
 pub(crate) fn plan_of(
     alloc: Global,
     expr: &NumberedExpr,
     growing: &[bool],
+    key: HashKey,
 ) -> Result<Plan, AllocError>
     ensures { IfOk result (IsFresh growing.now expr.now) }
 {
-    let plan = part_plan(alloc, expr, growing)?;
+    let plan = part_plan(alloc, expr, growing, key)?;
     Ok(Box::into_inner(plan))
 }

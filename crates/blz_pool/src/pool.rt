@@ -5,10 +5,9 @@ ghost use Rattle.blz_pool.specs.Pool.{IsPool, record_limit, number_of, with_reco
 
 use crate::fault::PoolFault;
 use crate::id::Id;
-use blz_value::Record;
+use blz_value::{HashKey, Record};
 use indexmap::IndexSet;
 use std::alloc::Global;
-use std::hash::{BuildHasherDefault, DefaultHasher};
 use std::marker::Model;
 
 const MAX_RECORDS: usize = 262_144;
@@ -17,9 +16,8 @@ const MAX_RECORDS: usize = 262_144;
 /// of a record.
 #[derive(Drop)]
 pub struct Pool {
-    // Files of strangers fill a pool, so it hashes by SipHash, and not by the quick hasher, for which
-    // keys that collide are easily written.
-    records: IndexSet<Record, BuildHasherDefault<DefaultHasher>>,
+    // Files of strangers fill a pool, so it hashes under a key that these can't choose.
+    records: IndexSet<Record, HashKey>,
 }
 
 impl Model for Pool {
@@ -35,13 +33,25 @@ impl Model for Pool {
 }
 
 impl Pool {
-    /// The pool without records.
+    /// The pool without records, which hashes under the key of no records.
     pub fn new(alloc: Global) -> Pool
         ensures { result ≡ [] }
     {
+        Pool::with_key(alloc, HashKey::new())
+    }
+
+    /// The pool without records, which hashes under a key.
+    pub fn with_key(alloc: Global, key: HashKey) -> Pool
+        ensures { result ≡ [] }
+    {
         Pool {
-            records: IndexSet::with_hasher(alloc, BuildHasherDefault::new()),
+            records: IndexSet::with_hasher(alloc, key),
         }
+    }
+
+    /// The key under which the pool hashes, for other tables of its records.
+    pub fn key(&self) -> HashKey {
+        *self.records.hasher()
     }
 
     /// What holds of each pool: no record stands twice, and they are not too many. The call does

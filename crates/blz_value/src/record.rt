@@ -7,28 +7,41 @@ ghost use Rattle.std.specs.Cmp.Rules.{comparing};
 ghost use Rattle.std.specs.Ordering.{as_partial_cmp, eq_by_cmp};
 ghost use Rattle.blz_value.specs.Record.{record_cmp};
 ghost use Rattle.blz_value.specs.RecordOrder.{record_cmp_total, record_cmp_exact};
-ghost use Rattle.blz_value.specs.Hash.{record_writes};
+ghost use Rattle.blz_value.specs.Hash.{row_hash, row_writes};
 
 use crate::faithful::copies_of;
 use crate::value::Value;
 use std::alloc::AllocError;
 use std::cmp::Ordering;
-use std::hash::{Hash, Hasher};
+use std::hash::{DefaultHasher, Hash, Hasher};
 use std::marker::Model;
 
-/// A record: a list of values, one a column.
+/// A record: a list of values, one a column. It is hashed once, when it is made.
 #[derive(Debug, Drop)]
 pub struct Record {
     values: Vec<Value>,
+    hash: u64,
 }
 
 impl Model for Record {
-    ghost use Rattle.std.specs.Prelude.{List};
+    ghost use Rattle.std.specs.Prelude.{◌≡◌, List};
     ghost use Rattle.blz_value.specs.declared.value.Value.{Value as RecordValue};
+    ghost use Rattle.blz_value.specs.Hash.{row_hash};
 
     ghost Value = { List RecordValue };
 
     ghost view = { λ r. r.values.items };
+
+    ghost invariant = { λ r. r.hash ≡ row_hash r.values.items };
+}
+
+// The SipHash of some values.
+fn hash_of(values: &[Value]) -> u64
+    ensures { result ≡ row_hash values.now }
+{
+    let mut state = DefaultHasher::new();
+    Value::hash_slice(values, &mut state);
+    state.finish()
 }
 
 impl Record {
@@ -36,7 +49,8 @@ impl Record {
     pub fn from_values(values: Vec<Value>) -> Record
         ensures { result ≡ values.items }
     {
-        Record { values }
+        let hash = hash_of(&values);
+        Record { values, hash }
     }
 
     /// The values, column by column.
@@ -59,7 +73,10 @@ impl Clone for Record {
 
     fn clone(&self) -> Result<Record, AllocError> {
         let values = copies_of(*self.values.allocator(), &self.values)?;
-        Ok(Record { values })
+        Ok(Record {
+            values,
+            hash: self.hash,
+        })
     }
 }
 
@@ -102,12 +119,12 @@ impl PartialOrd for Record {
 }
 
 impl Hash for Record {
-    ghost hash_input = { record_writes };
+    ghost hash_input = { row_writes };
 
-    ghost respects_eq = { λ x y same. ap record_writes (tells_apart record_cmp_exact x y same) };
+    ghost respects_eq = { λ x y same. ap row_writes (tells_apart record_cmp_exact x y same) };
 
     fn hash<H: Hasher>(&self, state: &mut H) {
-        Value::hash_slice(self.values(), state);
+        state.write_u64(self.hash);
     }
 }
 

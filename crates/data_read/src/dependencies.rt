@@ -14,11 +14,10 @@ mod sides;
 use crate::dependencies::apart::{holds_apart, none_known};
 use crate::dependencies::columns::{attributes_of, columns_of, places_of};
 use crate::dependencies::sides::{Side, SideSet};
-use blz_value::{Attrs, Fd, Record};
+use blz_value::{Attrs, Fd, HashKey, Record};
 use indexmap::IndexSet;
 use std::alloc::{AllocError, Global};
-use std::hash::BuildHasherDefault;
-use topo_forms::{SourceLists, Valid};
+use topo_forms::{SourceLists, Valid, hash_key};
 
 /// The records of a source that has all columns of a dependency, and the places of the columns of its two
 /// sides.
@@ -154,11 +153,15 @@ pub(crate) fn side_at<'a>(row: &'a Record, places: &'a [usize]) -> Side<'a>
     Side { row, places }
 }
 
-/// No sides, with room for so many.
-pub(crate) fn room_for<'a>(alloc: Global, count: usize) -> Result<SideSet<'a>, AllocError>
+/// No sides, with room for so many, which are hashed under a key.
+pub(crate) fn room_for<'a>(
+    alloc: Global,
+    count: usize,
+    key: HashKey,
+) -> Result<SideSet<'a>, AllocError>
     ensures { IfOk result (λ sides. sides.keys ≡ []) }
 {
-    IndexSet::with_capacity_and_hasher(alloc, count, BuildHasherDefault::new())
+    IndexSet::with_capacity_and_hasher(alloc, count, key)
 }
 
 // The record of the side with this number.
@@ -196,11 +199,12 @@ fn pair_by<'a>(
 fn broken_pair<'a>(
     alloc: Global,
     sided: &[Sided<'a>],
+    key: HashKey,
 ) -> Result<Option<(&'a Record, &'a Record)>, AllocError>
     ensures { IfOk result (λ pair. option_map (λ p. (p.0.now, p.1.now)) pair ≡ spec.broken_pair [] (map sides_view sided.now)) }
 {
-    let mut from: SideSet<'a> = room_for(alloc, sided.len())?;
-    let mut to: SideSet<'a> = room_for(alloc, sided.len())?;
+    let mut from: SideSet<'a> = room_for(alloc, sided.len(), key)?;
+    let mut to: SideSet<'a> = room_for(alloc, sided.len(), key)?;
     pair_by(sided, &mut from, &mut to)
 }
 
@@ -220,6 +224,7 @@ fn broken_by(
     valid: &Valid,
     number: u32,
     sources: &[SourceLists],
+    key: HashKey,
 ) -> Result<Option<BrokenFd>, AllocError>
     requires sources { length sources.now ≤ length valid.now.view.streams }
     requires fd { number < length valid.now.view.fds }
@@ -227,7 +232,7 @@ fn broken_by(
 {
     let placed = all_placed(alloc, valid, valid.fd(number), sources)?;
     let sided = all_sides(alloc, &placed)?;
-    match broken_pair(alloc, &sided)? {
+    match broken_pair(alloc, &sided, key)? {
         Some((first, second)) => Ok(Some(BrokenFd {
             fd: number,
             first: first.copy()?,
@@ -248,12 +253,13 @@ pub(crate) fn first_broken(
     requires { length sources.now ≤ length valid.now.view.streams }
     ensures { IfOk result (λ broken. broken ≡ spec.first_broken valid.now.view sources.now) }
 {
-    let mut known = none_known();
+    let key = hash_key(sources);
+    let mut known = none_known(key);
     for number in 0..valid.fd_count() {
         if holds_apart(alloc, valid, valid.fd(number), sources, &mut known)? {
             continue;
         }
-        match broken_by(alloc, valid, number, sources)? {
+        match broken_by(alloc, valid, number, sources, key)? {
             Some(broken) => return Ok(Some(broken)),
             None => {}
         }

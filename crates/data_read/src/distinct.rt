@@ -3,22 +3,18 @@ ghost use Rattle.std.specs.Prelude.{◌≡◌, IfOk, map};
 ghost use Rattle.topo_forms.specs.Messages.{distinct_rows};
 ghost use Rattle.data_read.specs.Making.{distinct_lists};
 
-use blz_value::Record;
+use blz_value::{HashKey, Record};
 use indexmap::IndexSet;
 use std::alloc::{AllocError, Global};
-use std::hash::{BuildHasherDefault, DefaultHasher};
 use topo_forms::SourceLists;
 
-// The distinct records of a list, each where it first stands. As in a pool, SipHash is the hash: strangers
-// may have written the file.
-fn known_rows(
-    alloc: Global,
-    rows: Vec<Record>,
-) -> Result<IndexSet<Record, BuildHasherDefault<DefaultHasher>>, AllocError>
+// The distinct records of a list, each where it first stands. Strangers may have written the file, so
+// they are hashed under a key that comes from all of them.
+fn known_rows(alloc: Global, rows: Vec<Record>) -> Result<IndexSet<Record, HashKey>, AllocError>
     ensures { IfOk result (λ known. known.keys ≡ distinct_rows rows.items) }
 {
-    let hasher = BuildHasherDefault::new();
-    let mut known = IndexSet::with_capacity_and_hasher(alloc, rows.len(), hasher)?;
+    let key = HashKey::new().with(&rows);
+    let mut known = IndexSet::with_capacity_and_hasher(alloc, rows.len(), key)?;
     for row in rows {
         known.insert(row)?;
     }

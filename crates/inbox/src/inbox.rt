@@ -23,7 +23,7 @@ use crate::timesteps::{Timesteps, timesteps_of};
 use crate::waiting::Waiting;
 use bloom_forms::Mode;
 use blz_pool::{Id, Pool};
-use blz_value::{Items, Record};
+use blz_value::{HashKey, Items, Record};
 use messages::{Feeds, Message};
 use std::alloc::{AllocError, Global};
 use topo_forms::Valid;
@@ -118,6 +118,26 @@ impl Inbox {
         ensures feeds { IfOk result (λ inbox. feeds_in inbox ≡ length (feeds valid.now.view component replica)) }
         ensures kept { IfOk result (λ inbox. (records : List Row) → IsFrom records inbox) }
     {
+        Inbox::with_key(alloc, valid, component, replica, HashKey::new())
+    }
+
+    /// The same, where key values are hashed under `key`.
+    pub fn with_key(
+        alloc: Global,
+        valid: &Valid,
+        component: u32,
+        replica: u32,
+        key: HashKey,
+    ) -> Result<Inbox, AllocError>
+        requires component { component < length valid.now.view.components }
+        requires replica { replica < replicas_of valid.now.view component }
+        requires hears { is_order valid.now.view component ≡ false }
+
+        // It stands for no batches, whatever the pool.
+        ensures heard { IfOk result (λ inbox. (records : List Row) → HasHeard (instance_for valid.now.view component replica) records [] inbox) }
+        ensures feeds { IfOk result (λ inbox. feeds_in inbox ≡ length (feeds valid.now.view component replica)) }
+        ensures kept { IfOk result (λ inbox. (records : List Row) → IsFrom records inbox) }
+    {
         let mode = valid.mode(component);
         let ports = ports_of(alloc, valid, component, key_of(mode))?;
         let own = feeds_of(alloc, valid, component, replica)?;
@@ -125,7 +145,7 @@ impl Inbox {
         Ok(Inbox {
             alloc,
             sealing: is_sealing(mode),
-            feeds: Feeds::new(alloc, ports, &feed_ports)?,
+            feeds: Feeds::new(alloc, ports, &feed_ports, key)?,
             waiting: Waiting::new(alloc),
         })
     }

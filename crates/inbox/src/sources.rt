@@ -141,7 +141,8 @@ fn emit_source(
 // ---- all sources
 
 /// The emitted lists when nothing is heard yet: those of sources have what these hold, and all others
-/// are empty. The records are taken over, and each is hashed once. The error is want of memory.
+/// are empty. The records are taken over, and each is looked up by its hash once, under a key that comes
+/// from all of them. The error is want of memory.
 pub fn first_lists(
     alloc: Global,
     valid: &Valid,
@@ -154,7 +155,8 @@ pub fn first_lists(
     ensures exact { IfOk result IsExact }
 {
     valid.known();
-    let mut lists = Lists::new(alloc, list_count(valid))?;
+    let key = given.hash_key();
+    let mut lists = Lists::new(alloc, list_count(valid), key)?;
     let mut source = 0;
     for held in given.into_sources() {
         let place = places.list(valid, source, 0);

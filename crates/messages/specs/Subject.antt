@@ -1,10 +1,8 @@
 -- What a message is about, a record or a partition: an emitted list has one message at most about it.
 use Rattle.std.specs.Prelude.{ℕ, ◌==◌, Bool, false}
-use Rattle.std.specs.Hash.{HashWrites, u32, u64}
-use Rattle.std.specs.Hash.DefaultHasher as sip
-use Rattle.std.specs.List.{fold}
+use Rattle.std.specs.Hash.{HashWrites, u32}
 use Rattle.blz_value.specs.Record.{Row as Record}
-use Rattle.blz_value.specs.Hash.{record_writes}
+use Rattle.blz_value.specs.Hash.{row_writes}
 use Rattle.blz_value.specs.Message.{is_same_row}
 use Rattle.messages.specs.declared.message.Message.{Message as IdMessage}
 use Rattle.messages.specs.declared.message.Message.TheVariants as message
@@ -27,11 +25,7 @@ is_same_subject (Row id) (Partition key) = false
 is_same_subject (Partition key) (Row id) = false
 is_same_subject (Partition key) (Partition other) = is_same_row key other
 
--- the hash of a key value, by SipHash
-abbrev pub key_hash : Record → ℕ
-key_hash key = sip.finish (fold sip.write sip.initial (record_writes key))
-
--- a hasher is fed an id as 4 bytes, and a key value by 8 bytes of its own hash
+-- a hasher is fed an id as 4 bytes, and a key value as any record by the 8 bytes of its hash
 abbrev pub subject_writes : Subject → HashWrites
 subject_writes (Row id) = u32 id
-subject_writes (Partition key) = u64 (key_hash key)
+subject_writes (Partition key) = row_writes key

@@ -8,7 +8,7 @@ ghost use Rattle.messages.specs.declared.message.Message.TheVariants.{Seal};
 use crate::message::Message;
 use crate::subject::Subject;
 use blz_pool::Id;
-use blz_value::Record;
+use blz_value::{HashKey, Record};
 use indexmap::IndexMap;
 use std::alloc::{AllocError, Global};
 use std::marker::Model;
@@ -17,7 +17,7 @@ use std::marker::Model;
 /// of a seal, which is 0 of a record. So no two are about one record or about one partition.
 #[derive(Drop)]
 pub struct Emitted {
-    counts: IndexMap<Subject, u32>,
+    counts: IndexMap<Subject, u32, HashKey>,
 }
 
 impl Model for Emitted {
@@ -31,12 +31,12 @@ impl Model for Emitted {
 }
 
 impl Emitted {
-    /// The list without messages.
-    pub fn new(alloc: Global) -> Emitted
+    /// The list without messages, which hashes under a key.
+    pub fn new(alloc: Global, key: HashKey) -> Emitted
         ensures { result ≡ [] }
     {
         Emitted {
-            counts: IndexMap::new(alloc),
+            counts: IndexMap::with_hasher(alloc, key),
         }
     }
 

@@ -12,10 +12,9 @@ ghost use Rattle.messages.specs.Code.Hearing.{AreEmpty, AreCleared, RowHeard, Se
 use crate::feed::Feed;
 use crate::port::{Port, is_carrying, key_at};
 use blz_pool::Id;
-use blz_value::Record;
+use blz_value::{HashKey, Record};
 use indexmap::IndexSet;
 use std::alloc::{AllocError, Global};
-use std::hash::{BuildHasherDefault, DefaultHasher};
 
 /// The ports and the feeds of an instance, the key values of partitions by their numbers, by these
 /// the counts of the feeds that lack something, and how many feeds are those of ports that carry the
@@ -25,8 +24,8 @@ pub struct Feeds {
     alloc: Global,
     ports: Vec<Port>,
     feeds: Vec<Feed>,
-    // What comes is written by strangers, so keys are hashed by SipHash.
-    keys: IndexSet<Record, BuildHasherDefault<DefaultHasher>>,
+    // What comes is written by strangers, so they are hashed under a key that these can't choose.
+    keys: IndexSet<Record, HashKey>,
     lacking: Vec<usize>,
     carrying: usize,
     ghost tallied: { IsTallied (length keys.keys) carrying feeds.items lacking.items },
@@ -61,7 +60,7 @@ fn count_carrying(feeds: &[Feed]) -> usize
 // The number of a partition. A new one goes last, and all carrying feeds lack something of it. The
 // error is want of memory and leaves all as it was.
 fn number_for(
-    keys: &mut IndexSet<Record, BuildHasherDefault<DefaultHasher>>,
+    keys: &mut IndexSet<Record, HashKey>,
     lacking: &mut Vec<usize>,
     carrying: usize,
     key: &Record,
@@ -146,8 +145,14 @@ fn hear_seal_at(
 impl Feeds {
     ghost use Rattle.messages.specs.Whole.{feeds_view, partitions, HasNumber, key_at, KeepNumbers};
 
-    /// Feeds on which nothing came, one for each of the ports that are named last.
-    pub fn new(alloc: Global, ports: Vec<Port>, feed_ports: &[u32]) -> Result<Feeds, AllocError>
+    /// Feeds on which nothing came, one for each of the ports in `feed_ports`. Key values are hashed
+    /// under `key`.
+    pub fn new(
+        alloc: Global,
+        ports: Vec<Port>,
+        feed_ports: &[u32],
+        key: HashKey,
+    ) -> Result<Feeds, AllocError>
         ensures { IfOk result (λ feeds. IsFresh (port_keys ports.items) feed_ports.now (feeds_view feeds)) }
     {
         let feeds = fresh_feeds(alloc, &ports, feed_ports)?;
@@ -156,7 +161,7 @@ impl Feeds {
             alloc,
             ports,
             feeds,
-            keys: IndexSet::with_hasher(alloc, BuildHasherDefault::new()),
+            keys: IndexSet::with_hasher(alloc, key),
             lacking: Vec::new(alloc),
             carrying,
         })

@@ -21,7 +21,7 @@ use crate::fault::EventFault;
 use crate::limits::MAX_MESSAGES;
 use crate::message_list::MessageList;
 use blz_pool::{Id, Pool, PoolFault};
-use blz_value::Record;
+use blz_value::{HashKey, Record};
 use std::alloc::{AllocError, Global};
 use std::collections::BTreeSet;
 use std::marker::Model;
@@ -62,20 +62,20 @@ fn take_tally(tallies: &mut Vec<Option<Tally>>, place: usize) -> Option<Tally>
 }
 
 impl Lists {
-    /// So many empty lists.
-    pub fn new(alloc: Global, count: usize) -> Result<Lists, AllocError>
+    /// So many empty lists, whose records and messages are hashed under a key.
+    pub fn new(alloc: Global, count: usize, key: HashKey) -> Result<Lists, AllocError>
         ensures lists { IfOk result (λ l. read_lists l ≡ replicate count []) }
         ensures exact { IfOk result IsExact }
     {
         let mut lists = Vec::new(alloc);
         let mut tallies = Vec::new(alloc);
         for _ in 0..count {
-            lists.push(Emitted::new(alloc))?;
+            lists.push(Emitted::new(alloc, key))?;
             tallies.push(None)?;
         }
         Ok(Lists {
             alloc,
-            pool: Pool::new(alloc),
+            pool: Pool::with_key(alloc, key),
             lists,
             tallies,
             count: 0,

@@ -1,12 +1,11 @@
 //! What a message is about.
-ghost use Rattle.std.specs.Prelude.{◌≡◌};
 ghost use Rattle.std.specs.Cmp.{partial_equiv_from_equiv};
-ghost use Rattle.messages.specs.Subject.{is_same_subject, subject_writes, key_hash};
+ghost use Rattle.messages.specs.Subject.{is_same_subject, subject_writes};
 ghost use Rattle.messages.specs.SubjectLaws.{is_same_subject_equiv, subject_writes_alike};
 
 use blz_pool::Id;
 use blz_value::Record;
-use std::hash::{BuildHasher, BuildHasherDefault, DefaultHasher, Hash, Hasher};
+use std::hash::{Hash, Hasher};
 
 /// What stands in an emitted list once: a record, by its id in a pool, or a partition that is sealed, by
 /// its key value.
@@ -43,15 +42,7 @@ impl Hash for Subject {
     fn hash<H: Hasher>(&self, state: &mut H) {
         match self {
             Subject::Row(id) => state.write_u32(id.number()),
-            Subject::Partition(key) => state.write_u64(hash_of(key)),
+            Subject::Partition(key) => key.hash(state),
         }
     }
-}
-
-// The hash of a key value, by SipHash.
-fn hash_of(key: &Record) -> u64
-    ensures { result ≡ key_hash key.now }
-{
-    let hashers: BuildHasherDefault<DefaultHasher> = BuildHasherDefault::new();
-    hashers.hash_one(key)
 }

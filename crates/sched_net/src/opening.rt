@@ -39,7 +39,7 @@ fn first_books(alloc: Global, valid: &Valid, given: Data) -> Result<Books, Alloc
     let places = Places::of(alloc, valid)?;
     let lists = first_lists(alloc, valid, &places, given)?;
     let logs = first_logs(alloc, valid.component_count())?;
-    let seats = first_seats(alloc, valid, &places)?;
+    let seats = first_seats(alloc, valid, &places, lists.pool().key())?;
     Ok(Books {
         places,
         lists,

@@ -6,14 +6,20 @@ ghost use Rattle.sched_net.specs.Code.First.{HeardNothing, IsFirst, AreFirst};
 
 use crate::seated::{Ear, Seated};
 use bloom_forms::Mode;
-use blz_value::Items;
+use blz_value::{HashKey, Items};
 use inbox::{Inbox, Places, feeds_of, outlets_of};
 use messages::Known;
 use std::alloc::{AllocError, Global};
 use topo_forms::Valid;
 
 // What an instance hears that heard nothing.
-fn ear_of(alloc: Global, valid: &Valid, component: u32, replica: u32) -> Result<Ear, AllocError>
+fn ear_of(
+    alloc: Global,
+    valid: &Valid,
+    component: u32,
+    replica: u32,
+    key: HashKey,
+) -> Result<Ear, AllocError>
     requires component { component < length valid.now.view.components }
     requires replica { replica < replicas_of valid.now.view component }
     ensures { IfOk result (HeardNothing valid.now.view component replica) }
@@ -21,7 +27,7 @@ fn ear_of(alloc: Global, valid: &Valid, component: u32, replica: u32) -> Result<
     match valid.mode(component) {
         Mode::Order => Ok(Ear::Takes(0)),
         Mode::Free | Mode::Pass(_) | Mode::Seal(_) => {
-            let inbox = Inbox::new(alloc, valid, component, replica)?;
+            let inbox = Inbox::with_key(alloc, valid, component, replica, key)?;
             Ok(Ear::Hears(inbox, Known::new(alloc)))
         }
     }
@@ -34,6 +40,7 @@ fn seat_of(
     places: &Places,
     component: u32,
     replica: u32,
+    key: HashKey,
 ) -> Result<Seated, AllocError>
     requires places { ArePlaces valid.now.view places.now }
     requires component { component < length valid.now.view.components }
@@ -43,7 +50,7 @@ fn seat_of(
     Ok(Seated {
         outlets: outlets_of(alloc, valid, places, component, replica)?,
         feeds: Items::from_vec(feeds_of(alloc, valid, component, replica)?),
-        ear: ear_of(alloc, valid, component, replica)?,
+        ear: ear_of(alloc, valid, component, replica, key)?,
     })
 }
 
@@ -53,6 +60,7 @@ fn push_seats(
     valid: &Valid,
     places: &Places,
     component: u32,
+    key: HashKey,
     seats: &mut Vec<Seated>,
 ) -> Result<(), AllocError>
     requires places { ArePlaces valid.now.view places.now }
@@ -63,17 +71,18 @@ fn push_seats(
     ensures first { OnOk result (AreFirst valid.now.view seats.new.items) }
 {
     for replica in 0..valid.replicas(component) {
-        seats.push(seat_of(alloc, valid, places, component, replica)?)?;
+        seats.push(seat_of(alloc, valid, places, component, replica, key)?)?;
     }
     Ok(())
 }
 
-/// The books of all instances, in component and replica order, where none heard anything. The error is
-/// want of memory.
+/// The books of all instances, in component and replica order, where none heard anything; key values are
+/// hashed under `key`. The error is want of memory.
 pub(crate) fn first_seats(
     alloc: Global,
     valid: &Valid,
     places: &Places,
+    key: HashKey,
 ) -> Result<Vec<Seated>, AllocError>
     requires { ArePlaces valid.now.view places.now }
     ensures count { IfOk result (λ seats. length seats.items ≡ instance_count valid.now.view) }
@@ -81,7 +90,7 @@ pub(crate) fn first_seats(
 {
     let mut seats = Vec::new(alloc);
     for component in 0..valid.component_count() {
-        push_seats(alloc, valid, places, component, &mut seats)?;
+        push_seats(alloc, valid, places, component, key, &mut seats)?;
     }
     Ok(seats)
 }

@@ -20,3 +20,4 @@ pub mod Found
 pub mod Bounded
 pub mod Code
 pub mod DataCounts
+pub mod HashKeys

@@ -2,9 +2,10 @@
 ghost use Rattle.std.specs.Prelude.{◌≡◌, ◌<◌, IfOk, length};
 ghost use Rattle.topo_forms.specs.DataCounts.{AreFew};
 ghost use Rattle.topo_forms.specs.Data.{AreDistinct, source_data};
+ghost use Rattle.topo_forms.specs.HashKeys.{hash_key_of};
 
-use crate::source_lists::SourceLists;
-use blz_value::{Record, copies_of};
+use crate::source_lists::{SourceLists, hash_key};
+use blz_value::{HashKey, Record, copies_of};
 use std::alloc::AllocError;
 use std::marker::Model;
 
@@ -60,6 +61,13 @@ impl Data {
         ensures { result.now ≡ (source_data self.now source).parts }
     {
         self.sources[source as usize].parts.as_slice()
+    }
+
+    /// The key under which tables of these data hash: it comes from all records and partitions.
+    pub fn hash_key(&self) -> HashKey
+        ensures { result ≡ hash_key_of self.now }
+    {
+        hash_key(&self.sources)
     }
 
     /// The lists of the sources, in their order, to be taken over.

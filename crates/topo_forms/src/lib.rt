@@ -18,7 +18,7 @@ pub use fault::{TopoFault, TopoKind, TopoPlace, ValidFault};
 pub use graph_facts::GraphFacts;
 pub use kept::{Kept, KeptComponent, KeptOutput, KeptPort, KeptStream};
 pub use laws::{carried_law, regions_law, valid_law};
-pub use source_lists::SourceLists;
+pub use source_lists::{SourceLists, hash_key};
 pub use topology::{
     Body, ColumnType, ComponentEntry, Declared, FdEntry, ModeName, NoteName, Side, SourceEntry,
     Spot, Stock, StreamEntry, Topology,

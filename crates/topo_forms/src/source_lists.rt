@@ -1,7 +1,8 @@
 //! The lists of a source.
 ghost use Rattle.std.specs.Prelude.{◌≡◌};
+ghost use Rattle.topo_forms.specs.HashKeys.{with_held, hash_key_of};
 
-use blz_value::{Faithful, Record, copies_of};
+use blz_value::{Faithful, HashKey, Record, copies_of};
 use std::alloc::AllocError;
 use std::marker::Model;
 
@@ -36,4 +37,23 @@ impl Clone for SourceLists {
 
 impl Faithful for SourceLists {
     ghost equal = { λ _ _ same. same };
+}
+
+// A key with what one source more holds.
+fn with_held(key: HashKey, lists: &SourceLists) -> HashKey
+    ensures { result ≡ with_held key lists.now }
+{
+    key.with(&lists.rows).with(&lists.parts)
+}
+
+/// The key under which tables of what sources hold hash: it comes from all records and partitions. Reads
+/// the hash of each.
+pub fn hash_key(sources: &[SourceLists]) -> HashKey
+    ensures { result ≡ hash_key_of sources.now }
+{
+    let mut key = HashKey::new();
+    for lists in sources {
+        key = with_held(key, lists);
+    }
+    key
 }

@@ -7,22 +7,25 @@ ghost use Rattle.data_read.specs.Code.Earliest.{sides_view};
 
 use crate::dependencies::sides::SideSet;
 use crate::dependencies::{Sided, all_placed, all_sides, number_of, room_for, side_at};
-use blz_value::{Attrs, Fd};
+use blz_value::{Attrs, Fd, HashKey};
 use std::alloc::{AllocError, Global};
 use topo_forms::{SourceLists, Valid};
 
-/// The attributes that were looked at, and those of them of which no two records have the same value.
+/// The attributes that were looked at, and those of them of which no two records have the same value,
+/// found by tables that hash under a key.
 #[derive(Clone, Copy)]
 pub(crate) struct Known {
+    key: HashKey,
     asked: Attrs,
     pub(crate) apart: Attrs,
 }
 
 /// No attribute was looked at.
-pub(crate) fn none_known() -> Known
+pub(crate) fn none_known(key: HashKey) -> Known
     ensures { result.apart.bits ≡ 0 }
 {
     Known {
+        key,
         asked: Attrs::from_bits(0),
         apart: Attrs::from_bits(0),
     }
@@ -56,13 +59,14 @@ fn is_apart(
     valid: &Valid,
     attribute: u8,
     sources: &[SourceLists],
+    key: HashKey,
 ) -> Result<bool, AllocError>
     requires { length sources.now ≤ length valid.now.view.streams }
     ensures { IfOk result (λ apart. IsTrue apart → spec.IsApart valid.now.view sources.now attribute) }
 {
     let placed = all_placed(alloc, valid, own_fd(attribute), sources)?;
     let sided = all_sides(alloc, &placed)?;
-    let mut values = room_for(alloc, sided.len())?;
+    let mut values = room_for(alloc, sided.len(), key)?;
     are_apart(&sided, &mut values)
 }
 
@@ -85,7 +89,7 @@ fn is_known_apart(
     }
     let own = Attrs::of(attribute as usize);
     known.asked = known.asked.union(own);
-    let apart = is_apart(alloc, valid, attribute, sources)?;
+    let apart = is_apart(alloc, valid, attribute, sources, known.key)?;
     if apart {
         known.apart = known.apart.union(own);
     }

@@ -5,19 +5,20 @@ ghost use Rattle.std.proofs.lemmas.Map.Views.{tells_apart};
 ghost use Rattle.std.specs.Cmp.{on_equiv, on_per, partial_equiv_from_equiv, eq_by_cmp_equiv};
 ghost use Rattle.std.specs.List.{fold};
 ghost use Rattle.std.specs.Ordering.{eq_by_cmp};
-ghost use Rattle.blz_value.specs.Hash.{record_writes, value_writes};
+ghost use Rattle.blz_value.specs.Hash.{record_writes, row_hash, row_writes, value_writes};
 ghost use Rattle.blz_value.specs.RecordOrder.{record_cmp_total, record_cmp_exact};
 ghost use Rattle.blz_value.specs.Test.{cell};
 ghost use Rattle.blz_value.specs.Value.{value_cmp};
 ghost use Rattle.data_read.specs.Broken.{same};
 ghost use Rattle.data_read.specs.Code.Earliest.{values_of};
 
-use blz_value::{Record, Value};
+use blz_value::{HashKey, Record, Value};
 use indexmap::IndexSet;
-use std::hash::{BuildHasherDefault, DefaultHasher, Hash, Hasher};
+use std::hash::{DefaultHasher, Hash, Hasher};
 
-/// Sides by number. As in a pool, SipHash is the hash: strangers may have written the file.
-pub(crate) type SideSet<'a> = IndexSet<Side<'a>, BuildHasherDefault<DefaultHasher>>;
+/// Sides by number. Strangers may have written the file, so they are hashed under a key that these can't
+/// choose.
+pub(crate) type SideSet<'a> = IndexSet<Side<'a>, HashKey>;
 
 /// The values of a record at some places, where they stand; past its end stands the number 0.
 #[derive(Drop)]
@@ -86,12 +87,22 @@ fn feed<'a, H: Hasher>(side: &Side<'a>, state: &mut H)
     }
 }
 
-impl<'a> Hash for Side<'a> {
-    ghost hash_input = { λ side. record_writes (values_of side) };
+// The hash of a record with the values of a side.
+fn hash_of<'a>(side: &Side<'a>) -> u64
+    ensures { result ≡ row_hash (values_of side.now) }
+{
+    let mut state = DefaultHasher::new();
+    feed(side, &mut state);
+    state.finish()
+}
 
-    ghost respects_eq = { λ x y alike. ap record_writes (tells_apart record_cmp_exact (values_of x) (values_of y) alike) };
+// A table is fed what a record with these values would feed it.
+impl<'a> Hash for Side<'a> {
+    ghost hash_input = { λ side. row_writes (values_of side) };
+
+    ghost respects_eq = { λ x y alike. ap row_writes (tells_apart record_cmp_exact (values_of x) (values_of y) alike) };
 
     fn hash<H: Hasher>(&self, state: &mut H) {
-        feed(self, state);
+        state.write_u64(hash_of(self));
     }
 }

@@ -19,8 +19,8 @@ invariant_of-result c =
     let all : carrying ≡ count_by (λ (f : Feed). f.carries) feeds = c.count_carrying-carrying.ensures ∙ ap (λ (fs : List Feed). count_by (λ (f : Feed). f.carries) fs) c.deref-2.ensures.value in
     record {
       tallied =
-          subst (λ (n : ℕ). IsTallied n carrying feeds c.new-2.result.items) (sym (ap length c.with_hasher.ensures.empty))
-          (subst (λ (l : List ℕ). IsTallied 0 carrying feeds l) (sym c.new-2.ensures.items) (fresh_tallied carrying feeds all (empty_few (port_keys c.deref.result.now) c.args.feed_ports.now feeds c.in_ok-feeds.ensures)));
+          subst (λ (n : ℕ). IsTallied n carrying feeds c.new.result.items) (sym (ap length c.with_hasher.ensures.empty))
+          (subst (λ (l : List ℕ). IsTallied 0 carrying feeds l) (sym c.new.ensures.items) (fresh_tallied carrying feeds all (empty_few (port_keys c.deref.result.now) c.args.feed_ports.now feeds c.in_ok-feeds.ensures)));
     }
 
 pub returns : goal.returns

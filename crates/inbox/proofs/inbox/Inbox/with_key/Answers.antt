@@ -5,7 +5,7 @@ use Rattle.inbox.specs.Code.Heard.{is_sealing}
 use Rattle.messages.specs.Ports.{port_keys}
 use Rattle.inbox.specs.Wiring.{port_for, feeds_for}
 use Rattle.inbox.proofs.Keeping.Fresh.{has_none}
-use Rattle.inbox.proofs.inbox.Inbox.new.Goals as goal
+use Rattle.inbox.proofs.inbox.Inbox.with_key.Goals as goal
 
 length-ports : (fs : List Feed) → length (map (λ (f : Feed). f.port) fs) ≡ length fs
 length-ports [] = refl

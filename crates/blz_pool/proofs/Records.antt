@@ -1,5 +1,5 @@
 -- Records and their numbers in a pool.
-use Rattle.std.proofs.Common.{◌≡◌, ◌≢◌, ◌<◌, ◌+◌, ℕ, Bool, true, false, Option, None, Some, List, [], ◌∷◌, ◌++◌, length, is_some, get_or, slice_get, refl, ap, ◌∙◌, sym, subst, arith, length-append, inl, inr}
+use Rattle.std.proofs.Common.{◌≡◌, ◌≢◌, ◌<◌, ◌+◌, ℕ, Bool, true, false, Option, None, Some, List, [], ◌∷◌, ◌++◌, length, is_some, get_or, slice_get, take, refl, ap, ◌∙◌, sym, subst, arith, length-append, inl, inr}
 use Rattle.std.specs.List.{position, position_from, position_or_len, list_any}
 use Rattle.std.specs.Ordering.{is_eq, eq_by_cmp, ordering_reverse}
 use Rattle.std.specs.declared.cmp.Ordering.{Ordering}
@@ -8,6 +8,7 @@ use Rattle.std.specs.Prelude.{if◌then◌else◌}
 use Rattle.std.proofs.lemmas.Bool.{cases_Bool}
 use Rattle.std.proofs.lemmas.Iterator.Adapters.{position_from-zero}
 use Rattle.indexmap.specs.IndexSet.{insert_key}
+use Rattle.std.proofs.lemmas.List.{get_or-take, length-take}
 use Rattle.std.proofs.lemmas.List.Quantifiers.{all_pairs_push}
 use Rattle.std.proofs.lemmas.Map.Views.{tells_apart}
 use Rattle.std.proofs.lemmas.Option.{slice_get_within, get_or_from_slice_get}
@@ -74,6 +75,17 @@ IsPool-with records row pool room = go (number_of records row) refl
     go : (o : Option ℕ) → number_of records row ≡ o → IsPool (with_record records row)
     go None e = rw e (IsPool-more records row pool room e)
     go (Some number) e = rw e pool
+
+-- the first so many of a pool's records
+
+pub IsPool-first : (records : List Row) (count : ℕ) → IsPool records → IsPool (take count records)
+IsPool-first records count pool = record {
+  distinct = λ i j d lt within.
+      let below : j < count = omega (arith, within, length-take count records) in
+      let inside : j < length records = omega (arith, within, length-take count records) in
+      rw (get_or-take count records i d (omega (arith, lt, below)), get_or-take count records j d below) (pool.distinct i j d lt inside);
+  few = omega (arith, length-take count records, pool.few);
+}
 
 -- ---- the set that holds the records
 

@@ -1,5 +1,5 @@
 //! A pool of records, seen as the list of its records by number.
-ghost use Rattle.std.specs.Prelude.{ℕ, ◌≡◌, ◌<◌, ◌≤◌, ◌≢◌, ◌↔◌, [], ◌∷◌, ◌++◌, length, slice_get, AllPairs, Some, None, Err, IfOk, IfSome, IsFalse, IsOk, IsSome, IsTrue, OnOk, OnErr};
+ghost use Rattle.std.specs.Prelude.{ℕ, ◌≡◌, ◌<◌, ◌≤◌, ◌≢◌, ◌↔◌, [], ◌∷◌, ◌++◌, length, slice_get, take, AllPairs, Some, None, Err, IfOk, IfSome, IsFalse, IsOk, IsSome, IsTrue, OnOk, OnErr};
 ghost use Rattle.blz_value.specs.Members.{Has};
 ghost use Rattle.blz_pool.specs.Pool.{IsPool, record_limit, number_of, with_record};
 
@@ -165,6 +165,13 @@ impl Pool {
     {
         let (number, _) = self.records.insert_full(row)?;
         Ok(Id::new(number as u32))
+    }
+
+    /// Forgets all records but the first so many, whose ids stay. It takes no memory.
+    pub fn truncate(&mut self, count: usize)
+        ensures { self.new ≡ take count self.old }
+    {
+        self.records.truncate(count);
     }
 
     /// Forgets all records, so that ids are given from 0 again. It takes no memory.

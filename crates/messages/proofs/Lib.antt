@@ -18,6 +18,7 @@ pub mod Tallies
 pub mod ListLoops
 pub mod FaultLemmas
 pub mod SubjectLemmas
+pub mod PlacingLemmas
 pub mod LentLists
 pub mod Ids
 pub mod PutIds

@@ -2,3 +2,4 @@
 pub mod Tallies
 pub mod Hearing
 pub mod Counting
+pub mod Placing

@@ -42,6 +42,12 @@ pub record IsExact (l : Listed) : Type 0 where
   pub emitted : (r : Row) → Has r l.records → (place : ℕ) × (place < length l.lists) × Has r (rows_in (list_at (read_lists l) place))
   pub few : length l.records ≤ total l.lists
 
+-- the first so many lists stayed, and all others are empty
+pub record KeepsFirst (first : ℕ) (old new : List (List Message)) : Type 0 where
+  pub count : length new ≡ length old
+  pub kept : (place : ℕ) → place < first → list_at new place ≡ list_at old place
+  pub emptied : (place : ℕ) → first ≤ place → list_at new place ≡ []
+
 -- the pool only grew, and one list became another, while all others stayed
 pub record OneListBecomes (old new : Listed) (place : ℕ) (list : List Message) : Type 0 where
   pub records : Continues old.records new.records

@@ -1,7 +1,6 @@
 -- What a message is about, a record or a partition: an emitted list has one message at most about it.
 use Rattle.std.specs.Prelude.{ℕ, ◌==◌, Bool, false}
 use Rattle.std.specs.Hash.{HashWrites, u32}
-use Rattle.blz_value.specs.Record.{Row as Record}
 use Rattle.blz_value.specs.Hash.{row_writes}
 use Rattle.blz_value.specs.Message.{is_same_row}
 use Rattle.messages.specs.declared.message.Message.{Message as IdMessage}

@@ -40,6 +40,13 @@ impl Emitted {
         }
     }
 
+    /// Takes all messages away. It takes no memory.
+    pub fn clear(&mut self)
+        ensures { self.new ≡ [] }
+    {
+        self.counts.clear();
+    }
+
     /// The number of messages.
     pub fn len(&self) -> usize
         ensures { result ≡ length self.now }

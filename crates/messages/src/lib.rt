@@ -16,6 +16,7 @@ mod log;
 mod message;
 mod message_list;
 mod numbers;
+mod placing;
 mod port;
 mod subject;
 

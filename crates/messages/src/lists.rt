@@ -1,5 +1,5 @@
 //! All emitted lists, and the pool of their records.
-ghost use Rattle.std.specs.Prelude.{◌≡◌, ◌<◌, ◌≤◌, ◌+◌, ◌++◌, ◌∷◌, ℕ, [], length, replicate, slice_get, slice_index_or, slice_set, false, true, None, Some, Err, IfOk, IfSome, OnOk, if◌then◌else◌};
+ghost use Rattle.std.specs.Prelude.{◌≡◌, ◌<◌, ◌≤◌, ◌+◌, ◌++◌, ◌∷◌, ℕ, [], length, replicate, slice_get, slice_index_or, slice_set, false, true, None, Some, Err, IfOk, IfSome, IsFalse, IsTrue, OnOk, if◌then◌else◌};
 ghost use Rattle.std.specs.List.{All, list_any};
 ghost use Rattle.blz_pool.specs.Entries.{row_with_id};
 ghost use Rattle.blz_pool.specs.Pool.{IsPool, record_limit, with_record};
@@ -9,7 +9,7 @@ ghost use Rattle.messages.specs.Emitted.{count_in, has_seal, with_row, with_rows
 ghost use Rattle.messages.specs.Ids.{IsGiven};
 ghost use Rattle.messages.specs.declared.message.Message.TheVariants.{Seal};
 ghost use Rattle.messages.specs.Lists.{message_limit};
-ghost use Rattle.messages.specs.Lists.{OneListBecomes, AllAreGiven, IsExact, read_lists, list_at, total};
+ghost use Rattle.messages.specs.Lists.{OneListBecomes, AllAreGiven, IsExact, KeepsFirst, read_lists, list_at, total};
 ghost use Rattle.messages.specs.EmittedCounts.{count_of, seals_of, HasRoom, IsTallyOf, IsTallied};
 ghost use Rattle.messages.specs.Faults.{IsLimit};
 ghost use Rattle.messages.specs.EmittedIds.{is_row_with, is_seal_of, with_id, counts_row};
@@ -20,6 +20,7 @@ use crate::emitted::Emitted;
 use crate::fault::EventFault;
 use crate::limits::MAX_MESSAGES;
 use crate::message_list::MessageList;
+use crate::placing::{empty_from, records_in};
 use blz_pool::{Id, Pool, PoolFault};
 use blz_value::{HashKey, Record};
 use std::alloc::{AllocError, Global};
@@ -113,6 +114,23 @@ impl Lists {
         ensures pool { IsPool self.now.records }
     {
         self.pool.known();
+    }
+
+    /// Empties all lists but the first so many, and forgets the records that none of these has. Where these
+    /// weren't placed in the order in which they stand there, the answer is false and nothing changes. It takes
+    /// no memory, and walks over the first lists.
+    pub fn keep_first(&mut self, first: usize) -> bool
+        requires { first ≤ length self.old.lists }
+        ensures lists { IsTrue result → KeepsFirst first (read_lists self.old) (read_lists self.new) }
+        ensures exact { IsTrue result → IsExact self.new }
+        ensures same { IsFalse result → self.new ≡ self.old }
+    {
+        let Some(records) = records_in(&self.lists[..first]) else {
+            return false;
+        };
+        empty_from(&mut self.lists, &mut self.tallies, &mut self.count, first);
+        self.pool.truncate(records);
+        true
     }
 
     // The id of a record, which is placed where it is new. Where the pool is full, the lists together

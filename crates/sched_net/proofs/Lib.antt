@@ -36,3 +36,4 @@ pub mod FirstLemmas
 pub mod StepsLemmas
 pub mod WorkedLines
 pub mod WorkedReplay
+pub mod AgainLemmas

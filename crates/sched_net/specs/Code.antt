@@ -6,3 +6,4 @@ pub mod First
 pub mod Remaining
 pub mod Records
 pub mod Flags
+pub mod GoingBack

@@ -15,3 +15,4 @@ pub mod Steps
 pub mod ScheduleLines
 pub mod Taking
 pub mod Code
+pub mod Again

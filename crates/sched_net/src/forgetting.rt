@@ -32,8 +32,8 @@ fn clear_one(shell: &mut Box<dyn Component>)
     shell.clear();
 }
 
-// Empties what the shell at a place keeps.
-fn clear_at(shells: &mut Vec<Box<dyn Component>>, place: usize)
+/// Empties what the shell at a place keeps.
+pub(crate) fn clear_at(shells: &mut Vec<Box<dyn Component>>, place: usize)
     requires { place < length shells.old.items }
     ensures kinds { map (λ b. kind b) shells.new.items ≡ map (λ b. kind b) shells.old.items }
     ensures loaded { map (λ b. program b) shells.new.items ≡ map (λ b. program b) shells.old.items }

@@ -2,6 +2,7 @@
 //! schedule that is given, applied to it in order.
 #![tactic(auto)]
 
+mod again;
 mod as_step;
 mod bench;
 mod books;

@@ -19,8 +19,8 @@ use messages::Log;
 use std::alloc::{AllocError, Global};
 use topo_forms::{Data, Valid};
 
-// The logs of so many components, of which none has an entry.
-fn first_logs(alloc: Global, count: u32) -> Result<Vec<Log>, AllocError>
+/// The logs of so many components, of which none has an entry.
+pub(crate) fn first_logs(alloc: Global, count: u32) -> Result<Vec<Log>, AllocError>
     ensures { IfOk result (λ logs. logs.items ≡ replicate count []) }
 {
     let mut logs = Vec::new(alloc);
@@ -30,8 +30,8 @@ fn first_logs(alloc: Global, count: u32) -> Result<Vec<Log>, AllocError>
     Ok(logs)
 }
 
-// The books of a net that made no step.
-fn first_books(alloc: Global, valid: &Valid, given: Data) -> Result<Books, AllocError>
+/// The books of a net that made no step.
+pub(crate) fn first_books(alloc: Global, valid: &Valid, given: Data) -> Result<Books, AllocError>
     requires { IsData valid.now.view given }
     ensures { IfOk result (StandFirst valid.now.view given) }
 {

@@ -6,7 +6,7 @@ use Rattle.why_trace.proofs.Sublists.{trimmed_sublist}
 use Rattle.why_trace.proofs.Trimming.{trimmed_passes, trimmed_needs}
 
 module _ {X : Type 0} (test : List X → Bool) (first lent copied lines kept : List X) (handed : kept ≡ lines) (trimmed : lines ≡ trim_by test copied) (same : copied ≡ lent) (all : lent ≡ first) where
-  is_trim : kept ≡ trim_by test first
+  pub is_trim : kept ≡ trim_by test first
   is_trim = handed ∙ trimmed ∙ ap (trim_by test) (same ∙ all)
 
   pub kept_passes : test first ≡ true → test kept ≡ true

@@ -1,5 +1,5 @@
 -- A trial answers whether its lines yield the record.
-use Rattle.std.proofs.Common.{◌≡◌, ◌∙◌, ◌++◌, ◌<◌, ◌≤◌, ◌&&◌, ◌||◌, Bool, true, false, nat_lt, List, [], ◌∷◌, Bor, Option, Result, Ok, Err, OnOk, inl, inr, map, refl, sym, subst, ap, arith}
+use Rattle.std.proofs.Common.{◌≡◌, ◌∙◌, ◌++◌, ◌<◌, ◌≤◌, ◌&&◌, ◌||◌, Bool, true, false, nat_lt, List, [], ◌∷◌, Bor, Option, Result, Ok, Err, inl, inr, map, refl, sym, subst, ap, arith}
 use Rattle.std.specs.Cmp.{eq_by_cmp_equiv}
 use Rattle.std.specs.List.{list_any}
 use Rattle.std.specs.List.Sorted.{IsPermutation}
@@ -86,8 +86,7 @@ found_yielded sought w lines loaded tables next old new applied found same stand
 -- ---- the bench
 
 -- shells that go back behind the others, whose kinds a run left
-pub kinds_back : {X K T E : Type 0} (k : X → K) (result : Result T E) (old : List K) (between after opened closed : List X) → IsPermutation old (map k between ++ map k opened)
-    → map k closed ≡ map k opened → after ≡ between ++ closed → OnOk result (IsPermutation old (map k after))
-kinds_back k (Err fault) old between after opened closed all same is = tt
-kinds_back k (Ok x) old between after opened closed all same is =
+pub kinds_back : {X K : Type 0} (k : X → K) (old : List K) (between after opened closed : List X) → IsPermutation old (map k between ++ map k opened)
+    → map k closed ≡ map k opened → after ≡ between ++ closed → IsPermutation old (map k after)
+kinds_back k old between after opened closed all same is =
     subst (IsPermutation old) (sym (ap (map k) is ∙ map-append k between closed ∙ ap (λ l. map k between ++ l) same)) all

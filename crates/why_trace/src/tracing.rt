@@ -1,9 +1,10 @@
 //! What a record needs of a schedule: in passes, each from the last line to the first, a line is left out
 //! where the others still yield the record.
-ghost use Rattle.std.specs.Prelude.{◌≡◌, ◌<◌, ℕ, IfOk, OnOk, None, length, map, nat_lt, true, false};
+ghost use Rattle.std.specs.Prelude.{◌≡◌, ◌<◌, ℕ, [], IfOk, OnOk, None, length, map, nat_lt, true, false};
 ghost use Rattle.std.specs.List.{remove};
 ghost use Rattle.std.specs.List.Sorted.{IsPermutation};
 ghost use Rattle.sched_net.specs.Bench.{fault_of_opening};
+ghost use Rattle.sched_net.specs.Net.{Stands};
 ghost use Rattle.topo_forms.specs.Data.{IsData};
 ghost use Rattle.why_trace.specs.Passes.{without_needless, one_pass, trim_by, IsSublist};
 ghost use Rattle.why_trace.specs.Trim.{wanted, yields, trim};
@@ -11,9 +12,10 @@ ghost use Rattle.why_trace.specs.Code.Trials.{sought_of, is_yielded_by};
 
 use crate::aside::{set_aside, set_back};
 use crate::copies::copies_of_lines;
-use crate::trial::Trial;
+use crate::trial::{Trial, opened};
 use bloom_eval::Component;
 use blz_value::Record;
+use sched_net::Net;
 use sched_text::{Event, Schedule};
 use std::alloc::{AllocError, Global};
 use topo_forms::{Data, Valid};
@@ -24,17 +26,20 @@ impl Trial<'_> {
         &self,
         lines: &mut Vec<(u32, Event)>,
         place: usize,
-        bench: &mut Vec<Box<dyn Component>>,
+        net: &mut Net<'_>,
     ) -> Result<(), AllocError>
         requires data { IsData self.now.valid.now.view self.now.given.now }
-        requires opens { fault_of_opening self.now.valid.now.view (λ k. k) (map (λ b. kind b) bench.old.items) ≡ None }
+        requires same { net.old.valid.now ≡ self.now.valid.now }
+        requires stands { Stands self.now.valid.now.view self.now.given.now [] (map (λ b. program (b.vtable, b.value)) net.old.shells.items) (map (λ b. kept (b.vtable, b.value)) net.old.shells.items) net.old.books }
         requires there { place < length lines.old.items }
         ensures lines { OnOk result (lines.new.items ≡ without_needless (is_yielded_by (sought_of self.now)) place lines.old.items) }
-        ensures kinds { OnOk result (IsPermutation (map (λ b. kind b) bench.old.items) (map (λ b. kind b) bench.new.items)) }
+        ensures same { net.new.valid ≡ net.old.valid }
+        ensures stands { OnOk result (Stands self.now.valid.now.view self.now.given.now [] (map (λ b. program (b.vtable, b.value)) net.new.shells.items) (map (λ b. kept (b.vtable, b.value)) net.new.shells.items) net.new.books) }
+        ensures kinds { map (λ b. kind (b.vtable, b.value)) net.new.shells.items ≡ map (λ b. kind (b.vtable, b.value)) net.old.shells.items }
     {
         set_aside(lines, place);
         let others = lines.len() - 1;
-        if self.is_yielded_by(&lines[..others], bench)? {
+        if self.is_yielded_by(&lines[..others], net)? {
             lines.truncate(others);
             return Ok(());
         }
@@ -43,36 +48,34 @@ impl Trial<'_> {
     }
 
     // One pass, from the last line to the first, and whether it left one out.
-    fn pass(
-        &self,
-        lines: &mut Vec<(u32, Event)>,
-        bench: &mut Vec<Box<dyn Component>>,
-    ) -> Result<bool, AllocError>
+    fn pass(&self, lines: &mut Vec<(u32, Event)>, net: &mut Net<'_>) -> Result<bool, AllocError>
         requires data { IsData self.now.valid.now.view self.now.given.now }
-        requires opens { fault_of_opening self.now.valid.now.view (λ k. k) (map (λ b. kind b) bench.old.items) ≡ None }
+        requires same { net.old.valid.now ≡ self.now.valid.now }
+        requires stands { Stands self.now.valid.now.view self.now.given.now [] (map (λ b. program (b.vtable, b.value)) net.old.shells.items) (map (λ b. kept (b.vtable, b.value)) net.old.shells.items) net.old.books }
         ensures lines { OnOk result (lines.new.items ≡ one_pass (is_yielded_by (sought_of self.now)) lines.old.items) }
         ensures fewer { IfOk result (λ fewer. fewer ≡ nat_lt (length lines.new.items) (length lines.old.items)) }
-        ensures kinds { OnOk result (IsPermutation (map (λ b. kind b) bench.old.items) (map (λ b. kind b) bench.new.items)) }
+        ensures same { net.new.valid ≡ net.old.valid }
+        ensures stands { OnOk result (Stands self.now.valid.now.view self.now.given.now [] (map (λ b. program (b.vtable, b.value)) net.new.shells.items) (map (λ b. kept (b.vtable, b.value)) net.new.shells.items) net.new.books) }
+        ensures kinds { map (λ b. kind (b.vtable, b.value)) net.new.shells.items ≡ map (λ b. kind (b.vtable, b.value)) net.old.shells.items }
     {
         let count = lines.len();
         for place in (0..count).rev() {
-            self.leave_out(lines, place, bench)?;
+            self.leave_out(lines, place, net)?;
         }
         Ok(lines.len() < count)
     }
 
     // Passes until one leaves nothing out.
-    fn trim(
-        &self,
-        lines: &mut Vec<(u32, Event)>,
-        bench: &mut Vec<Box<dyn Component>>,
-    ) -> Result<(), AllocError>
+    fn trim(&self, lines: &mut Vec<(u32, Event)>, net: &mut Net<'_>) -> Result<(), AllocError>
         requires data { IsData self.now.valid.now.view self.now.given.now }
-        requires opens { fault_of_opening self.now.valid.now.view (λ k. k) (map (λ b. kind b) bench.old.items) ≡ None }
+        requires same { net.old.valid.now ≡ self.now.valid.now }
+        requires stands { Stands self.now.valid.now.view self.now.given.now [] (map (λ b. program (b.vtable, b.value)) net.old.shells.items) (map (λ b. kept (b.vtable, b.value)) net.old.shells.items) net.old.books }
         ensures lines { OnOk result (lines.new.items ≡ trim_by (is_yielded_by (sought_of self.now)) lines.old.items) }
-        ensures kinds { OnOk result (IsPermutation (map (λ b. kind b) bench.old.items) (map (λ b. kind b) bench.new.items)) }
+        ensures same { net.new.valid ≡ net.old.valid }
+        ensures stands { OnOk result (Stands self.now.valid.now.view self.now.given.now [] (map (λ b. program (b.vtable, b.value)) net.new.shells.items) (map (λ b. kept (b.vtable, b.value)) net.new.shells.items) net.new.books) }
+        ensures kinds { map (λ b. kind (b.vtable, b.value)) net.new.shells.items ≡ map (λ b. kind (b.vtable, b.value)) net.old.shells.items }
     {
-        while self.pass(lines, bench)? {}
+        while self.pass(lines, net)? {}
         Ok(())
     }
 }
@@ -82,8 +85,9 @@ impl Trial<'_> {
 /// record, until a pass leaves nothing out. The shells of the bench go back to it, in any order. The
 /// error is want of memory, after which nothing is said of the bench.
 ///
-/// Each line of each pass takes a trial: a copy of the data, the events up to the first that is
-/// refused, and references to the records that the replica has sent.
+/// One net is opened over a copy of the data. Each line of each pass takes a trial: the events up to the first
+/// that is refused, references to the records that the replica has sent, and a walk over the records of the
+/// sources; and a copy of the data more where a limit ended it.
 pub fn trace(
     alloc: Global,
     valid: &Valid,
@@ -109,6 +113,7 @@ pub fn trace(
     ensures kinds { OnOk result (IsPermutation (map (λ b. kind b) bench.old.items) (map (λ b. kind b) bench.new.items)) }
 {
     let mut lines = copies_of_lines(alloc, schedule.lines())?;
+    let mut net = opened(alloc, valid, given.copy()?, bench)?;
     let trial = Trial {
         alloc,
         valid,
@@ -117,6 +122,7 @@ pub fn trace(
         replica,
         row,
     };
-    trial.trim(&mut lines, bench)?;
+    trial.trim(&mut lines, &mut net)?;
+    net.close(bench)?;
     Ok(Schedule::from_lines(lines))
 }

@@ -1,4 +1,5 @@
-//! A trial: some lines happen on a net of their own, and then its contents are looked at.
+//! A trial: some lines happen on a net that made no step, then its contents are looked at, and it goes back to
+//! where it was.
 ghost use Rattle.std.specs.Prelude.{◌≡◌, ◌≢◌, ◌++◌, [], IfOk, OnOk, None, false, map};
 ghost use Rattle.std.specs.List.Sorted.{IsPermutation};
 ghost use Rattle.messages.specs.declared.fault.EventFault.TheVariants as event_faults;
@@ -17,8 +18,8 @@ use sched_text::Event;
 use std::alloc::{AllocError, Global};
 use topo_forms::{Data, Valid};
 
-// Opens a net where the bench has a shell for each instance.
-fn opened<'a>(
+/// Opens a net where the bench has a shell for each instance.
+pub(crate) fn opened<'a>(
     alloc: Global,
     valid: &'a Valid,
     given: Data,
@@ -84,23 +85,26 @@ impl Trial<'_> {
         }
     }
 
-    /// Whether some lines yield the record: they happen on a net of their own with shells of the bench,
-    /// which go back behind the others. Takes a copy of the data, the events up to the first that is
-    /// refused, and references to the records that the replica has sent. The error is want of memory.
+    /// Whether some lines yield the record: they happen on a net that made no step, which then goes back to
+    /// where it was. Takes the events up to the first that is refused, references to the records that the
+    /// replica has sent, and a walk over the records of the sources; where a limit ended the net, a copy of the
+    /// data. The error is want of memory.
     pub(crate) fn is_yielded_by(
         &self,
         lines: &[(u32, Event)],
-        bench: &mut Vec<Box<dyn Component>>,
+        net: &mut Net<'_>,
     ) -> Result<bool, AllocError>
         requires data { IsData self.now.valid.now.view self.now.given.now }
-        requires opens { fault_of_opening self.now.valid.now.view (λ k. k) (map (λ b. kind b) bench.old.items) ≡ None }
+        requires same { net.old.valid.now ≡ self.now.valid.now }
+        requires stands { Stands self.now.valid.now.view self.now.given.now [] (map (λ b. program (b.vtable, b.value)) net.old.shells.items) (map (λ b. kept (b.vtable, b.value)) net.old.shells.items) net.old.books }
         ensures found { IfOk result (λ found. found ≡ is_yielded_by (sought_of self.now) lines.now) }
-        ensures kinds { OnOk result (IsPermutation (map (λ b. kind b) bench.old.items) (map (λ b. kind b) bench.new.items)) }
+        ensures same { net.new.valid ≡ net.old.valid }
+        ensures stands { OnOk result (Stands self.now.valid.now.view self.now.given.now [] (map (λ b. program (b.vtable, b.value)) net.new.shells.items) (map (λ b. kept (b.vtable, b.value)) net.new.shells.items) net.new.books) }
+        ensures kinds { map (λ b. kind (b.vtable, b.value)) net.new.shells.items ≡ map (λ b. kind (b.vtable, b.value)) net.old.shells.items }
     {
-        let mut net = opened(self.alloc, self.valid, self.given.copy()?, bench)?;
-        let applied = run(&mut net, lines);
-        let found = self.is_found(&net, applied);
-        net.close(bench)?;
-        found
+        let applied = run(net, lines);
+        let found = self.is_found(net, applied)?;
+        net.start_again(self.given)?;
+        Ok(found)
     }
 }

@@ -10,7 +10,9 @@ returns-then-branch g c =
     record {
       lines = left_out (is_yielded_by (sought_of c.args.self.now)) c.args.lines.now.items moved (take others c.deref.result.now) c.truncate.new.self.items c.args.place others c.in_ok-is_yielded_by.field-0
           c.set_aside.ensures.aside (omega arith) (ap (take others) c.deref.ensures.value) c.in_ok-is_yielded_by.ensures.found c.if-branch.true c.truncate.ensures.items;
-      kinds = c.in_ok-is_yielded_by.ensures.kinds;
+      same = c.is_yielded_by.ensures.same;
+      stands = c.in_ok-is_yielded_by.ensures.stands;
+      kinds = c.is_yielded_by.ensures.kinds;
     }
 
 pub returns : goal.returns
@@ -20,5 +22,7 @@ returns g c =
     record {
       lines = left_in (is_yielded_by (sought_of c.args.self.now)) c.args.lines.now.items moved (take others c.deref.result.now) c.set_back.new.items.items c.args.place others c.in_ok-is_yielded_by.field-0
           c.set_aside.ensures.aside (omega arith) (ap (take others) c.deref.ensures.value) c.in_ok-is_yielded_by.ensures.found c.if-branch.false (c.set_back.ensures c.args.lines.now.items c.set_aside.ensures.aside);
-      kinds = c.in_ok-is_yielded_by.ensures.kinds;
+      same = c.is_yielded_by.ensures.same;
+      stands = c.in_ok-is_yielded_by.ensures.stands;
+      kinds = c.is_yielded_by.ensures.kinds;
     }

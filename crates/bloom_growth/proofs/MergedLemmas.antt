@@ -48,12 +48,12 @@ pub set_added : (key : Row) (more : List Row) (old new : BTreeMap Row (List Row)
 set_added key more old new set next found updates is =
     has_set_at key more old old new next (λ other. refl) updates (is ∙ ap (λ (o : Option (List Row)). set_of (unwrap_or o [] ++ more)) found)
 
--- at one that has none
-pub set_first : (key : Row) (set : List Row) (old middle new : BTreeMap Row (List Row)) → IsRowSet set → AddsSetAt key set old middle (Ok false)
-    → ((q : Row) → get record_cmp new q ≡ cond (is_at (record_cmp key) q) (Some set) (get record_cmp middle q)) → HasSet key set old new
-set_first key set old middle new sorted none updates =
-    has_set_at key set old middle new set (λ other. ap (λ (entries : List (Row × List Row)). unwrap_or (lookup (is_at (record_cmp other)) entries) []) none.0) updates
-    (sym (set_of-sorted set sorted) ∙ ap (λ (l : List Row). set_of (l ++ set)) (sym none.1))
+-- at one that has none, where the set comes back
+pub set_first : (key : Row) (set back : List Row) (old middle new : BTreeMap Row (List Row)) → IsRowSet set → AddsSetAt key set old middle (Ok (Some back))
+    → ((q : Row) → get record_cmp new q ≡ cond (is_at (record_cmp key) q) (Some back) (get record_cmp middle q)) → HasSet key set old new
+set_first key set back old middle new sorted none updates =
+    has_set_at key set old middle new back (λ other. ap (λ (entries : List (Row × List Row)). unwrap_or (lookup (is_at (record_cmp other)) entries) []) none.0) updates
+    (none.2 ∙ sym (set_of-sorted set sorted) ∙ ap (λ (l : List Row). set_of (l ++ set)) (sym none.1))
 
 -- rows that are too many for the set are so at its key
 pub set_refused : (key : Row) (more set new : List Row) (old sets : BTreeMap Row (List Row)) (fault : SetFault) → Some set ≡ get record_cmp old key

@@ -139,7 +139,7 @@ fn add_rows(set: &mut RecordSet, rows: Vec<Record>) -> Result<(), SetFault>
         *set = more;
         return Ok(());
     }
-    set.union_in(&more)
+    set.take_in(more)
 }
 
 // Adds rows to a set and takes them away once they are more than a set may have, so that few sets

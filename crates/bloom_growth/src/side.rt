@@ -44,20 +44,20 @@ fn add_at(
     }
 }
 
-// Adds rows to those with a key, where there are some, and answers whether there are.
+// Adds rows to those with a key, where there are some, and else gives them back.
 fn add_set_at(
     sets: &mut BTreeMap<Record, RecordSet>,
     key: &Record,
-    set: &RecordSet,
-) -> Result<bool, SetFault>
-    ensures { AddsSetAt key.now set.now sets.old sets.new result }
+    set: RecordSet,
+) -> Result<Option<RecordSet>, SetFault>
+    ensures { AddsSetAt key.now set sets.old sets.new result }
 {
     match sets.get_mut(key) {
         Some(there) => {
-            there.union_in(set)?;
-            Ok(true)
+            there.take_in(set)?;
+            Ok(None)
         }
-        None => Ok(false),
+        None => Ok(Some(set)),
     }
 }
 
@@ -125,7 +125,9 @@ impl Side {
         ensures columns { self.new.columns ≡ self.old.columns }
         ensures rows { AddsSet key set self.old.sets self.new.sets result }
     {
-        if !add_set_at(&mut self.sets, &key, &set)? {
+        if let Some(set) = add_set_at(&mut self.sets, &key, set)? {
+            // for the proof alone: what holds of the set
+            let _rows = set.rows();
             let _ = self.sets.insert(key, set)?;
         }
         Ok(())

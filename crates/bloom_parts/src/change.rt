@@ -40,14 +40,14 @@ pub fn one_row(alloc: Global, row: &Record) -> Result<RecordSet, AllocError>
     }
 }
 
-/// Adds the rows of a set to another, as `union_in` does. A set that has none becomes this one.
+/// Adds the rows of a set to another, as `take_in` does. A set that has none becomes this one.
 pub(crate) fn put_into(set: RecordSet, into: &mut RecordSet) -> Result<(), SetFault>
     ensures { Becomes into.old (set_of (into.old ++ set)) into.new result }
 {
     // for the proof alone: what holds of each set
     let _rows = set.rows();
     if into.len() > 0 {
-        return into.union_in(&set);
+        return into.take_in(set);
     }
     *into = set;
     Ok(())
@@ -116,22 +116,22 @@ impl<'r> Rows<'_, 'r> {
             Rows::One(row) => Rows::One(*row),
         }
     }
-
-    // Adds the rows to a set, as `union_in` does.
-    fn add_to_set(&self, into: &mut RecordSet) -> Result<(), SetFault>
-        ensures { Becomes into.old (set_of (into.old ++ rows_in self.now)) into.new result }
-    {
-        match self {
-            Rows::Lent(set) => into.union_in(*set),
-            Rows::Own(set) => into.union_in(set),
-            Rows::One(row) => insert_copy(*row, into),
-        }
-    }
 }
 
 impl<'a, 'r> Rows<'a, 'r> {
     ghost use Rattle.bloom_parts.specs.Turns.{rows_in};
     ghost use Rattle.bloom_parts.specs.Code.Settled.{IsSet};
+
+    // Adds the rows to a set, as `union_in` does.
+    fn add_to_set(self, into: &mut RecordSet) -> Result<(), SetFault>
+        ensures { Becomes into.old (set_of (into.old ++ rows_in self.entry)) into.new result }
+    {
+        match self {
+            Rows::Lent(set) => into.union_in(set),
+            Rows::Own(set) => into.take_in(set),
+            Rows::One(row) => insert_copy(row, into),
+        }
+    }
 
     /// The set itself, which is copied where it is lent.
     pub fn into_set(self, alloc: Global) -> Result<RecordSet, AllocError>

@@ -2,6 +2,7 @@ pub mod RecordSets
 pub mod Places
 pub mod Unions
 pub mod MergeLemmas
+pub mod BlockLemmas
 pub mod Runs
 pub mod Keys
 pub mod Joins

@@ -72,7 +72,7 @@ module _ (rows more : List Row) (x : Row) (at : ℕ) where
         ]
 
     -- it comes before those behind its place, and the others go among those before it
-    merged_last : set_of (rows ++ (more ++ x ∷ [])) ≡ set_of (take at rows ++ more) ++ x ∷ drop at rows
+    pub merged_last : set_of (rows ++ (more ++ x ∷ [])) ≡ set_of (take at rows ++ more) ++ x ∷ drop at rows
     merged_last =
         let lows = set_of (take at rows ++ more) in
         let highs = x ∷ drop at rows in
@@ -100,72 +100,7 @@ module _ (rows more : List Row) (x : Row) (at : ℕ) where
           ]),
         )
 
-    -- what stands behind and what is left are the whole still
-    pub merged_on : (merged onto pushed left all whole : List Row) → left ≡ take at rows → onto ≡ merged ++ reverse (drop at rows) → pushed ≡ onto ++ x ∷ [] → all ≡ more ++ x ∷ []
-        → merged ++ reverse (set_of (rows ++ all)) ≡ whole → pushed ++ reverse (set_of (left ++ more)) ≡ whole
-    merged_on merged onto pushed left all whole front moved push taken so_far =
-        let lows = set_of (take at rows ++ more) in
-        let behind = reverse (drop at rows) in
-        ap (λ (l : List Row). l ++ reverse (set_of (left ++ more))) push
-        ∙ ap (λ (l : List Row). (l ++ x ∷ []) ++ reverse (set_of (left ++ more))) moved
-        ∙ ap (λ (l : List Row). ((merged ++ behind) ++ x ∷ []) ++ reverse (set_of (l ++ more))) front
-        ∙ ap (λ (l : List Row). l ++ reverse lows) (append_assoc merged behind (x ∷ []))
-        ∙ append_assoc merged (behind ++ x ∷ []) (reverse lows)
-        ∙ ap (λ (l : List Row). merged ++ (l ++ reverse lows)) (sym (reverse-append (x ∷ []) (drop at rows)))
-        ∙ ap (λ (l : List Row). merged ++ l) (sym (reverse-append lows (x ∷ drop at rows)))
-        ∙ ap (λ (l : List Row). merged ++ reverse l) (sym merged_last)
-        ∙ ap (λ (l : List Row). merged ++ reverse (set_of (rows ++ l))) (sym taken)
-        ∙ so_far
-
-  -- as many rows as before
-  pub as_many : (merged onto pushed left all : List Row) → at ≤ length rows → left ≡ take at rows → onto ≡ merged ++ reverse (drop at rows) → pushed ≡ onto ++ x ∷ [] → all ≡ more ++ x ∷ []
-      → length pushed + length left + length more ≡ length merged + length rows + length all
-  as_many merged onto pushed left all within front moved push taken =
-      omega (
-        arith,
-        ap (length {A = Row}) front,
-        length-take-le at rows within,
-        ap (length {A = Row}) moved,
-        length-append merged (reverse (drop at rows)),
-        length-reverse (drop at rows),
-        length-drop at rows,
-        ap (length {A = Row}) push,
-        length-append onto (x ∷ []),
-        ap (length {A = Row}) taken,
-        length-append more (x ∷ []),
-      )
-
 -- where none come, all are there
 pub merged_none : (rows more : List Row) → length more ≡ 0 → IsRowSet rows → rows ≡ set_of (rows ++ more)
 merged_none rows more none sorted =
     sym (ap (λ (l : List Row). set_of (rows ++ l)) (nil_from_length more none) ∙ ap set_of (append-nil rows) ∙ set_of-sorted rows sorted)
-
--- when none are left to come
-pub merged_all : (merged rows more whole : List Row) → length more ≡ 0 → IsRowSet rows → merged ++ reverse (set_of (rows ++ more)) ≡ whole → merged ++ reverse rows ≡ whole
-merged_all merged rows more whole none sorted so_far = ap (λ (l : List Row). merged ++ reverse l) (merged_none rows more none sorted) ∙ so_far
-
--- ---- rows that are moved from the end
-
-module _ (rows before after : List Row) (x : Row) (taken : before ≡ after ++ x ∷ []) where
-  -- what is left is the front still
-  pub front_on : before ≡ take (length before) rows → after ≡ take (length after) rows
-  front_on front =
-      sym (take_at after (x ∷ []) (length after) refl) ∙ ap (take (length after)) (sym taken ∙ front)
-      ∙ take-take (length after) (length before) rows (omega (arith, ap (length {A = Row}) taken, length-append after (x ∷ [])))
-
-  -- what was moved, with what is left, is the whole still
-  pub moved_on : (onto pushed whole : List Row) → pushed ≡ onto ++ x ∷ [] → onto ++ reverse before ≡ whole → pushed ++ reverse after ≡ whole
-  moved_on onto pushed whole push so_far =
-      ap (λ (l : List Row). l ++ reverse after) push ∙ append_assoc onto (x ∷ []) (reverse after)
-      ∙ ap (λ (l : List Row). onto ++ l) (sym (ap reverse taken ∙ reverse-append after (x ∷ []))) ∙ so_far
-
--- what was moved is what stood from the place on
-pub moved_all : (rows left onto pushed : List Row) (at : ℕ) → left ≡ take at rows → pushed ++ reverse left ≡ onto ++ reverse rows → pushed ≡ onto ++ reverse (drop at rows)
-moved_all rows left onto pushed at front whole =
-    append_cancel_right pushed (onto ++ reverse (drop at rows)) (reverse left) (
-    whole
-    ∙ ap (λ (l : List Row). onto ++ reverse l) (sym (take-append-drop at rows))
-    ∙ ap (λ (l : List Row). onto ++ l) (reverse-append (take at rows) (drop at rows))
-    ∙ sym (append_assoc onto (reverse (drop at rows)) (reverse (take at rows)))
-    ∙ ap (λ (l : List Row). (onto ++ reverse (drop at rows)) ++ reverse l) (sym front)
-    )

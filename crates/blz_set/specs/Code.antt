@@ -3,3 +3,4 @@ pub mod ValueRef
 pub mod Entry
 pub mod Index
 pub mod Groups
+pub mod Blocks

@@ -7,6 +7,7 @@ mod group;
 mod index;
 mod join;
 mod merge;
+mod place;
 mod set;
 mod value_ref;
 

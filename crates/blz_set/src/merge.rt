@@ -1,68 +1,70 @@
 //! Sorted rows that go among others.
-ghost use Rattle.std.specs.Prelude.{◌≡◌, ◌+◌, ◌≤◌, ◌∷◌, ◌++◌, length, take, drop, reverse, vec_capacity, IfOk, OnOk, OnErr};
-ghost use Rattle.std.specs.List.{insert};
-ghost use Rattle.blz_value.specs.Members.{Has};
-ghost use Rattle.blz_value.specs.Record.{Row};
+ghost use Rattle.std.specs.Prelude.{◌≡◌, ◌+◌, ◌≤◌, ◌++◌, length, vec_capacity, IfOk, OnOk, OnErr};
 ghost use Rattle.blz_value.specs.Sets.{set_of, IsRowSet};
+ghost use Rattle.blz_set.specs.Code.Blocks.{rows_before, rows_after};
 
-use blz_value::{Record, compare};
+use crate::place::place;
+use blz_value::Record;
 use std::alloc::AllocError;
 
 // Rows that are at most one in so many are each sought among the others; a sort compares all.
-const FEW: usize = 8;
+const FEW: usize = 16;
 
-// The place in sorted rows for one that isn't there.
-fn sought(rows: &[Record], row: &Record) -> usize
-    ensures within { result ≤ length rows.now }
-    ensures gap { IsRowSet rows.now → ¬ Has row.now rows.now → insert rows.now result row.now ≡ set_of (row.now ∷ rows.now) }
+/// A row that comes, with those rows of before that stand behind it up to the next one that comes.
+#[derive(Drop)]
+pub(crate) struct Block {
+    first: Record,
+    rest: Vec<Record>,
+}
+
+// Puts the rows of before behind one another again.
+fn put_back(rows: &mut Vec<Record>, mut blocks: Vec<Block>)
+    requires { length (rows.old.items ++ rows_before blocks.items) ≤ vec_capacity rows.old }
+    ensures { rows.new.items ≡ rows.old.items ++ rows_before blocks.items }
 {
-    match rows.binary_search(row) {
-        Ok(at) => at,
-        Err(at) => at,
+    for _ in 0..blocks.len() {
+        let Block { first: _, mut rest } = blocks.take_last();
+        // there is room
+        let _ = rows.append(&mut rest);
     }
 }
 
-// The same, at once where the row goes last, as one does that comes just before another.
-fn gap(rows: &[Record], row: &Record) -> usize
-    ensures within { result ≤ length rows.now }
-    ensures gap { IsRowSet rows.now → ¬ Has row.now rows.now → insert rows.now result row.now ≡ set_of (row.now ∷ rows.now) }
+// Puts the blocks behind one another.
+fn put_on(rows: &mut Vec<Record>, mut blocks: Vec<Block>)
+    requires { length (rows.old.items ++ rows_after blocks.items) ≤ vec_capacity rows.old }
+    ensures { rows.new.items ≡ rows.old.items ++ rows_after blocks.items }
 {
-    match rows.last() {
-        Some(last) if compare(last, row).is_lt() => rows.len(),
-        _ => sought(rows, row),
+    for _ in 0..blocks.len() {
+        let Block { first, mut rest } = blocks.take_last();
+        rows.push_reserved(first);
+        // there is room
+        let _ = rows.append(&mut rest);
     }
 }
 
-// Moves the rows from a place on behind others, the last first.
-fn move_back(rows: &mut Vec<Record>, at: usize, onto: &mut Vec<Record>)
-    requires place { at ≤ length rows.old.items }
-    requires room { length onto.old.items + length rows.old.items ≤ vec_capacity onto.old + at }
-    ensures rows { rows.new.items ≡ take at rows.old.items }
-    ensures onto { onto.new.items ≡ onto.old.items ++ reverse (drop at rows.old.items) }
-    ensures room { vec_capacity onto.new ≡ vec_capacity onto.old }
-{
-    for _ in 0..rows.len() - at {
-        onto.push_reserved(rows.take_last());
-    }
-}
-
-// The rows of two sorted lists that have none in common, the greatest first. They are taken out of both.
-fn merged_back(rows: &mut Vec<Record>, more: &mut Vec<Record>) -> Result<Vec<Record>, AllocError>
+// The blocks of those rows that come and aren't there, the last of them first. What is behind the first
+// of these is taken off the rows, each block as a whole.
+fn taken_blocks(rows: &mut Vec<Record>, more: &mut Vec<Record>) -> Result<Vec<Block>, AllocError>
     requires rows { IsRowSet rows.old.items }
     requires more { IsRowSet more.old.items }
-    requires apart { (q : Row) → Has q rows.old.items → ¬ Has q more.old.items }
-    ensures merged { IfOk result (λ merged. merged.items ≡ reverse (set_of (rows.old.items ++ more.old.items))) }
+    ensures ok { IfOk result (λ blocks. rows.new.items ++ rows_after blocks.items ≡ set_of (rows.old.items ++ more.old.items)) }
     ensures err { OnErr result (rows.new.items ≡ rows.old.items) }
+    ensures room { OnOk result (vec_capacity rows.new ≡ vec_capacity rows.old) }
 {
-    let mut merged = Vec::with_capacity(*rows.allocator(), rows.len() + more.len())?;
+    let mut blocks = Vec::with_capacity(*rows.allocator(), more.len())?;
     for _ in 0..more.len() {
-        let row = more.take_last();
-        let at = gap(rows.as_slice(), &row);
-        move_back(rows, at, &mut merged);
-        merged.push_reserved(row);
+        let first = more.take_last();
+        if let Err(at) = place(rows.as_slice(), &first) {
+            match rows.split_off(at) {
+                Ok(rest) => blocks.push_reserved(Block { first, rest }),
+                Err(error) => {
+                    put_back(rows, blocks);
+                    return Err(error);
+                }
+            }
+        }
     }
-    move_back(rows, 0, &mut merged);
-    Ok(merged)
+    Ok(blocks)
 }
 
 // Moves rows to others. Where both are sorted, the stable sort merges them in one pass.
@@ -84,23 +86,19 @@ fn sort_in(rows: &mut Vec<Record>, more: &mut Vec<Record>) -> Result<(), AllocEr
     }
 }
 
-/// Moves rows to others, where both are sorted and none stands in both. Where they are few, the others
-/// are moved and hardly compared.
+/// Moves rows to others, where both are sorted. Where they are few, the others are moved as blocks and
+/// hardly compared.
 pub(crate) fn merge_in(rows: &mut Vec<Record>, more: &mut Vec<Record>) -> Result<(), AllocError>
     requires rows { IsRowSet rows.old.items }
     requires more { IsRowSet more.old.items }
-    requires apart { (q : Row) → Has q rows.old.items → ¬ Has q more.old.items }
     ensures ok { OnOk result (rows.new.items ≡ set_of (rows.old.items ++ more.old.items)) }
     ensures err { OnErr result (rows.new.items ≡ rows.old.items) }
 {
-    if more.is_empty() {
-        return Ok(());
-    }
     if more.len() > rows.len() / FEW {
         return sort_in(rows, more);
     }
-    let mut merged = merged_back(rows, more)?;
-    merged.reverse();
-    *rows = merged;
+    rows.reserve(more.len())?;
+    let blocks = taken_blocks(rows, more)?;
+    put_on(rows, blocks);
     Ok(())
 }

@@ -6,7 +6,7 @@ ghost use Rattle.blz_value.specs.Sets.{set_of};
 ghost use Rattle.blz_value.specs.Test.{test_holds, TestFits};
 ghost use Rattle.blz_value.specs.Operators.{select_rows, project_rows, join_rows, notin_rows};
 ghost use Rattle.blz_value.specs.Groups.{group_rows, at_least_rows};
-ghost use Rattle.blz_set.specs.RecordSet.{IsRecordSet};
+ghost use Rattle.blz_set.specs.RecordSet.{IsRecordSet, row_limit};
 ghost use Rattle.blz_set.specs.Missing.{has_row, missing_from};
 ghost use Rattle.blz_set.specs.References.{shown};
 ghost use Rattle.blz_set.specs.Answers.{Gives, Becomes};
@@ -17,7 +17,8 @@ use crate::group::grouped_row;
 use crate::index::Index;
 use crate::join::{add_joined, left_columns, right_columns};
 use crate::merge::merge_in;
-use blz_value::{Agg, Record, Test, compare, holds};
+use crate::place::place;
+use blz_value::{Agg, Record, Test, holds};
 use std::alloc::{AllocError, Global};
 use std::marker::Model;
 
@@ -94,10 +95,7 @@ impl RecordSet {
         ensures gap { IfErr result (λ at. insert self.now at row.now ≡ set_of (row.now ∷ self.now)) }
         ensures set { IsRecordSet self.now }
     {
-        match self.rows.last() {
-            Some(last) if compare(last, row).is_lt() => Err(self.rows.len()),
-            _ => self.rows.binary_search(row),
-        }
+        place(self.rows.as_slice(), row)
     }
 
     /// Whether a row is in the set.
@@ -140,6 +138,31 @@ impl RecordSet {
         let mut copies = copies_of(*self.rows.allocator(), missing.as_slice())?;
         merge_in(&mut self.rows, &mut copies)?;
         Ok(())
+    }
+
+    /// Takes the rows of another set over.
+    pub fn take_in(&mut self, other: RecordSet) -> Result<(), SetFault>
+        ensures { Becomes self.old (set_of (self.old ++ other)) self.new result }
+    {
+        if !self.has_room(&other)? {
+            return Err(SetFault::TooManyRows);
+        }
+        let RecordSet { mut rows } = other;
+        merge_in(&mut self.rows, &mut rows)?;
+        Ok(())
+    }
+
+    // Whether the union with another set isn't too large. The rows that are missing are counted only
+    // where it may be.
+    fn has_room(&self, other: &RecordSet) -> Result<bool, AllocError>
+        ensures room { IfOk result (λ room. IsTrue room ↔ (length (set_of (self.now ++ other.now)) ≤ row_limit)) }
+        ensures set { IsRecordSet other.now }
+    {
+        if self.rows().len() + other.rows().len() <= ROW_LIMIT {
+            return Ok(true);
+        }
+        let missing = self.missing(other)?;
+        Ok(missing.len() <= ROW_LIMIT - self.rows.len())
     }
 
     // The rows of another set that are missing from this one.

@@ -179,6 +179,16 @@ fn show_insert(lines: &mut Lines, set: &mut RecordSet, number: i64) -> Result<()
     lines.push("insert", shown)
 }
 
+// Whether there was room for rows that came to a set.
+fn room_text(outcome: Result<(), SetFault>) -> Result<&'static [u8], AllocError> {
+    let text: &[u8] = match outcome {
+        Ok(()) => b"done",
+        Err(SetFault::TooManyRows) => b"too many rows",
+        Err(SetFault::NoMemory) => return Err(AllocError),
+    };
+    Ok(text)
+}
+
 // The numbers from one up to the other come to a set.
 fn show_union(
     lines: &mut Lines,
@@ -187,12 +197,20 @@ fn show_union(
     last: i64,
 ) -> Result<(), AllocError> {
     let others = numbers(lines.alloc(), first, last)?;
-    let shown: &[u8] = match set.union_in(&others) {
-        Ok(()) => b"done",
-        Err(SetFault::TooManyRows) => b"too many rows",
-        Err(SetFault::NoMemory) => return Err(AllocError),
-    };
+    let shown = room_text(set.union_in(&others))?;
     lines.push("union", shown)
+}
+
+// A set takes the numbers from one up to the other over.
+fn show_take(
+    lines: &mut Lines,
+    set: &mut RecordSet,
+    first: i64,
+    last: i64,
+) -> Result<(), AllocError> {
+    let others = numbers(lines.alloc(), first, last)?;
+    let shown = room_text(set.take_in(others))?;
+    lines.push("take", shown)
 }
 
 fn show_contains(lines: &mut Lines, set: &RecordSet, number: i64) -> Result<(), AllocError> {
@@ -215,6 +233,7 @@ enum Step {
     Contains(i64),
     At(usize),
     Union(i64, i64),
+    Take(i64, i64),
     Count,
     Copy,
 }
@@ -232,17 +251,21 @@ const FEW: [Step; 9] = [
     Step::Copy,
 ];
 
-// A set to which few rows come: one goes before its own, and one behind them.
-const MANY: [Step; 5] = [
+// A set to which few rows come: one goes before its own, and one behind them; and then two, of which it
+// has one.
+const MANY: [Step; 8] = [
     Step::Union(0, 41),
     Step::Count,
     Step::At(0),
     Step::At(1),
     Step::At(41),
+    Step::Take(41, 42),
+    Step::Count,
+    Step::At(42),
 ];
 
 // A set of as many rows as there may be.
-const FULL: [Step; 11] = [
+const FULL: [Step; 13] = [
     Step::Insert(0),
     Step::Contains(0),
     Step::Insert(262_145),
@@ -251,6 +274,8 @@ const FULL: [Step; 11] = [
     Step::Contains(262_144),
     Step::Union(0, 9),
     Step::Union(1, 9),
+    Step::Take(0, 9),
+    Step::Take(1, 9),
     Step::Count,
     Step::At(0),
     Step::At(262_143),
@@ -267,6 +292,7 @@ fn show_step(lines: &mut Lines, set: &mut RecordSet, step: Step) -> Result<(), A
         Step::Contains(number) => show_contains(lines, set, number),
         Step::At(index) => show_at(lines, set, index),
         Step::Union(first, last) => show_union(lines, set, first, last),
+        Step::Take(first, last) => show_take(lines, set, first, last),
         Step::Count => lines.count("rows", set.len()),
         Step::Copy => show_copy(lines, set),
     }

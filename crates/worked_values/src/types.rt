@@ -33,6 +33,7 @@ fn sets() {
     let _: fn(&RecordSet, &Record) -> bool = RecordSet::contains;
     let _: fn(&mut RecordSet, Record) -> Result<bool, SetFault> = RecordSet::insert;
     let _: fn(&mut RecordSet, &RecordSet) -> Result<(), SetFault> = RecordSet::union_in;
+    let _: fn(&mut RecordSet, RecordSet) -> Result<(), SetFault> = RecordSet::take_in;
     let _: fn(&RecordSet, &Test) -> Result<RecordSet, SetFault> = RecordSet::select;
     let _: fn(&RecordSet, &[u32]) -> Result<RecordSet, SetFault> = RecordSet::project;
     let _: fn(&RecordSet, &RecordSet, &[(u32, u32)]) -> Result<RecordSet, SetFault> =

@@ -1,5 +1,5 @@
 -- What the private functions of a side give, which put a key's rows in at once.
-use Rattle.std.specs.Prelude.{ℕ, ◌≡◌, ◌<◌, ◌≤◌, Bool, true, false, Result, Ok, Err, List, [], ◌++◌, length}
+use Rattle.std.specs.Prelude.{ℕ, ◌≡◌, ◌<◌, ◌≤◌, Option, None, Some, Result, Ok, Err, List, [], ◌++◌, length}
 use Rattle.std.specs.BTreeMap.{BTreeMap, IsUnchanged}
 use Rattle.blz_value.specs.Record.{Row}
 use Rattle.blz_value.specs.Sets.{set_of, IsRowSet}
@@ -16,10 +16,10 @@ HaveRowSets sets = (key : Row) → IsRowSet (rows_found sets key)
 abbrev pub HasSet : (key : Row) (set : List Row) → (old new : BTreeMap Row (List Row)) → Type 0
 HasSet key set old new = (rows_found new key ≡ set_of (rows_found old key ++ set)) × ((other : Row) → ¬ (other ≡ key) → rows_found new other ≡ rows_found old other)
 
--- the same where the key has rows, which is the answer, and else nothing changes; TooManyRows comes only where they are too many
-abbrev pub AddsSetAt : (key : Row) (set : List Row) → (old new : BTreeMap Row (List Row)) → Result Bool SetFault → Type 0
-AddsSetAt key set old new (Ok true) = HasSet key set old new
-AddsSetAt key set old new (Ok false) = IsUnchanged old new × (rows_found old key ≡ [])
+-- the same where the key has rows, and else nothing changes and the set comes back; TooManyRows comes only where they are too many
+abbrev pub AddsSetAt : (key : Row) (set : List Row) → (old new : BTreeMap Row (List Row)) → Result (Option (List Row)) SetFault → Type 0
+AddsSetAt key set old new (Ok None) = HasSet key set old new
+AddsSetAt key set old new (Ok (Some back)) = IsUnchanged old new × (rows_found old key ≡ []) × (back ≡ set)
 AddsSetAt key set old new (Err TooManyRows) = row_limit < length (set_of (rows_found old key ++ set))
 AddsSetAt key set old new (Err NoMemory) = Unit {0}
 

@@ -10,4 +10,4 @@ returns-in_err-more c =
     (made_fault c.args.set.now c.args.rows.items c.args.set.now c.in_err-more.field-0.0 c.in_err-more.ensures)
 
 pub returns : goal.returns
-returns c = union_grows c.args.set.now c.args.rows.items c.in_ok-more.more c.union_in.new.self c.union_in.result c.in_ok-more.ensures.0 c.union_in.ensures
+returns c = union_grows c.args.set.now c.args.rows.items c.in_ok-more.more c.take_in.new.self c.take_in.result c.in_ok-more.ensures.0 c.take_in.ensures

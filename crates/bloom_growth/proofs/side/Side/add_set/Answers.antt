@@ -1,4 +1,5 @@
-use Rattle.std.proofs.Common.{◌≡◌, Bool, false, Ok, subst, rules}
+use Rattle.std.proofs.Common.{List, Option, Ok, Some, subst}
+use Rattle.blz_value.specs.Record.{Row}
 use Rattle.blz_value.specs.Sets.{IsRowSet}
 use Rattle.bloom_growth.specs.Code.Sides.{AddsSetAt}
 use Rattle.bloom_growth.proofs.MergedLemmas.{set_first}
@@ -10,6 +11,5 @@ returns-in_ok-insert-clause-rows c =
     let set = c.args.set in
     let old = c.args.self.now.sets in
     let middle = c.add_set_at.new.sets in
-    let no : c.in_ok-add_set_at.field-0 ≡ false = search rules in
-    let none : AddsSetAt key set old middle (Ok false) = subst (λ (there : Bool). AddsSetAt key set old middle (Ok there)) no c.in_ok-add_set_at.ensures in
-    set_first key set old middle c.insert.new.self (subst IsRowSet c.set.view_is c.set.invariant.sorted) none c.in_ok-insert.ensures.updates.0
+    let back : AddsSetAt key set old middle (Ok (Some c.in-Some.set)) = subst (λ (left : Option (List Row)). AddsSetAt key set old middle (Ok left)) c.in-Some.is c.in_ok-set.ensures in
+    set_first key set c.in-Some.set old middle c.insert.new.self (subst IsRowSet back.2 c.rows-rows.ensures.set.sorted) back c.in_ok-insert.ensures.updates.0

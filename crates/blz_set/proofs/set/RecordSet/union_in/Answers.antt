@@ -1,13 +1,12 @@
 use Rattle.std.proofs.Common.{Bool, ◌≤◌, ◌++◌, ◌∷◌, ◌∙◌, refl, sym, ap, subst, arith, length, List, Bor}
 use Rattle.std.proofs.lemmas.List.{length-map}
-use Rattle.blz_value.specs.Members.{Has}
 use Rattle.blz_value.specs.Record.{Row}
 use Rattle.blz_value.specs.Sets.{IsRowSet, set_of}
 use Rattle.blz_set.specs.RecordSet.{IsRecordSet, row_limit}
 use Rattle.blz_set.specs.References.{shown}
 use Rattle.blz_set.specs.Answers.{Becomes}
 use Rattle.blz_set.proofs.RecordSets.{set_is_set}
-use Rattle.blz_set.proofs.Unions.{missing_apart, missing_sorted, length_union, union_missing, one_missing, only_one, handed_on, becomes_as}
+use Rattle.blz_set.proofs.Unions.{missing_sorted, length_union, union_missing, one_missing, only_one, handed_on, becomes_as}
 use Rattle.blz_set.proofs.set.RecordSet.union_in.Goals as goal
 
 pub returns-then-len-room : goal.returns-then-len-room
@@ -41,7 +40,6 @@ merge_in-requires c =
     record {
       rows = c.self.invariant.sorted;
       more = subst IsRowSet (sym copies) (missing_sorted old others c.missing.ensures.set.sorted);
-      apart = λ q h k. missing_apart old others q (subst (Has q) c.self.view_is h) (subst (Has q) copies k);
     }
 
 pub invariant_of-self-2 : goal.invariant_of-self-2

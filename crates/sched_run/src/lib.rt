@@ -9,6 +9,7 @@ mod looking;
 mod made;
 mod making;
 mod naming;
+mod pieces;
 mod stale;
 mod tables;
 mod watch;

@@ -7,9 +7,11 @@ ghost use Rattle.sched_net.specs.ScheduleLines.{events_of};
 ghost use Rattle.sched_run.specs.Made.{event_limit};
 ghost use Rattle.sched_run.specs.Making.{CountFromOne, IsTextOf};
 ghost use Rattle.sched_run.specs.Naming.{HasEventNames, CanBeWritten};
+ghost use Rattle.sched_run.specs.Code.Pieces.{AreTexts};
 ghost use Rattle.sched_run.specs.Code.Written.{AreLines, AddsLine};
 
 use crate::naming::named;
+use crate::pieces::Texts;
 use crate::writing::push_line;
 use sched_net::NumberedEvent;
 use sched_text::{Event, Schedule};
@@ -53,13 +55,20 @@ fn lines_of(
 }
 
 // Adds the line of an event.
-fn push_named(valid: &Valid, event: &NumberedEvent, text: &mut Vec<u8>) -> Result<(), AllocError>
-    requires { HasEventNames valid.now.view (event_by_numbers event.now) }
-    ensures { OnOk result (AddsLine valid.now.view (event_by_numbers event.now) text.old.items text.new.items) }
+fn push_named(
+    valid: &Valid,
+    event: &NumberedEvent,
+    texts: &mut Texts,
+    text: &mut Vec<u8>,
+) -> Result<(), AllocError>
+    requires named { HasEventNames valid.now.view (event_by_numbers event.now) }
+    requires texts { AreTexts valid.now.view texts.old }
+    ensures line { OnOk result (AddsLine valid.now.view (event_by_numbers event.now) text.old.items text.new.items) }
+    ensures texts { AreTexts valid.now.view texts.new }
 {
     valid.known();
     valid.whole();
-    push_line(valid, event, text)
+    push_line(valid, event, texts, text)
 }
 
 // The text of events, one a line.
@@ -69,8 +78,9 @@ fn text_of(alloc: Global, valid: &Valid, events: &[NumberedEvent]) -> Result<Vec
     ensures { IfOk result (λ text. IsTextOf valid.now.view (map event_by_numbers events.now) text.items) }
 {
     let mut text = Vec::new(alloc);
+    let mut texts = Texts::new(alloc)?;
     for event in events {
-        push_named(valid, event, &mut text)?;
+        push_named(valid, event, &mut texts, &mut text)?;
     }
     Ok(text)
 }

@@ -25,3 +25,5 @@ pub mod StepNext
 pub mod StepEnds
 pub mod StepLoops
 pub mod Arriving
+pub mod PuttingOut
+pub mod ByRowsLemmas

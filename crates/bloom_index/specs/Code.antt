@@ -14,3 +14,4 @@ pub mod KeptProps
 pub mod StepSets
 pub mod Arriving
 pub mod Steps
+pub mod ByRows

@@ -1,5 +1,5 @@
 //! A loaded module with what is kept.
-ghost use Rattle.std.specs.Prelude.{◌≡◌, ◌<◌, ◌++◌, [], None, Some, Err, length, All, IfOk, OnOk};
+ghost use Rattle.std.specs.Prelude.{◌≡◌, ◌<◌, ◌++◌, [], None, Some, Err, length, All, IfOk, IsSome, OnOk};
 ghost use Rattle.blz_pool.specs.Entries.{entries_with_ids};
 ghost use Rattle.bloom_forms.specs.declared.module.Kind.TheVariants.{Input, Table};
 ghost use Rattle.bloom_forms.specs.declared.program.Program.TheVariants.{Module as ModuleProgram};
@@ -13,13 +13,16 @@ ghost use Rattle.bloom_eval.specs.Finish.{placed};
 ghost use Rattle.bloom_eval.specs.Puts.{puts_in, ArePutOf};
 ghost use Rattle.bloom_eval.specs.declared.fault.StepFault.TheVariants.{TooManyRows};
 ghost use Rattle.bloom_eval.specs.StepAnswers.{AllFit, SomeIsOver, counted_sets};
+ghost use Rattle.bloom_index.specs.Code.ByRows.{only_chooses};
 ghost use Rattle.bloom_index.specs.Code.Kept.{tables_in, kept_tables, PartsStand, KeptStands, PutsOut};
 ghost use Rattle.bloom_index.specs.Code.KeptProps.{KeptStands-prop};
 ghost use Rattle.bloom_index.specs.Sides.{module_sides, side_rows};
 
 use crate::arrived::Arrived;
+use crate::by_rows::{only_chooses, put_by_rows};
 use crate::empty::empty_parts;
 use crate::grows::growing_heads;
+use crate::places::collection_at;
 use crate::sides::{side_at, side_count};
 use crate::step::{Parts, step};
 use crate::step_ids::step_by_ids;
@@ -37,30 +40,14 @@ pub(crate) struct IndexBody {
     alloc: Global,
     program: Checked,
     sides: u32,
+    // It keeps nothing and only chooses, so that one record steps by its rows.
+    by_rows: bool,
     none: RecordSet,
     parts: Option<Parts>,
     ghost counted: { sides ≡ length (module_sides program.form) },
+    ghost chosen: { by_rows ≡ only_chooses program.form },
     ghost empty: { none ≡ [] },
     ghost stands: { KeptStands program parts } by { KeptStands-prop program parts },
-}
-
-// The number of the collection that is a table, counted among the tables from 0.
-fn table_number(collections: &[Collection], table: u32) -> usize
-    requires { table < length (of_kind Table collections.now) }
-    ensures kind { kind_at collections.now result ≡ Some Table }
-    ensures place { place_in_kind Table collections.now result ≡ table }
-    ensures within { result < length collections.now }
-{
-    let mut left = table;
-    for (i, collection) in collections.iter().enumerate() {
-        if collection.kind == Kind::Table {
-            if left == 0 {
-                return i;
-            }
-            left -= 1;
-        }
-    }
-    unreachable!()
 }
 
 // Adds a copy of what a collection has, where it is a table.
@@ -111,18 +98,20 @@ impl IndexBody {
         ensures kept { IfOk result (λ body. kept_tables body.program body.parts ≡ empty_tables (ModuleProgram program.now)) }
     {
         let sides = sides_of(alloc, program)?;
+        let by_rows = only_chooses(program);
         let program = program.copy(alloc)?;
         Ok(IndexBody {
             alloc,
             program,
             sides,
+            by_rows,
             none: RecordSet::new(alloc),
             parts: None,
         })
     }
 
-    // Takes out what is kept. Where there is nothing it is made, and hashes under a key.
-    fn taken(&mut self, key: HashKey) -> Result<Parts, AllocError>
+    // Takes out what is kept, or where there is nothing makes it.
+    fn taken(&mut self) -> Result<Parts, AllocError>
         ensures program { self.new.program ≡ self.old.program }
         ensures alloc { self.new.alloc ≡ self.old.alloc }
         ensures none { self.new.parts ≡ None }
@@ -131,8 +120,20 @@ impl IndexBody {
     {
         match self.parts.take() {
             Some(parts) => Ok(parts),
-            None => empty_parts(self.alloc, &self.program, key),
+            None => empty_parts(self.alloc, &self.program, HashKey::new()),
         }
+    }
+
+    // Makes what is kept where there is nothing; it hashes under a key.
+    fn make_parts(&mut self, key: HashKey) -> Result<(), AllocError>
+        ensures program { self.new.program ≡ self.old.program }
+        ensures some { OnOk result (IsSome self.new.parts) }
+        ensures kept { kept_tables self.new.program self.new.parts ≡ kept_tables self.old.program self.old.parts }
+    {
+        if self.parts.is_none() {
+            self.parts = Some(empty_parts(self.alloc, &self.program, key)?);
+        }
+        Ok(())
     }
 
     // What a step puts out, evaluated plainly over a copy of the tables.
@@ -157,7 +158,7 @@ impl IndexBody {
         ensures too_many { result ≡ Err TooManyRows → SomeIsOver (counted_sets self.old.program (kept_tables self.old.program self.old.parts) now.now) }
         ensures wide { AreSetsOf (columns_of_kind Table self.new.program.form.collections) (kept_tables self.new.program self.new.parts) }
     {
-        let mut parts = self.taken(HashKey::new())?;
+        let mut parts = self.taken()?;
         *outs = self.all_outs(&parts, now)?;
         let _held = step(
             self.alloc,
@@ -166,6 +167,37 @@ impl IndexBody {
             &Arrived::Sets(now.sets()),
         )?;
         self.parts = Some(parts);
+        Ok(())
+    }
+
+    // One step over the records with the ids of some entries, over what is kept. What is kept hashes under
+    // the key of the pool of the first step. After a fault nothing is kept.
+    fn step_parts(
+        &mut self,
+        pool: &Pool,
+        ports: usize,
+        entries: &[(u32, Id)],
+        puts: &mut Puts,
+    ) -> Result<(), StepFault>
+        requires given { All (λ entry. entry.1 < length pool.now) entries.now }
+        requires ports { AreSetsOf (columns_of_kind Input self.old.program.form.collections) (timestep_of ports (entries_with_ids pool.now entries.now)) }
+        ensures program { self.new.program ≡ self.old.program }
+        ensures kept { OnOk result (kept_tables self.new.program self.new.parts ≡ tables_after self.old.program (kept_tables self.old.program self.old.parts) (timestep_of ports (entries_with_ids pool.now entries.now))) }
+        ensures outs { OnOk result (PutsOut self.old.program (kept_tables self.old.program self.old.parts) (timestep_of ports (entries_with_ids pool.now entries.now)) (puts_in pool.now puts.new)) }
+        ensures ids { OnOk result (ArePutOf entries.now puts.new) }
+        ensures few { OnOk result (AllFit (counted_sets self.old.program (kept_tables self.old.program self.old.parts) (timestep_of ports (entries_with_ids pool.now entries.now)))) }
+        ensures too_many { result ≡ Err TooManyRows → SomeIsOver (counted_sets self.old.program (kept_tables self.old.program self.old.parts) (timestep_of ports (entries_with_ids pool.now entries.now))) }
+        ensures wide { AreSetsOf (columns_of_kind Table self.new.program.form.collections) (kept_tables self.new.program self.new.parts) }
+    {
+        self.make_parts(pool.key())?;
+        let Some(parts) = &mut self.parts else {
+            unreachable!()
+        };
+        let done = step_by_ids(self.alloc, &self.program, parts, pool, ports, entries, puts);
+        if let Err(fault) = done {
+            self.parts = None;
+            return Err(fault);
+        }
         Ok(())
     }
 
@@ -189,18 +221,13 @@ impl IndexBody {
         ensures too_many { result ≡ Err TooManyRows → SomeIsOver (counted_sets self.old.program (kept_tables self.old.program self.old.parts) (timestep_of ports (entries_with_ids pool.now entries.now))) }
         ensures wide { AreSetsOf (columns_of_kind Table self.new.program.form.collections) (kept_tables self.new.program self.new.parts) }
     {
-        let mut parts = self.taken(pool.key())?;
-        step_by_ids(
-            self.alloc,
-            &self.program,
-            &mut parts,
-            pool,
-            ports,
-            entries,
-            puts,
-        )?;
-        self.parts = Some(parts);
-        Ok(())
+        match entries {
+            [entry] if self.by_rows && (entry.0 as usize) < ports => {
+                put_by_rows(self.alloc, &self.program, pool, ports, entry, puts)?;
+                Ok(())
+            }
+            _ => self.step_parts(pool, ports, entries, puts),
+        }
     }
 
     /// The rows of a table.
@@ -211,7 +238,8 @@ impl IndexBody {
         let Some(parts) = &self.parts else {
             return Ok(RecordSet::new(self.alloc));
         };
-        let number = table_number(self.program.module().collections.as_slice(), table);
+        let collections = self.program.module().collections.as_slice();
+        let number = collection_at(collections, Kind::Table, table);
         parts.rows[number].to_set(self.alloc)
     }
 

@@ -3,11 +3,13 @@
 
 mod arrived;
 mod body;
+mod by_rows;
 mod copies;
 mod empty;
 mod evaluate;
 mod grows;
 mod heads;
+mod places;
 mod plan;
 mod puts;
 mod shell;

@@ -59,25 +59,6 @@ fn put_of(
     Ok(Put::Rows(rows.into_set(alloc)?))
 }
 
-// Puts out what a collection has, where it is an output.
-fn push_put(
-    alloc: Global,
-    kind: Kind,
-    rows: Rows<'_, '_>,
-    pool: &Pool,
-    entries: &[(u32, Id)],
-    puts: &mut Puts,
-) -> Result<(), AllocError>
-    requires { All (λ entry. entry.1 < length pool.now) entries.now }
-    ensures rows { OnOk result (puts_in pool.now puts.new ≡ puts_in pool.now puts.old ++ placed Output kind (rows_in rows.entry)) }
-    ensures ids { OnOk result (ArePutOf entries.now puts.old → ArePutOf entries.now puts.new) }
-{
-    if kind == Kind::Output {
-        puts.push(put_of(alloc, rows, pool, entries)?)?;
-    }
-    Ok(())
-}
-
 /// Makes `puts` what the outputs have, by its id a record that arrived alone.
 pub(crate) fn put_out<'r>(
     alloc: Global,
@@ -94,8 +75,10 @@ pub(crate) fn put_out<'r>(
 {
     puts.clear();
     for (i, collection) in collections.iter().enumerate() {
-        let rows = take_rows(alloc, &mut held, i);
-        push_put(alloc, collection.kind, rows, pool, entries, puts)?;
+        if collection.kind == Kind::Output {
+            let rows = take_rows(alloc, &mut held, i);
+            puts.push(put_of(alloc, rows, pool, entries)?)?;
+        }
     }
     Ok(())
 }

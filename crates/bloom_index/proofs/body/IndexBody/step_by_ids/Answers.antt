@@ -1,45 +1,49 @@
-use Rattle.std.proofs.Common.{◌≡◌, refl}
-use Rattle.blz_pool.specs.Entries.{entries_with_ids}
-use Rattle.bloom_forms.specs.Form.{Accepted}
-use Rattle.bloom_forms.specs.Step.{Sets, tables_after}
+use Rattle.std.proofs.Common.{◌≡◌, ◌≤◌, ◌<◌, ◌∙◌, ◌∷◌, [], List, length, true, ap, sym, subst, arith}
+use Rattle.blz_pool.specs.Entries.{EntryId, entries_with_ids}
+use Rattle.bloom_forms.specs.Step.{Sets, outputs_of}
 use Rattle.bloom_eval.specs.Arrivals.{timestep_of}
 use Rattle.bloom_eval.specs.Puts.{puts_in}
-use Rattle.bloom_eval.specs.StepAnswers.{AllFit, SomeIsOver, counted_sets}
-use Rattle.bloom_index.specs.Code.Kept.{tables_in, kept_tables, PutsOut}
-use Rattle.bloom_index.proofs.Arriving.{stepped_over}
-use Rattle.bloom_index.proofs.BodyLemmas.{kept_wide, step_moved}
+use Rattle.bloom_eval.specs.StepAnswers.{AllFit, counted_sets}
+use Rattle.bloom_index.specs.Code.ByRows.{only_chooses}
+use Rattle.bloom_index.specs.Code.Kept.{kept_tables}
+use Rattle.bloom_index.proofs.Arriving.{lone_entry}
+use Rattle.bloom_index.proofs.BodyLemmas.{kept_wide}
+use Rattle.bloom_index.proofs.ByRowsLemmas.{none_kept, none_after, puts_all}
 use Rattle.bloom_index.proofs.body.IndexBody.step_by_ids.Goals as goal
 
-pub returns-in_err-parts-clause-wide : goal.returns-in_err-parts-clause-wide
-returns-in_err-parts-clause-wide c = kept_wide c.taken.new.self.program c.taken.new.self.parts c.taken.new.self.stands
+pub returns-in_err-put_by_rows-in-len1-clause-wide : goal.returns-in_err-put_by_rows-in-len1-clause-wide
+returns-in_err-put_by_rows-in-len1-clause-wide c = kept_wide c.args.self.now.program c.args.self.now.parts c.args.self.now.stands
 
-pub returns-in_err-step_by_ids-clause-too_many : goal.returns-in_err-step_by_ids-clause-too_many
-returns-in_err-step_by_ids-clause-too_many c = λ is.
+pub returns-in_ok-put_by_rows-in-len1-clause-kept : goal.returns-in_ok-put_by_rows-in-len1-clause-kept
+returns-in_ok-put_by_rows-in-len1-clause-kept c =
     let a = c.args.self.now.program in
+    let chosen : only_chooses a.form ≡ true = sym c.args.self.now.chosen ∙ c.if-self.true in
     let now = timestep_of c.args.ports (entries_with_ids c.args.pool.now c.args.entries.now) in
-    step_moved (λ (b : Accepted) (kept now : Sets). SomeIsOver (counted_sets b kept now)) a c.taken.new.self.program c.in_ok-parts.parts.rows.items (kept_tables a c.args.self.now.parts) now now c.in_ok-parts.ensures.program c.in_ok-parts.ensures.tables refl
-    (stepped_over _ c.taken.new.self.program (tables_in c.taken.new.self.program c.in_ok-parts.parts.rows.items) c.step_by_ids.new.parts now c.args.pool.now c.args.entries.now c.step_by_ids.new.puts c.in_err-step_by_ids.field-0.0 c.from_residual-in_err-step_by_ids.result c.from_residual-in_err-step_by_ids.ensures.1 is c.in_err-step_by_ids.ensures)
+    none_kept a chosen c.args.self.now.parts ∙ sym (none_after a chosen (kept_tables a c.args.self.now.parts) now)
 
-pub returns-in_err-step_by_ids-clause-wide : goal.returns-in_err-step_by_ids-clause-wide
-returns-in_err-step_by_ids-clause-wide c = kept_wide c.taken.new.self.program c.taken.new.self.parts c.taken.new.self.stands
-
-pub returns-clause-kept : goal.returns-clause-kept
-returns-clause-kept c =
+pub returns-in_ok-put_by_rows-in-len1-clause-outs : goal.returns-in_ok-put_by_rows-in-len1-clause-outs
+returns-in_ok-put_by_rows-in-len1-clause-outs c =
     let a = c.args.self.now.program in
-    let now = timestep_of c.args.ports (entries_with_ids c.args.pool.now c.args.entries.now) in
-    step_moved (λ (b : Accepted) (kept now : Sets). tables_in c.taken.new.self.program c.step_by_ids.new.parts.rows.items ≡ tables_after b kept now) a c.taken.new.self.program c.in_ok-parts.parts.rows.items (kept_tables a c.args.self.now.parts) now now c.in_ok-parts.ensures.program c.in_ok-parts.ensures.tables refl
-    c.in_ok-step_by_ids.ensures.tables_are
+    let kept = kept_tables a c.args.self.now.parts in
+    let chosen : only_chooses a.form ≡ true = sym c.args.self.now.chosen ∙ c.if-self.true in
+    let least : 1 ≤ length c.args.entries.now = omega arith in
+    let below : length c.args.entries.now < 2 = omega arith in
+    let outs : puts_in c.args.pool.now c.put_by_rows.new.puts ≡ outputs_of a kept (timestep_of c.args.ports (entries_with_ids c.args.pool.now c.args.entries.now)) =
+    c.in_ok-put_by_rows-in-len1.ensures.rows
+    ∙ ap (λ (tables : Sets). outputs_of a tables (timestep_of c.args.ports (entries_with_ids c.args.pool.now (c.entry-item.result ∷ [])))) (sym (none_kept a chosen c.args.self.now.parts))
+    ∙ ap (λ (l : List EntryId). outputs_of a kept (timestep_of c.args.ports (entries_with_ids c.args.pool.now l))) (sym (lone_entry c.args.entries.now c.entry-item.result least below c.entry-item.is)) in
+    puts_all a kept (timestep_of c.args.ports (entries_with_ids c.args.pool.now c.args.entries.now)) (puts_in c.args.pool.now c.put_by_rows.new.puts) outs
 
-pub returns-clause-outs : goal.returns-clause-outs
-returns-clause-outs c =
+pub returns-in_ok-put_by_rows-in-len1-clause-few : goal.returns-in_ok-put_by_rows-in-len1-clause-few
+returns-in_ok-put_by_rows-in-len1-clause-few c =
     let a = c.args.self.now.program in
-    let now = timestep_of c.args.ports (entries_with_ids c.args.pool.now c.args.entries.now) in
-    step_moved (λ (b : Accepted) (kept now : Sets). PutsOut b kept now (puts_in c.args.pool.now c.step_by_ids.new.puts)) a c.taken.new.self.program c.in_ok-parts.parts.rows.items (kept_tables a c.args.self.now.parts) now now c.in_ok-parts.ensures.program c.in_ok-parts.ensures.tables refl
-    c.in_ok-step_by_ids.ensures.outs
+    let kept = kept_tables a c.args.self.now.parts in
+    let chosen : only_chooses a.form ≡ true = sym c.args.self.now.chosen ∙ c.if-self.true in
+    let least : 1 ≤ length c.args.entries.now = omega arith in
+    let below : length c.args.entries.now < 2 = omega arith in
+    subst (λ (l : List EntryId). AllFit (counted_sets a kept (timestep_of c.args.ports (entries_with_ids c.args.pool.now l)))) (sym (lone_entry c.args.entries.now c.entry-item.result least below c.entry-item.is))
+    (subst (λ (tables : Sets). AllFit (counted_sets a tables (timestep_of c.args.ports (entries_with_ids c.args.pool.now (c.entry-item.result ∷ []))))) (sym (none_kept a chosen c.args.self.now.parts))
+    c.in_ok-put_by_rows-in-len1.ensures.few)
 
-pub returns-clause-few : goal.returns-clause-few
-returns-clause-few c =
-    let a = c.args.self.now.program in
-    let now = timestep_of c.args.ports (entries_with_ids c.args.pool.now c.args.entries.now) in
-    step_moved (λ (b : Accepted) (kept now : Sets). AllFit (counted_sets b kept now)) a c.taken.new.self.program c.in_ok-parts.parts.rows.items (kept_tables a c.args.self.now.parts) now now c.in_ok-parts.ensures.program c.in_ok-parts.ensures.tables refl
-    c.in_ok-step_by_ids.ensures.few
+pub returns-in_ok-put_by_rows-in-len1-clause-wide : goal.returns-in_ok-put_by_rows-in-len1-clause-wide
+returns-in_ok-put_by_rows-in-len1-clause-wide c = kept_wide c.args.self.now.program c.args.self.now.parts c.args.self.now.stands

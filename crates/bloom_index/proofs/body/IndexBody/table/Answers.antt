@@ -16,24 +16,24 @@ returns-in_default c =
     let a = c.args.self.now.program in
     subst (λ (parts : Option Parts). c.new.result ≡ set_at (kept_tables a parts) c.args.table) (sym c.in_default.is) (c.new.ensures ∙ sym (no_table a c.args.table))
 
-pub table_number-number-requires : goal.table_number-number-requires
-table_number-number-requires c =
+pub collection_at-number-requires : goal.collection_at-number-requires
+collection_at-number-requires c =
     let a = c.args.self.now.program in
     let parts = c.in-Some.parts in
     let stands : PartsStand a parts = subst (KeptStands a) c.in-Some.is c.args.self.now.stands in
     let within : c.args.table < length (tables_in a parts.rows.items) = subst (λ (o : Option Parts). c.args.table < length (kept_tables a o)) c.in-Some.is c.requires in
-    subst (λ (cs : List Collection). c.args.table < length (of_kind Table cs)) (sym (c.as_slice.ensures ∙ ap (λ (form : Form). form.collections) c.module.ensures.form)) (table_within a parts stands c.args.table within)
+    subst (λ (cs : List Collection). c.args.table < length (of_kind Table cs)) (sym (c.as_slice-collections.ensures ∙ ap (λ (form : Form). form.collections) c.module.ensures.form)) (table_within a parts stands c.args.table within)
 
 pub returns : goal.returns
 returns c =
     let a = c.args.self.now.program in
     let parts = c.in-Some.parts in
-    let number = c.table_number-number.result in
+    let number = c.collection_at-number.result in
     let stands : PartsStand a parts = subst (KeptStands a) c.in-Some.is c.args.self.now.stands in
-    let same = c.as_slice.ensures ∙ ap (λ (form : Form). form.collections) c.module.ensures.form in
-    let kind : kind_at a.form.collections number ≡ Some Table = ap (λ (cs : List Collection). kind_at cs number) (sym same) ∙ c.table_number-number.ensures.kind in
-    let place : place_in_kind Table a.form.collections number ≡ c.args.table = ap (λ (cs : List Collection). place_in_kind Table cs number) (sym same) ∙ c.table_number-number.ensures.place in
+    let same = c.as_slice-collections.ensures ∙ ap (λ (form : Form). form.collections) c.module.ensures.form in
+    let kind : kind_at a.form.collections number ≡ Some Table = ap (λ (cs : List Collection). kind_at cs number) (sym same) ∙ c.collection_at-number.ensures.kind in
+    let place : place_in_kind Table a.form.collections number ≡ c.args.table = ap (λ (cs : List Collection). place_in_kind Table cs number) (sym same) ∙ c.collection_at-number.ensures.place in
     let rows : set_at parts.rows.items number ≡ set_at (kept_tables a c.args.self.now.parts) c.args.table = table_rows a parts stands c.args.table number kind place ∙ ap (λ (o : Option Parts). set_at (kept_tables a o) c.args.table) (sym c.in-Some.is) in
-    let within : number < length parts.rows.items = omega (arith, c.table_number-number.ensures.within, ap length same, stands.many) in
+    let within : number < length parts.rows.items = omega (arith, c.collection_at-number.ensures.within, ap length same, stands.many) in
     let at : c.index.result.now ≡ set_at parts.rows.items number = c.index.ensures ∙ get_or_default parts.rows.items number c.index.result.now [] within in
     subst (λ (own : List Row). IfOk c.to_set.result (λ set. set ≡ own)) (at ∙ rows) c.to_set.ensures.rows
